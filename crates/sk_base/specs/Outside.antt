@@ -1,0 +1,29 @@
+-- What calls of a source and a sink do to the bytes that these tell, and when a call may answer that it failed.
+use Rattle.std.specs.Prelude.{◌≡◌, ◌⊎◌, ◌<◌, ◌≤◌, ◌-◌, ◌^◌, ◌++◌, ℕ, List, Option, Some, None, Result, OnErr}
+
+-- A count of faults rose. One that stands at the last value of a 64-bit counter counts as risen.
+abbrev pub Rose : ℕ → ℕ → Type 0
+Rose before now = (before < now) ⊎ (2 ^ 64 - 1 ≤ now)
+
+-- The count of faults doesn't fall, and an error comes only where it rose.
+pub record HasCause {T E : Type 0} (before now : ℕ) (result : Result T E) : Type 0 where
+  pub later : before ≤ now
+  pub failed : OnErr result (Rose before now)
+
+-- The source had these bytes in front, and has the rest left, where it tells what it has.
+abbrev pub Gives : Option (List ℕ) → List ℕ → Option (List ℕ) → Type 0
+Gives None bytes after = after ≡ None
+Gives (Some before) bytes after = (rest : List ℕ) × (before ≡ bytes ++ rest) × (after ≡ Some rest)
+
+-- What the sink tells now, if it still does, is what it told before and these bytes.
+abbrev pub Takes : Option (List ℕ) → List ℕ → Option (List ℕ) → Type 0
+Takes before bytes None = Unit {0}
+Takes before bytes (Some after) = (told : List ℕ) × (before ≡ Some told) × (after ≡ told ++ bytes)
+
+-- some of the bytes, from their front
+abbrev pub IsFront : List ℕ → List ℕ → Type 0
+IsFront front bytes = (more : List ℕ) × (bytes ≡ front ++ more)
+
+-- The sink took some of the bytes, from their front.
+abbrev pub TakesFront : Option (List ℕ) → List ℕ → Option (List ℕ) → Type 0
+TakesFront before bytes after = (front : List ℕ) × IsFront front bytes × Takes before front after

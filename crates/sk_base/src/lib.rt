@@ -1,0 +1,23 @@
+//! The outside as the rest of the system sees it: where bytes come from and where they go, each with a count of its faults, and what a name is.
+#![tactic(auto)]
+
+mod failed;
+mod feed;
+mod name;
+mod sink;
+mod source;
+mod std_sink;
+mod std_source;
+mod tray;
+
+pub use failed::Failed;
+pub use feed::{Feed, SteadyFeed};
+pub use name::is_name;
+pub use sink::{Sink, write_all};
+pub use source::Source;
+pub use std_sink::StdSink;
+pub use std_source::StdSource;
+pub use tray::{SteadyTray, Tray};
+
+#[cfg(test)]
+mod tests;

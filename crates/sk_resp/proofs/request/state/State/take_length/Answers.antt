@@ -1,0 +1,37 @@
+use Rattle.std.proofs.Common.{◌≡◌, ◌≢◌, ◌+◌, ◌-◌, ◌<◌, ◌≤◌, ◌^◌, ℕ, ℤ, List, [], ◌∷◌, ◌++◌, length, take, drop, get_or, subst, sym, ap, ◌∙◌, refl, arith, append-nil, append_assoc, length-append}
+use Rattle.std.specs.Fmt.{decimal, signed_decimal}
+use Rattle.sk_resp.specs.Spelling.{header, opened, total_length}
+use Rattle.sk_resp.specs.Request.{bulks, array, whole, skipped, inline, IsCount, IsFault}
+use Rattle.sk_resp.specs.Reading.{goes, ends, IsOpenWord}
+use Rattle.sk_resp.specs.declared.wire_fault.WireFault.TheVariants.{MultiLength, BulkLength, NoDollar, Quote, InlineLong, Limit, Memory}
+use Rattle.sk_resp.proofs.Items.{fault-count_ends, fault-count_long, fault-length_ends, fault-length_long, fault-limit, fault-no_cr, fault-no_lf, item-skipped, first_byte, opened-append, opened-whole, header-whole, bulks-more, wanting_more, command_whole, line_only}
+use Rattle.std.proofs.lemmas.Fmt.{decimal_injective}
+use Rattle.sk_resp.proofs.request.state.State.take_length.Goals as goal
+
+pub returns-in_default-clause-fault : goal.returns-in_default-clause-fault
+returns-in_default-clause-fault c = λ fault.
+    let s = c.args.self.now in
+    fault-length_ends s.count s.words.items s.total s.line.items c.args.byte c.requires.0 c.requires.1 (λ allowed. c.in_default.ensures allowed.0 (omega (arith, allowed.1)) (c.deref.ensures.value ∙ allowed.2)) c.if-byte-eq10.true
+
+pub returns-then-n-gt-LONGEST_WORD-clause-fault : goal.returns-then-n-gt-LONGEST_WORD-clause-fault
+returns-then-n-gt-LONGEST_WORD-clause-fault c = λ fault.
+    let s = c.args.self.now in
+    fault-length_ends s.count s.words.items s.total s.line.items c.args.byte c.requires.0 c.requires.1
+    (λ allowed. omega (arith, allowed.1, line_only s.line.items c.in-Some.n allowed.0 (omega (arith, c.in-Some.ensures.0)) (omega (arith, allowed.1)) (sym c.deref.ensures.value ∙ c.in-Some.ensures.1) allowed.2)) c.if-byte-eq10.true
+
+pub returns-then-n-self-clause-fault : goal.returns-then-n-self-clause-fault
+returns-then-n-self-clause-fault c = λ fault.
+    let s = c.args.self.now in
+    fault-limit s.count s.words.items s.total s.line.items c.args.byte c.in-Some.n c.requires.0 (sym c.deref.ensures.value ∙ c.in-Some.ensures.1) (omega arith) (omega (arith, c.requires.0.small)) c.if-byte-eq10.true
+
+pub returns-then-byte-eq10-clause-ok : goal.returns-then-byte-eq10-clause-ok
+returns-then-byte-eq10-clause-ok c = goes
+    (c.requires.0, record { fits = rw c.clear.ensures.items (omega arith); short = omega arith; small = omega (arith, c.requires.0.small) })
+    (rw c.clear.ensures.items (opened-whole (header c.args.self.now.count ++ bulks c.args.self.now.words.items) c.args.self.now.line.items c.in-Some.n (sym c.deref.ensures.value ∙ c.in-Some.ensures.1)
+    ∙ ap (λ b. ((header c.args.self.now.count ++ bulks c.args.self.now.words.items) ++ 36 ∷ c.args.self.now.line.items) ++ b ∷ []) (sym c.if-byte-eq10.true)))
+    refl
+
+pub returns-then-len-ge-LONGEST_LINE-clause-fault : goal.returns-then-len-ge-LONGEST_LINE-clause-fault
+returns-then-len-ge-LONGEST_LINE-clause-fault c = λ fault.
+    let s = c.args.self.now in
+    fault-length_long s.count s.words.items s.total s.line.items c.args.byte c.requires.0 c.requires.1 (omega (arith, c.len.ensures, s.line.ok.0)) c.if-byte-eq10.false

@@ -1,0 +1,9 @@
+pub mod Spelling
+pub mod Number
+pub mod Request
+pub mod Stream
+pub mod Heard
+pub mod Reading
+pub mod Name
+pub mod Reply
+pub mod ReplySize

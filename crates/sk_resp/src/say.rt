@@ -1,0 +1,81 @@
+// The replies with a fixed text. They hold no memory.
+ghost use Rattle.std.specs.Prelude.{◌≡◌, ◌++◌, OnOk};
+ghost use Rattle.sk_resp.specs.Reply.{say_text, fault_text, shown};
+
+use crate::{Memory, Name, WireFault};
+
+/// One of the fixed texts.
+#[derive(Clone, Copy, Debug, PartialEq, Eq)]
+pub enum Say {
+    /// `+PONG`
+    Pong,
+    /// `-SK not built`: the command, or this form of it, is not built yet.
+    NotBuilt,
+    /// `-ERR wrong number of arguments for 'ping' command`, with the command's name
+    Arity(Name),
+    /// `-ERR Protocol error: ..`, as the stream's fault says
+    Protocol(WireFault),
+}
+
+// The byte as a text shows it.
+fn visible(byte: u8) -> u8
+    ensures { result ≡ shown byte }
+{
+    if byte >= b' ' && byte <= b'~' {
+        byte
+    } else {
+        b'?'
+    }
+}
+
+// Appends a text that quotes something.
+fn write_quoting(
+    front: &[u8],
+    quoted: &[u8],
+    behind: &[u8],
+    out: &mut Vec<u8>,
+) -> Result<(), Memory>
+    ensures { OnOk result (out.new.items ≡ out.old.items ++ (front.now ++ quoted.now ++ behind.now)) }
+{
+    out.extend_from_slice(front)?;
+    out.extend_from_slice(quoted)?;
+    out.extend_from_slice(behind)?;
+    Ok(())
+}
+
+// Appends the text of a fault.
+fn write_fault(fault: WireFault, out: &mut Vec<u8>) -> Result<(), Memory>
+    ensures { OnOk result (out.new.items ≡ out.old.items ++ fault_text fault) }
+{
+    match fault {
+        WireFault::MultiLength => {
+            out.extend_from_slice(b"-ERR Protocol error: invalid multibulk length")
+        }
+        WireFault::BulkLength => out.extend_from_slice(b"-ERR Protocol error: invalid bulk length"),
+        WireFault::NoDollar(byte) => {
+            let front = b"-ERR Protocol error: expected '$', got '";
+            write_quoting(front, &[visible(byte)], b"'", out)
+        }
+        WireFault::Quote => out.extend_from_slice(b"-ERR Protocol error: quotes in inline request"),
+        WireFault::InlineLong => {
+            out.extend_from_slice(b"-ERR Protocol error: too big inline request")
+        }
+        WireFault::Limit => out.extend_from_slice(b"-ERR Protocol error: command too big"),
+        WireFault::Memory => out.extend_from_slice(b"-OOM want of memory"),
+    }
+}
+
+/// Appends the text, without the CRLF behind it.
+pub fn write_say(say: Say, out: &mut Vec<u8>) -> Result<(), Memory>
+    ensures { OnOk result (out.new.items ≡ out.old.items ++ say_text say) }
+{
+    match say {
+        Say::Pong => out.extend_from_slice(b"+PONG"),
+        Say::NotBuilt => out.extend_from_slice(b"-SK not built"),
+        Say::Arity(name) => {
+            let front = b"-ERR wrong number of arguments for '";
+            write_quoting(front, name.spelling(), b"' command", out)
+        }
+        Say::Protocol(fault) => write_fault(fault, out),
+    }
+}
