@@ -1,0 +1,4 @@
+pub mod Answer
+pub mod Pipe
+pub mod Driving
+pub mod Run

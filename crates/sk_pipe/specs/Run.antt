@@ -1,0 +1,35 @@
+-- What the top call does.
+use Rattle.std.specs.Prelude.{◌≡◌, ◌≤◌, ℕ, List, [], ◌∷◌, Option, IfSome, codes}
+use Rattle.sk_base.specs.Outside.{Rose}
+use Rattle.sk_resp.specs.Spelling.{Bytes}
+use Rattle.sk_pipe.specs.declared.pipe_end.PipeEnd.{PipeEnd}
+use Rattle.sk_pipe.specs.declared.pipe_end.PipeEnd.TheVariants.{Done, Wire, Cut, ReadFault, WriteFault, Memory, Budget}
+use Rattle.sk_pipe.specs.Pipe.{Ends, Moves}
+
+-- the status that tells how a pipe ended
+abbrev pub status_of : PipeEnd → ℕ
+status_of Done = 0
+status_of Wire = 1
+status_of Cut = 1
+status_of ReadFault = 3
+status_of WriteFault = 4
+status_of Memory = 5
+status_of Budget = 9
+
+-- the one word `pipe`
+abbrev pub IsPipeLine : List Bytes → Type 0
+IsPipeLine words = words ≡ codes "pipe" ∷ []
+
+-- A pipe from the source to the sink ended so. The functions are what these tell, and their counts of faults.
+pub record IsPiped {S K : Type 0} (left : S → Option Bytes) (reads : S → ℕ) (taken : K → Option Bytes) (writes : K → ℕ) (source source' : S) (sink sink' : K) (end : PipeEnd) : Type 0 where
+  -- the source gave some bytes, and the sink took what these call for
+  pub ends : (bytes written : Bytes) × Moves (left source) (left source') (taken sink) (taken sink') bytes written × Ends end bytes written
+  -- the input was read to its end, where nothing else stopped the pipe
+  pub done : end ≡ Done → IfSome (left source') (λ bytes. bytes ≡ [])
+  pub cut : end ≡ Cut → IfSome (left source') (λ bytes. bytes ≡ [])
+  -- a fault of the outside is the end only where its count rose
+  pub read_fault : end ≡ ReadFault → Rose (reads source) (reads source')
+  pub write_fault : end ≡ WriteFault → Rose (writes sink) (writes sink')
+  -- the counts don't fall
+  pub source_count : reads source ≤ reads source'
+  pub sink_count : writes sink ≤ writes sink'

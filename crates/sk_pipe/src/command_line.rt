@@ -1,0 +1,51 @@
+// The top call: what the words of a command line ask for.
+ghost use Rattle.std.specs.Prelude.{◌≡◌, ◌↔◌, map, IsTrue};
+ghost use Rattle.std.specs.String.{string_bytes};
+ghost use Rattle.sk_pipe.specs.Run.{status_of, IsPiped, IsPipeLine};
+
+use crate::{PipeEnd, pipe};
+use sk_base::{Sink, Source};
+use std::alloc::Global;
+
+/// The status for words that are no command line.
+const BAD_COMMAND_LINE: u8 = 2;
+
+fn is_pipe_line(words: &[String]) -> bool
+    ensures { IsTrue result ↔ IsPipeLine (map string_bytes words.now) }
+{
+    match words {
+        [word] => word.as_str() == "pipe",
+        _ => false,
+    }
+}
+
+fn status(end: PipeEnd) -> u8
+    ensures { result ≡ status_of end }
+{
+    match end {
+        PipeEnd::Done => 0,
+        PipeEnd::Wire | PipeEnd::Cut => 1,
+        PipeEnd::ReadFault => 3,
+        PipeEnd::WriteFault => 4,
+        PipeEnd::Memory => 5,
+        PipeEnd::Budget => 9,
+    }
+}
+
+/// Does what the words of a command line ask for, and answers the exit status: 0 where all was done, 1 where the input has a fault or ends
+/// inside a command, 2 for words that are no command line, 3 where the source failed, 4 where the sink failed, 5 for want of memory, and 9
+/// where 2^40 bytes were taken. The one command line is the word `pipe`.
+pub fn run<S: Source, K: Sink>(alloc: Global, words: &[String], source: &mut S, sink: &mut K) -> u8
+    // The word `pipe` pipes the source to the sink, and the status tells how that ended.
+    ensures piped { IsPipeLine (map string_bytes words.now) → (end : PipeEnd) × (result ≡ status_of end)
+        × IsPiped S.left S.read_faults K.taken K.write_faults source.old source.new sink.old sink.new end }
+
+    // Other words are refused. Nothing is read or written.
+    ensures refused { (IsPipeLine (map string_bytes words.now) → ⊥) → (result ≡ 2) × (source.new ≡ source.old) × (sink.new ≡ sink.old) }
+{
+    if is_pipe_line(words) {
+        status(pipe(alloc, source, sink))
+    } else {
+        BAD_COMMAND_LINE
+    }
+}
