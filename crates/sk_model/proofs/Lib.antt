@@ -3,4 +3,5 @@ pub mod Copies
 pub mod Good
 pub mod Commands
 pub mod Runs
+pub mod Running
 mod Worked
