@@ -1,7 +1,9 @@
 -- What the top call does.
-use Rattle.std.specs.Prelude.{◌≡◌, ◌≤◌, ℕ, List, [], ◌∷◌, Option, IfSome, codes}
+use Rattle.std.specs.Prelude.{◌≡◌, ◌⊎◌, ◌<◌, ◌≤◌, ◌^◌, ℕ, List, [], ◌∷◌, Option, Some, IfSome, length, codes}
 use Rattle.sk_base.specs.Outside.{Rose}
 use Rattle.sk_resp.specs.Spelling.{Bytes}
+use Rattle.sk_resp.specs.Request.{Command}
+use Rattle.sk_resp.specs.Stream.{Reads}
 use Rattle.sk_pipe.specs.declared.pipe_end.PipeEnd.{PipeEnd}
 use Rattle.sk_pipe.specs.declared.pipe_end.PipeEnd.TheVariants.{Done, Wire, Cut, ReadFault, WriteFault, Memory, Budget}
 use Rattle.sk_model.specs.World.{World, first}
@@ -34,3 +36,9 @@ pub record IsPiped {S K : Type 0} (left : S → Option Bytes) (reads : S → ℕ
   -- the counts don't fall
   pub source_count : reads source ≤ reads source'
   pub sink_count : writes sink ≤ writes sink'
+
+-- A pipe whose source tells these bytes, fewer than 2^40, commands end to end, and that sees no fault of the outside, has done all of them.
+-- It may have no memory.
+abbrev pub Completes : Option Bytes → (risen : Type 0) → ℕ → Type 0
+Completes left risen status = (bytes : Bytes) (commands : List Command) → left ≡ Some bytes → length bytes < 2 ^ 40 → Reads bytes commands [] → (risen → ⊥)
+    → (status ≡ 0) ⊎ (status ≡ 5)

@@ -1,7 +1,8 @@
 // The top call: what the words of a command line ask for.
-ghost use Rattle.std.specs.Prelude.{◌≡◌, ◌↔◌, map, IsTrue};
+ghost use Rattle.std.specs.Prelude.{◌≡◌, ◌⊎◌, ◌↔◌, map, IsTrue};
 ghost use Rattle.std.specs.String.{string_bytes};
-ghost use Rattle.sk_pipe.specs.Run.{status_of, IsPiped, IsPipeLine};
+ghost use Rattle.sk_base.specs.Outside.{Rose};
+ghost use Rattle.sk_pipe.specs.Run.{status_of, IsPiped, IsPipeLine, Completes};
 
 use crate::{PipeEnd, pipe};
 use sk_base::{Sink, Source};
@@ -39,6 +40,10 @@ pub fn run<S: Source, K: Sink>(alloc: Global, words: &[String], source: &mut S, 
     // The word `pipe` pipes the source to the sink, and the status tells how that ended.
     ensures piped { IsPipeLine (map string_bytes words.now) → (end : PipeEnd) × (result ≡ status_of end)
         × IsPiped S.left S.read_faults K.taken K.write_faults source.old source.new sink.old sink.new end }
+
+    // Input that is commands end to end is read to its end, where neither count of faults rises.
+    ensures completes { IsPipeLine (map string_bytes words.now)
+        → Completes (S.left source.old) (Rose (S.read_faults source.old) (S.read_faults source.new) ⊎ Rose (K.write_faults sink.old) (K.write_faults sink.new)) result }
 
     // Other words are refused. Nothing is read or written.
     ensures refused { (IsPipeLine (map string_bytes words.now) → ⊥) → (result ≡ 2) × (source.new ≡ source.old) × (sink.new ≡ sink.old) }

@@ -1,41 +1,41 @@
 -- Streams of items, and the part of one that is open.
-use Rattle.std.proofs.Common.{◌≡◌, ◌≢◌, ◌+◌, ◌-◌, ◌<◌, ◌≤◌, ◌^◌, ℕ, List, [], ◌∷◌, ◌++◌, length, take, drop, refl, sym, ap, ◌∙◌, arith, append_assoc, append-nil, length-append, length-take-le, length-drop, subst, zero, suc, inl, inr}
-use Rattle.std.specs.List.{AllByRecursion, flat_map}
+use Rattle.std.proofs.Common.{◌≡◌, ◌+◌, ◌-◌, ◌<◌, ℕ, List, [], ◌∷◌, ◌++◌, length, take, drop, refl, sym, ap, ◌∙◌, arith, append_assoc, append-nil, length-append, length-drop, subst, zero, suc, inl}
+use Rattle.std.specs.List.{AllByRecursion}
 use Rattle.std.proofs.Math.Seq.{take-add}
-use Rattle.std.proofs.lemmas.List.{take-append-drop, take_all, append_cancel_right}
+use Rattle.std.proofs.lemmas.List.{take-append-drop, take_all}
 use Rattle.std.proofs.lemmas.List.Concat.{flat_map-append}
 use Rattle.sk_resp.specs.declared.wire_fault.WireFault.{WireFault}
-use Rattle.sk_resp.specs.declared.wire_fault.WireFault.TheVariants.{MultiLength, BulkLength, NoDollar, Quote, InlineLong, Limit, Memory}
+use Rattle.sk_resp.specs.declared.wire_fault.WireFault.TheVariants.{MultiLength, BulkLength, NoDollar, Quote}
 use Rattle.sk_resp.specs.declared.request.state.Stage.{Stage}
 use Rattle.sk_resp.specs.declared.request.state.Stage.TheVariants.{Start, Inline, Count, Mark, Length, Body, End}
 use Rattle.sk_resp.specs.declared.request.state.State.{State}
-use Rattle.sk_resp.specs.Spelling.{header, opened}
-use Rattle.sk_resp.specs.Request.{bulks, IsWanting, NoLf, IsLine, IsCountLine, IsLengthLine, IsBadLine, long, IsBadBulk, bad_line, bad_cr, bad_lf, IsInside, IsItem, IsFault, IsInline, IsPlain, NoStar}
-use Rattle.sk_resp.specs.Stream.{Item, texts_of, commands_of, Opens, BeginsNone, Reads, Faulty}
-use Rattle.sk_resp.specs.Reading.{seen, seen_at, IsOpen, IsOpenAt, IsOpenWord, Took, goes, ends}
+use Rattle.sk_resp.specs.Spelling.{Bytes, header, opened}
+use Rattle.sk_resp.specs.Request.{Command, bulks, NoLf, IsLine, IsCountLine, IsLengthLine, IsBadLine, long, bad_line, bad_cr, IsItem, IsFault}
+use Rattle.sk_resp.specs.Stream.{Item, texts_of, commands_of, Opens, BeginsNone, Faulty}
+use Rattle.sk_resp.specs.Reading.{seen, seen_at, IsOpen, IsOpenAt, Took, goes, ends}
 use Rattle.sk_resp.proofs.Lines.{no_lf-append}
-use Rattle.sk_resp.proofs.Items.{inside, opened-append, fault-no_lf, header-is, opened-is}
-use Rattle.sk_resp.proofs.First.{Out, gives, fails, open_yet, first, first-item, first-fault}
+use Rattle.sk_resp.proofs.Items.{inside, opened-append, fault-no_lf, header-is}
+use Rattle.sk_resp.proofs.First.{gives, fails, first, first-item, first-fault}
 
 -- ## No item or fault begins another
 
-pub gives-same : (a b : List (List (List ℕ))) (x y : List ℕ) → gives a x ≡ gives b y → (a ≡ b) × (x ≡ y)
+pub gives-same : (a b : List Command) (x y : Bytes) → gives a x ≡ gives b y → (a ≡ b) × (x ≡ y)
 gives-same a b x y e = (cc e, cc e)
 
-pub fails-same : (a b : WireFault) (x y : List ℕ) → fails a x ≡ fails b y → (a ≡ b) × (x ≡ y)
+pub fails-same : (a b : WireFault) (x y : Bytes) → fails a x ≡ fails b y → (a ≡ b) × (x ≡ y)
 fails-same a b x y e = (cc e, cc e)
 
-pub gives-fails : (a : List (List (List ℕ))) (b : WireFault) (x y : List ℕ) → gives a x ≡ fails b y → ⊥
+pub gives-fails : (a : List Command) (b : WireFault) (x y : Bytes) → gives a x ≡ fails b y → ⊥
 gives-fails a b x y e = cc e
 
-not_longer : (xs ys zs : List ℕ) → xs ≡ (xs ++ ys) ++ zs → 0 < length zs → ⊥
+not_longer : (xs ys zs : Bytes) → xs ≡ (xs ++ ys) ++ zs → 0 < length zs → ⊥
 not_longer xs ys zs e some = omega (arith, ap length e, length-append (xs ++ ys) zs, length-append xs ys)
 
-some_behind : (more behind : List ℕ) → 0 < length behind → more ++ behind ≡ [] → ⊥
+some_behind : (more behind : Bytes) → 0 < length behind → more ++ behind ≡ [] → ⊥
 some_behind more behind some e = omega (arith, ap length e, length-append more behind)
 
 -- where more bytes would make a fault, there is none yet, and no item
-pub none-before : (bytes behind : List ℕ) (fault : WireFault) → IsFault (bytes ++ behind) fault → 0 < length behind → BeginsNone bytes
+pub none-before : (bytes behind : Bytes) (fault : WireFault) → IsFault (bytes ++ behind) fault → 0 < length behind → BeginsNone bytes
 none-before bytes behind fault is some =
     let at : first (bytes ++ behind) ≡ fails fault [] = ap first (sym (append-nil (bytes ++ behind))) ∙ first-fault (bytes ++ behind) [] fault is in
     record {
@@ -46,7 +46,7 @@ none-before bytes behind fault is some =
           (fails-same other fault (more ++ behind) [] (sym (first-fault text (more ++ behind) other is_other) ∙ ap first (sym (append_assoc text more behind) ∙ ap (λ z. z ++ behind) (sym e)) ∙ at)).1;
     }
 
-zeros : ℕ → List ℕ
+zeros : ℕ → Bytes
 zeros zero = []
 zeros (suc n) = 0 ∷ zeros n
 
@@ -60,15 +60,15 @@ unfolding zeros
 no_lf-zeros zero = tt
 no_lf-zeros (suc n) = (λ e. omega arith, no_lf-zeros n)
 
-fill : List ℕ → List ℕ
+fill : Bytes → Bytes
 fill line = zeros (33 - length line)
 
-fill-long : (Allowed : List ℕ → Type 0) (line : List ℕ) → IsLine line → IsBadLine Allowed (line ++ fill line)
+fill-long : (Allowed : Bytes → Type 0) (line : Bytes) → IsLine line → IsBadLine Allowed (line ++ fill line)
 unfolding fill
 fill-long Allowed line is_line = long (no_lf-append line (zeros (33 - length line)) is_line.no_lf (no_lf-zeros (33 - length line)))
     (omega (arith, length-append line (zeros (33 - length line)), length-zeros (33 - length line), is_line.short))
 
-fill-some : (line : List ℕ) → IsLine line → 0 < length (fill line)
+fill-some : (line : Bytes) → IsLine line → 0 < length (fill line)
 unfolding fill
 fill-some line is_line = omega (arith, length-zeros (33 - length line), is_line.short)
 
@@ -101,10 +101,10 @@ open_at End s is_open = none-before ((header s.count ++ bulks s.words.items) ++ 
 
 -- ## One more item
 
-pub opens-none : (bytes : List ℕ) → Opens bytes [] bytes
+pub opens-none : (bytes : Bytes) → Opens bytes [] bytes
 opens-none bytes = record { items = []; each = tt; bytes_are = refl; commands_are = refl }
 
-pub opens-more : (bytes : List ℕ) (commands : List (List (List ℕ))) (rest more : List ℕ) → Opens bytes commands rest → Opens (bytes ++ more) commands (rest ++ more)
+pub opens-more : (bytes : Bytes) (commands : List Command) (rest more : Bytes) → Opens bytes commands rest → Opens (bytes ++ more) commands (rest ++ more)
 opens-more bytes commands rest more opens = record {
   items = opens.items;
   each = opens.each;
@@ -122,7 +122,7 @@ texts-append items others = flat_map-append (λ (item : Item). item.0) items oth
 commands-append : (items others : List Item) → commands_of (items ++ others) ≡ commands_of items ++ commands_of others
 commands-append items others = flat_map-append (λ (item : Item). item.1) items others
 
-pub opens-then : (bytes mid rest : List ℕ) (commands more : List (List (List ℕ))) → Opens bytes commands mid → Opens mid more rest → Opens bytes (commands ++ more) rest
+pub opens-then : (bytes mid rest : Bytes) (commands more : List Command) → Opens bytes commands mid → Opens mid more rest → Opens bytes (commands ++ more) rest
 opens-then bytes mid rest commands more opens next = record {
   items = opens.items ++ next.items;
   each = each-append opens.items next.items opens.each next.each;
@@ -130,7 +130,7 @@ opens-then bytes mid rest commands more opens next = record {
   commands_are = ap (λ z. z ++ more) opens.commands_are ∙ ap (λ z. commands_of opens.items ++ z) next.commands_are ∙ sym (commands-append opens.items next.items);
 }
 
-pub opens-item : (text rest : List ℕ) (commands : List (List (List ℕ))) → IsItem text commands → Opens (text ++ rest) commands rest
+pub opens-item : (text rest : Bytes) (commands : List Command) → IsItem text commands → Opens (text ++ rest) commands rest
 opens-item text rest commands item = record {
   items = (text, commands) ∷ [];
   each = (item, tt);
@@ -144,35 +144,35 @@ seen_start s e = ap (λ stage. seen_at stage s) e
 pub open_start : (s : State) → s.stage ≡ Start → IsOpen s
 open_start s e = subst (λ stage. IsOpenAt stage s) (sym e) tt
 
-pub took_open : (text : List ℕ) (commands : List (List (List ℕ))) (s : State) → Took text commands s → IsOpen s
+pub took_open : (text : Bytes) (commands : List Command) (s : State) → Took text commands s → IsOpen s
 took_open text commands s (goes is_open is none) = is_open
 took_open text commands s (ends item start) = open_start s start
 
-pub took_opens : (text : List ℕ) (commands : List (List (List ℕ))) (s : State) → Took text commands s → Opens text commands (seen s)
+pub took_opens : (text : Bytes) (commands : List Command) (s : State) → Took text commands s → Opens text commands (seen s)
 took_opens text commands s (goes is_open is none) = subst (λ z. Opens text z (seen s)) (sym none) (subst (λ z. Opens text [] z) (sym is) (opens-none text))
 took_opens text commands s (ends item start) = subst (λ z. Opens text commands z) (sym (seen_start s start)) (subst (λ z. Opens z commands []) (append-nil text) (opens-item text [] commands item))
 
 -- ## Pieces
 
-pub more_of : (old piece : List ℕ) (at n : ℕ) → (old ++ take at piece) ++ take n (take (length piece - at) (drop at piece)) ≡ old ++ take (at + n) piece
+pub more_of : (old piece : Bytes) (at n : ℕ) → (old ++ take at piece) ++ take n (take (length piece - at) (drop at piece)) ≡ old ++ take (at + n) piece
 more_of old piece at n =
     append_assoc old (take at piece) (take n (take (length piece - at) (drop at piece)))
     ∙ ap (λ z. old ++ z) (ap (λ z. take at piece ++ take n z) (take_all (length piece - at) (drop at piece) (omega (arith, length-drop at piece))) ∙ sym (take-add at n piece))
 
 -- what was taken of a piece, and what was made of it
-pub opens_took : (old piece : List ℕ) (at n : ℕ) (added found : List (List (List ℕ))) (s new : State) → Opens (old ++ take at piece) added (seen s)
+pub opens_took : (old piece : Bytes) (at n : ℕ) (added found : List Command) (s new : State) → Opens (old ++ take at piece) added (seen s)
     → Took (seen s ++ take n (take (length piece - at) (drop at piece))) found new → Opens (old ++ take (at + n) piece) (added ++ found) (seen new)
 opens_took old piece at n added found s new opens took =
     let taken = take n (take (length piece - at) (drop at piece)) in
     subst (λ z. Opens z (added ++ found) (seen new)) (more_of old piece at n)
     (opens-then ((old ++ take at piece) ++ taken) (seen s ++ taken) (seen new) added found (opens-more (old ++ take at piece) added (seen s) taken opens) (took_opens (seen s ++ taken) found new took))
 
-pub whole_piece : (old piece : List ℕ) (at : ℕ) (added : List (List (List ℕ))) (rest : List ℕ) → Opens (old ++ take at piece) added rest → Opens (old ++ piece) added (rest ++ drop at piece)
+pub whole_piece : (old piece : Bytes) (at : ℕ) (added : List Command) (rest : Bytes) → Opens (old ++ take at piece) added rest → Opens (old ++ piece) added (rest ++ drop at piece)
 whole_piece old piece at added rest opens =
     subst (λ z. Opens z added (rest ++ drop at piece)) (append_assoc old (take at piece) (drop at piece) ∙ ap (λ z. old ++ z) (take-append-drop at piece))
     (opens-more (old ++ take at piece) added rest (drop at piece) opens)
 
-pub faulty_at : (old piece : List ℕ) (at : ℕ) (added : List (List (List ℕ))) (s : State) (fault : WireFault) → Opens (old ++ take at piece) added (seen s)
+pub faulty_at : (old piece : Bytes) (at : ℕ) (added : List Command) (s : State) (fault : WireFault) → Opens (old ++ take at piece) added (seen s)
     → IsFault (seen s ++ take 1 (take (length piece - at) (drop at piece))) fault → Faulty (old ++ piece) added fault
 faulty_at old piece at added s fault opens is =
     let whole = take_all (length piece - at) (drop at piece) (omega (arith, length-drop at piece)) in
@@ -186,7 +186,7 @@ faulty_at old piece at added s fault opens is =
     }
 
 -- a state at the start has seen nothing, and no other has
-some_seen : (n : ℕ) (x y : List ℕ) → (header n ++ x) ++ y ≡ [] → ⊥
+some_seen : (n : ℕ) (x y : Bytes) → (header n ++ x) ++ y ≡ [] → ⊥
 some_seen n x y e = let f = sym (append_assoc (header n) x y ∙ header-is n (x ++ y)) ∙ e in cc f
 
 pub start_seen : (stage : Stage) (s : State) → IsOpenAt stage s → seen_at stage s ≡ [] → stage ≡ Start

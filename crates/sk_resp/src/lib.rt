@@ -19,3 +19,6 @@ pub use say::Say;
 pub use std::alloc::AllocError as Memory;
 pub use wire_fault::WireFault;
 pub use word::{Word, Words};
+
+#[cfg(test)]
+mod tests;

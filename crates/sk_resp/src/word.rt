@@ -2,7 +2,6 @@
 ghost use Rattle.std.specs.Prelude.{◌≡◌, IfOk};
 
 use crate::Memory;
-use std::alloc::Global;
 use std::marker::Model;
 
 /// One word of a command, or the bytes of a reply: any bytes.
@@ -83,5 +82,16 @@ impl Words {
         ensures { result.items ≡ self }
     {
         self.words
+    }
+
+    /// Equal words.
+    pub fn copy(&self) -> Result<Words, Memory>
+        ensures { IfOk result (λ words. words ≡ self.now) }
+    {
+        let mut words = Vec::new(*self.words.allocator());
+        for word in &self.words {
+            words.push(word.copy()?)?;
+        }
+        Ok(Words { words })
     }
 }

@@ -1,11 +1,11 @@
 use Rattle.std.proofs.Common.{◌≡◌, ◌+◌, ◌<◌, ◌++◌, ◌∷◌, [], ℕ, List, map, take, get_or, length, sym, ap, ◌∙◌, refl, append_assoc, append-nil}
 use Rattle.std.proofs.lemmas.List.{take_more, map-append}
 use Rattle.sk_resp.specs.declared.reply.Reply.{Reply}
-use Rattle.sk_resp.specs.Spelling.{joined}
+use Rattle.sk_resp.specs.Spelling.{Bytes, joined}
 use Rattle.sk_resp.specs.Reply.{wire}
 use Rattle.sk_resp.proofs.reply.+write_reply.Goals as goal
 
-joined-append : (xs ys : List (List ℕ)) → joined (xs ++ ys) ≡ joined xs ++ joined ys
+joined-append : (xs ys : List Bytes) → joined (xs ++ ys) ≡ joined xs ++ joined ys
 joined-append [] ys = refl
 joined-append (x ∷ xs) ys = ap (λ z. x ++ z) (joined-append xs ys) ∙ sym (append_assoc x (joined xs) (joined ys))
 

@@ -1,4 +1,5 @@
 use Rattle.std.proofs.Common.{◌≡◌, ◌-◌, ◌≤◌, ℕ, List, ◌++◌, take, length}
+use Rattle.sk_resp.specs.Request.{Command}
 use Rattle.sk_resp.specs.Stream.{Opens}
 use Rattle.sk_resp.specs.Reading.{seen, IsOpen}
 use Rattle.sk_resp.proofs.request.state.State.take_all.Given as goal
@@ -8,7 +9,7 @@ abbrev pub invariant-loop-at : goal.invariant-loop-at
 invariant-loop-at l = record {
   is_open : IsOpen l.self;
   within : l.at ≤ length l.piece;
-  so_far : (added : List (List (List ℕ))) × (l.out.items ≡ l.fn.out.items ++ added) × Opens (seen l.fn.self ++ take l.at l.piece) added (seen l.self);
+  so_far : (added : List Command) × (l.out.items ≡ l.fn.out.items ++ added) × Opens (seen l.fn.self ++ take l.at l.piece) added (seen l.self);
 }
 
 abbrev pub decreases-loop-at : goal.decreases-loop-at
