@@ -5,7 +5,7 @@ use Rattle.sk_base.specs.Name.{IsName}
 use Rattle.sk_resp.specs.Spelling.{Bytes}
 use Rattle.sk_resp.specs.Name.{spelling}
 use Rattle.sk_resp.specs.Number.{IsInt}
-use Rattle.sk_resp.specs.Request.{Command as Words}
+pub use Rattle.sk_resp.specs.Request.{Command as Words}
 use Rattle.sk_resp.specs.declared.name.Name.{Name}
 use Rattle.sk_resp.specs.declared.name.Name.TheVariants as name
 use Rattle.sk_resp.specs.declared.say.Say.{Say}
