@@ -1,5 +1,5 @@
 -- What the parts of the pipe do to the sink. No public contract speaks of it.
-use Rattle.std.specs.Prelude.{◌≡◌, ◌≢◌, ◌⊎◌, [], List, Option}
+use Rattle.std.specs.Prelude.{◌≡◌, ◌≢◌, ◌⊎◌, [], ◌∷◌, List, Option, Result, OnOk, IfErr}
 use Rattle.sk_base.specs.Outside.{Takes, TakesFront, IsFront}
 use Rattle.sk_resp.specs.Spelling.{Bytes}
 use Rattle.sk_resp.specs.Request.{Command}
@@ -8,6 +8,10 @@ use Rattle.sk_resp.specs.declared.wire_fault.WireFault.TheVariants as wire_fault
 use Rattle.sk_pipe.specs.declared.pipe_end.PipeEnd.{PipeEnd}
 use Rattle.sk_pipe.specs.declared.pipe_end.PipeEnd.TheVariants.{Done, Wire, Cut, ReadFault, WriteFault, Memory, Budget}
 use Rattle.sk_pipe.specs.Pipe.{Serves, refusal}
+use Rattle.sk_resp.specs.Reply.{wire}
+use Rattle.sk_resp.specs.declared.reply.Reply.{Reply}
+use Rattle.sk_model.specs.World.{World}
+use Rattle.sk_model.specs.Run.{Answers}
 
 -- an end that a reply can bring
 abbrev pub IsWriteStop : PipeEnd → Type 0
@@ -36,8 +40,15 @@ EndsAt Memory rest = ⊥
 EndsAt Budget rest = ⊥
 
 -- some of the replies to the commands, from their front
-abbrev pub ServesFront : List Command → Bytes → Type 0
-ServesFront commands written = (whole : Bytes) × Serves commands whole × IsFront written whole
+abbrev pub ServesFront : World → List Command → World → Bytes → Type 0
+ServesFront old commands new written = (whole : Bytes) × Serves old commands new whole × IsFront written whole
+
+-- The command was done, and its reply was sent, or some of it.
+pub record Answered (old : World) (words : Command) (new : World) (result : Result (Unit {0}) PipeEnd) (before after : Option Bytes) : Type 0 where
+  pub reply : Reply
+  pub answers : Answers old (words ∷ []) (reply ∷ []) new
+  pub sent : OnOk result (Takes before (wire reply) after)
+  pub stopped : IfErr result (λ end. IsWriteStop end × TakesFront before (wire reply) after)
 
 -- The sink took the text, and the pipe ends at the fault; or some of the text, and it ends where that failed.
 abbrev pub Sends : PipeEnd → Bytes → Option Bytes → Option Bytes → Type 0

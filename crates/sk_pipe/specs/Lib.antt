@@ -1,4 +1,3 @@
-pub mod Answer
 pub mod Pipe
 pub mod Driving
 pub mod Run

@@ -6,6 +6,7 @@ use Rattle.sk_resp.specs.Request.{Command}
 use Rattle.sk_resp.specs.Stream.{Reads}
 use Rattle.sk_pipe.specs.declared.pipe_end.PipeEnd.{PipeEnd}
 use Rattle.sk_pipe.specs.declared.pipe_end.PipeEnd.TheVariants.{Done, Wire, Cut, ReadFault, WriteFault, Memory, Budget}
+use Rattle.sk_model.specs.World.{World, first}
 use Rattle.sk_pipe.specs.Pipe.{Ends, Moves}
 
 -- the status that tells how a pipe ended
@@ -25,7 +26,7 @@ IsPipeLine words = words ≡ codes "pipe" ∷ []
 -- A pipe from the source to the sink ended so. The functions are what these tell, and their counts of faults.
 pub record IsPiped {S K : Type 0} (left : S → Option Bytes) (reads : S → ℕ) (taken : K → Option Bytes) (writes : K → ℕ) (source source' : S) (sink sink' : K) (end : PipeEnd) : Type 0 where
   -- the source gave some bytes, and the sink took what these call for
-  pub ends : (bytes written : Bytes) × Moves (left source) (left source') (taken sink) (taken sink') bytes written × Ends end bytes written
+  pub ends : (bytes written : Bytes) × ((world : World) × Moves (left source) (left source') (taken sink) (taken sink') bytes written × Ends first end bytes world written)
   -- the input was read to its end, where nothing else stopped the pipe
   pub done : end ≡ Done → IfSome (left source') (λ bytes. bytes ≡ [])
   pub cut : end ≡ Cut → IfSome (left source') (λ bytes. bytes ≡ [])

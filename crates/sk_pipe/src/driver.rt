@@ -6,13 +6,13 @@ ghost use Rattle.sk_resp.specs.Spelling.{Bytes};
 ghost use Rattle.sk_resp.specs.Request.{Command};
 ghost use Rattle.sk_resp.specs.Stream.{Reads};
 ghost use Rattle.sk_resp.specs.Reply.{wire};
-ghost use Rattle.sk_pipe.specs.Answer.{reply_of};
+ghost use Rattle.sk_model.specs.World.{World, first};
 ghost use Rattle.sk_pipe.specs.Pipe.{Serves, Ends, Moves, refusal};
-ghost use Rattle.sk_pipe.specs.Driving.{IsWriteStop, IsStop, EndsAt, ServesFront, Sends, Stopped};
+ghost use Rattle.sk_pipe.specs.Driving.{Answered, IsWriteStop, IsStop, EndsAt, ServesFront, Sends, Stopped};
 
 use crate::PipeEnd;
-use crate::answer::reply;
 use sk_base::{Sink, Source, write_all};
+use sk_core::Core;
 use sk_resp::{Feeder, Reply, Say, WireFault, Words, write_reply};
 use std::alloc::Global;
 
@@ -47,29 +47,35 @@ fn send<K: Sink>(
 // Does a command, and writes its reply.
 fn answer<K: Sink>(
     alloc: Global,
-    words: &Words,
+    store: &mut Core,
+    words: Words,
     text: &mut Vec<u8>,
     sink: &mut K,
 ) -> Result<(), PipeEnd>
-    ensures told { OnOk result (Takes (K.taken sink.old) (wire (reply_of words.now)) (K.taken sink.new)) }
-    ensures err { IfErr result (λ end. IsWriteStop end × TakesFront (K.taken sink.old) (wire (reply_of words.now)) (K.taken sink.new)) }
+    ensures told { Answered store.old words store.new result (K.taken sink.old) (K.taken sink.new) }
     ensures later { K.write_faults sink.old ≤ K.write_faults sink.new }
     ensures write { result ≡ Err PipeEnd.WriteFault → Rose (K.write_faults sink.old) (K.write_faults sink.new) }
 {
-    send(alloc, &reply(words), text, sink)
+    let reply = store.step(words);
+    send(alloc, &reply, text, sink)
 }
 
 // Does the commands, and writes each one's reply before the next is done.
-fn answer_all<K: Sink>(alloc: Global, commands: &[Words], sink: &mut K) -> Result<(), PipeEnd>
-    ensures ok { OnOk result ((written : Bytes) × Serves commands.now written × Takes (K.taken sink.old) written (K.taken sink.new)) }
-    ensures err { IfErr result (λ end. IsWriteStop end × ((count : ℕ) × ((written : Bytes) × ServesFront (take count commands.now) written
+fn answer_all<K: Sink>(
+    alloc: Global,
+    store: &mut Core,
+    commands: Vec<Words>,
+    sink: &mut K,
+) -> Result<(), PipeEnd>
+    ensures ok { OnOk result ((written : Bytes) × Serves store.old commands.items store.new written × Takes (K.taken sink.old) written (K.taken sink.new)) }
+    ensures err { IfErr result (λ end. IsWriteStop end × ((count : ℕ) × ((written : Bytes) × ServesFront store.old (take count commands.items) store.new written
         × Takes (K.taken sink.old) written (K.taken sink.new)))) }
     ensures later { K.write_faults sink.old ≤ K.write_faults sink.new }
     ensures write { result ≡ Err PipeEnd.WriteFault → Rose (K.write_faults sink.old) (K.write_faults sink.new) }
 {
     let mut text = Vec::new(alloc);
     for words in commands {
-        match answer(alloc, words, &mut text, sink) {
+        match answer(alloc, store, words, &mut text, sink) {
             Ok(()) => {}
             Err(end) => return Err(end),
         }
@@ -106,20 +112,21 @@ fn stop<K: Sink>(alloc: Global, fault: WireFault, sink: &mut K) -> PipeEnd
 fn pass<K: Sink>(
     alloc: Global,
     feeder: &mut Feeder,
+    store: &mut Core,
     piece: &[u8],
     sink: &mut K,
 ) -> Result<(), PipeEnd>
     requires { feeder.old.fault ≡ None }
     ensures on { OnOk result ((feeder.new.fault ≡ None) × ((added : List Command) × ((written : Bytes) × Reads (feeder.old.rest ++ piece.now) added feeder.new.rest
-        × Serves added written × Takes (K.taken sink.old) written (K.taken sink.new)))) }
+        × Serves store.old added store.new written × Takes (K.taken sink.old) written (K.taken sink.new)))) }
     ensures stopped { IfErr result (λ end. IsStop end × ((written : Bytes) × Takes (K.taken sink.old) written (K.taken sink.new)
-        × Ends end (feeder.old.rest ++ piece.now) written)) }
+        × Ends store.old end (feeder.old.rest ++ piece.now) store.new written)) }
     ensures later { K.write_faults sink.old ≤ K.write_faults sink.new }
     ensures write { result ≡ Err PipeEnd.WriteFault → Rose (K.write_faults sink.old) (K.write_faults sink.new) }
 {
     let mut commands = Vec::new(alloc);
     let fed = feeder.feed(piece, &mut commands);
-    match answer_all(alloc, &commands, sink) {
+    match answer_all(alloc, store, commands, sink) {
         Ok(()) => {}
         Err(end) => return Err(end),
     }
@@ -145,8 +152,8 @@ fn end_of_input(feeder: &Feeder) -> PipeEnd
 /// any pieces.
 pub fn pipe<S: Source, K: Sink>(alloc: Global, source: &mut S, sink: &mut K) -> PipeEnd
     // The source gave some bytes, and the sink took what these call for.
-    ensures ends { (bytes written : Bytes) × Moves (S.left source.old) (S.left source.new) (K.taken sink.old) (K.taken sink.new) bytes written
-        × Ends result bytes written }
+    ensures ends { (bytes written : Bytes) × ((world : World) × Moves (S.left source.old) (S.left source.new) (K.taken sink.old) (K.taken sink.new) bytes written
+        × Ends first result bytes world written) }
 
     // The input is read to its end, where nothing else stops the pipe.
     ensures done { result ≡ PipeEnd.Done → IfSome (S.left source.new) (λ left. left ≡ []) }
@@ -159,6 +166,7 @@ pub fn pipe<S: Source, K: Sink>(alloc: Global, source: &mut S, sink: &mut K) -> 
     ensures sink_count { K.write_faults sink.old ≤ K.write_faults sink.new }
 {
     let mut feeder = Feeder::new(alloc);
+    let mut store = Core::new(alloc);
     let mut buf = [0u8; PIECE];
     let mut count: u64 = 0;
     while count < MOST_BYTES {
@@ -169,7 +177,7 @@ pub fn pipe<S: Source, K: Sink>(alloc: Global, source: &mut S, sink: &mut K) -> 
             return end_of_input(&feeder);
         }
         count += n as u64;
-        match pass(alloc, &mut feeder, &buf[..n], sink) {
+        match pass(alloc, &mut feeder, &mut store, &buf[..n], sink) {
             Ok(()) => {}
             Err(end) => return end,
         }

@@ -1,7 +1,6 @@
 //! The pipe: commands from a source, replies to a sink. It carries the promise of the whole program for every input.
 #![tactic(auto)]
 
-mod answer;
 mod command_line;
 mod driver;
 mod pipe_end;

@@ -30,6 +30,8 @@ abbrev pub say_text : Say → Bytes
 say_text say.Pong = codes "+PONG"
 say_text say.NotBuilt = codes "-SK not built"
 say_text (say.Arity name) = codes "-ERR wrong number of arguments for '" ++ spelling name ++ codes "' command"
+say_text say.NotInt = codes "-ERR value is not an integer or out of range"
+say_text say.Oom = codes "-OOM want of memory"
 say_text (say.Protocol fault) = fault_text fault
 
 -- ## Replies

@@ -9,8 +9,10 @@ mod say;
 mod spelling;
 mod wire_fault;
 mod word;
+mod word_order;
 
 pub use name::Name;
+pub use number::read_int;
 pub use reply::{Replies, Reply, write_reply};
 pub use request::{Feeder, one_reading, piece_by_piece, written_is_read};
 pub use say::Say;

@@ -7,6 +7,12 @@ ghost use Rattle.sk_resp.specs.Name.{spelling};
 pub enum Name {
     /// `PING`
     Ping,
+    /// `LPUSH key text ..`
+    Lpush,
+    /// `LRANGE key first last`
+    Lrange,
+    /// `LMOVE source destination LEFT|RIGHT LEFT|RIGHT`
+    Lmove,
 }
 
 impl Name {
@@ -16,6 +22,9 @@ impl Name {
     {
         match self {
             Name::Ping => b"ping",
+            Name::Lpush => b"lpush",
+            Name::Lrange => b"lrange",
+            Name::Lmove => b"lmove",
         }
     }
 }

@@ -13,6 +13,10 @@ pub enum Say {
     NotBuilt,
     /// `-ERR wrong number of arguments for 'ping' command`, with the command's name
     Arity(Name),
+    /// `-ERR value is not an integer or out of range`
+    NotInt,
+    /// `-OOM want of memory`: the command changed nothing.
+    Oom,
     /// `-ERR Protocol error: ..`, as the stream's fault says
     Protocol(WireFault),
 }
@@ -76,6 +80,8 @@ pub fn write_say(say: Say, out: &mut Vec<u8>) -> Result<(), Memory>
             let front = b"-ERR wrong number of arguments for '";
             write_quoting(front, name.spelling(), b"' command", out)
         }
+        Say::NotInt => out.extend_from_slice(b"-ERR value is not an integer or out of range"),
+        Say::Oom => out.extend_from_slice(b"-OOM want of memory"),
         Say::Protocol(fault) => write_fault(fault, out),
     }
 }

@@ -32,6 +32,13 @@ impl Word {
         &self.bytes
     }
 
+    /// Takes no memory.
+    pub fn into_bytes(self) -> Vec<u8>
+        ensures { result.items ≡ self }
+    {
+        self.bytes
+    }
+
     /// An equal word.
     pub fn copy(&self) -> Result<Word, Memory>
         ensures { IfOk result (λ word. word ≡ self.now) }
@@ -68,6 +75,13 @@ impl Words {
         ensures { result.now ≡ self.now }
     {
         &self.words
+    }
+
+    /// Takes no memory.
+    pub fn into_list(self) -> Vec<Word>
+        ensures { result.items ≡ self }
+    {
+        self.words
     }
 
     /// Equal words.

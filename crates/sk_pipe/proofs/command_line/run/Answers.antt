@@ -1,4 +1,5 @@
 use Rattle.std.proofs.Common.{inl, inr}
+use Rattle.sk_model.specs.World.{first}
 use Rattle.sk_pipe.proofs.Completing.{completes, status_done}
 use Rattle.sk_pipe.proofs.command_line.run.Goals as goal
 
@@ -6,6 +7,6 @@ pub returns-then-is_pipe_line-clause-completes : goal.returns-then-is_pipe_line-
 returns-then-is_pipe_line-clause-completes g c = λ line bytes commands is small reads none.
     let ends = c.pipe.ensures.ends in
     status_done c.pipe.result c.status.result
-    (completes c.pipe.result (g.S.Source.left c.args.source.now) (g.S.Source.left c.pipe.new.source) bytes ends.0 ends.1 commands is small reads ends.2.gave ends.3 c.pipe.ensures.cut
+    (completes first ends.2.0 c.pipe.result (g.S.Source.left c.args.source.now) (g.S.Source.left c.pipe.new.source) bytes ends.0 ends.1 commands is small reads ends.2.1.gave ends.2.2 c.pipe.ensures.cut
     (λ e. none (inl (c.pipe.ensures.read_fault e))) (λ e. none (inr (c.pipe.ensures.write_fault e))))
     c.status.ensures

@@ -10,15 +10,15 @@ returns-in-Err-clause-stopped g c =
     let fed = fed_opens c.feed-fed.result c.args.feeder.now.fault c.feed-fed.new.self.fault bytes c.feed-fed.new.self.rest c.new-commands.result.items c.feed-fed.new.out.items
     c.requires c.feed-fed.ensures.ok c.feed-fed.ensures.fault in
     let err = c.in-Err.ensures.err in
-    let items : c.deref.result.now ≡ fed.0 = c.deref.ensures.value ∙ fed.1 ∙ ap (λ z. z ++ fed.0) c.new-commands.ensures.items in
-    let ends = ends_write c.in-Err.end bytes fed.2.0 fed.0 err.1.0 err.1.1.0 err.0 fed.2.1 (subst (λ z. ServesFront (take err.1.0 z) err.1.1.0) items err.1.1.1) in
+    let items : c.feed-fed.new.out.items ≡ fed.0 = fed.1 ∙ ap (λ z. z ++ fed.0) c.new-commands.ensures.items in
+    let ends = ends_write c.args.store.now c.answer_all.new.store c.in-Err.end bytes fed.2.0 fed.0 err.1.0 err.1.1.0 err.0 fed.2.1 (subst (λ z. ServesFront c.args.store.now (take err.1.0 z) c.answer_all.new.store err.1.1.0) items err.1.1.1) in
     (ends.0, (err.1.1.0, err.1.1.2, ends.1))
 
-pub returns-clause-stopped : goal.returns-clause-stopped
-returns-clause-stopped g c =
+pub returns-in-Err-fed-clause-stopped : goal.returns-in-Err-fed-clause-stopped
+returns-in-Err-fed-clause-stopped g c =
     let bytes = c.args.feeder.now.rest ++ c.args.piece.now in
     let fed = c.in-Err-fed.ensures.fault c.requires in
     let served = c.in-Ok.ensures.ok in
-    let items : c.deref.result.now ≡ fed.0 = c.deref.ensures.value ∙ fed.1 ∙ ap (λ z. z ++ fed.0) c.new-commands.ensures.items in
-    ends_fault c.in-Err-fed.fault c.stop.result bytes fed.0 (g.K.Sink.taken c.args.sink.now) (g.K.Sink.taken c.answer_all.new.sink) (g.K.Sink.taken c.stop.new.sink) served.0
-    fed.2 (subst (λ z. Serves z served.0) items served.1) served.2 c.stop.ensures.told
+    let items : c.feed-fed.new.out.items ≡ fed.0 = fed.1 ∙ ap (λ z. z ++ fed.0) c.new-commands.ensures.items in
+    ends_fault c.args.store.now c.answer_all.new.store c.in-Err-fed.fault c.stop.result bytes fed.0 (g.K.Sink.taken c.args.sink.now) (g.K.Sink.taken c.answer_all.new.sink) (g.K.Sink.taken c.stop.new.sink) served.0
+    fed.2 (subst (λ z. Serves c.args.store.now z c.answer_all.new.store served.0) items served.1) served.2 c.stop.ensures.told

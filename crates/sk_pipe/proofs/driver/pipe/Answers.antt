@@ -3,6 +3,7 @@ use Rattle.sk_base.specs.Outside.{Gives}
 use Rattle.sk_base.proofs.OutsideLaws.{gives_nothing, takes_nothing, gives_no_more, gives_more, takes_more}
 use Rattle.sk_resp.proofs.Readings.{reads_on}
 use Rattle.sk_resp.proofs.Fewer.{reads_nothing}
+use Rattle.sk_model.specs.World.{first}
 use Rattle.sk_pipe.proofs.Piping.{serves_nothing, serves_on, ends_at, ends_on}
 use Rattle.sk_pipe.proofs.driver.pipe.Goals as goal
 
@@ -17,7 +18,7 @@ loop-count-init g c = record {
         gives_nothing (g.S.Source.left c.args.source.now),
         takes_nothing (g.K.Sink.taken c.args.sink.now),
         rw c.new-feeder.ensures reads_nothing,
-        serves_nothing,
+        rw c.new-store.ensures (serves_nothing first),
         refl,
       ),
     ),
@@ -34,8 +35,11 @@ returns-then-n-eq0-clause-ends g c =
     let nothing : Gives (g.S.Source.left c.loop-count.source) [] (g.S.Source.left c.read.new.self) = subst (λ m. Gives (g.S.Source.left c.loop-count.source) (take m c.read.new.buf) (g.S.Source.left c.read.new.self)) c.if-n-eq0.true c.in-Ok.ensures.told in (
       so_far.0,
       was.0,
-      record { gave = gives_no_more (g.S.Source.left c.args.source.now) so_far.0 (g.S.Source.left c.loop-count.source) (g.S.Source.left c.read.new.self) was.1 nothing; took = was.2 },
-      ends_at c.end_of_input.result so_far.0 c.loop-count.feeder.rest so_far.1.0 was.0 c.end_of_input.ensures was.3 was.4,
+      (
+        c.loop-count.store,
+        record { gave = gives_no_more (g.S.Source.left c.args.source.now) so_far.0 (g.S.Source.left c.loop-count.source) (g.S.Source.left c.read.new.self) was.1 nothing; took = was.2 },
+        ends_at first c.loop-count.store c.end_of_input.result so_far.0 c.loop-count.feeder.rest so_far.1.0 was.0 c.end_of_input.ensures was.3 was.4,
+      ),
     )
 
 pub returns-in-Err-clause-ends : goal.returns-in-Err-clause-ends
@@ -46,11 +50,14 @@ returns-in-Err-clause-ends g c =
     let piece = take c.in-Ok.n c.read.new.buf in (
       so_far.0 ++ piece,
       was.0 ++ stopped.1.0,
-      record {
-        gave = gives_more (g.S.Source.left c.args.source.now) so_far.0 (g.S.Source.left c.loop-count.source) piece (g.S.Source.left c.read.new.self) was.1 c.in-Ok.ensures.told;
-        took = takes_more (g.K.Sink.taken c.args.sink.now) was.0 (g.K.Sink.taken c.loop-count.sink) stopped.1.0 (g.K.Sink.taken c.pass.new.sink) was.2 stopped.1.1;
-      },
-      ends_on c.in-Err.end so_far.0 piece c.loop-count.feeder.rest so_far.1.0 was.0 stopped.1.0 stopped.0 was.3 was.4 stopped.1.2,
+      (
+        c.pass.new.store,
+        record {
+          gave = gives_more (g.S.Source.left c.args.source.now) so_far.0 (g.S.Source.left c.loop-count.source) piece (g.S.Source.left c.read.new.self) was.1 c.in-Ok.ensures.told;
+          took = takes_more (g.K.Sink.taken c.args.sink.now) was.0 (g.K.Sink.taken c.loop-count.sink) stopped.1.0 (g.K.Sink.taken c.pass.new.sink) was.2 stopped.1.1;
+        },
+        ends_on first c.loop-count.store c.pass.new.store c.in-Err.end so_far.0 piece c.loop-count.feeder.rest so_far.1.0 was.0 stopped.1.0 stopped.0 was.3 was.4 stopped.1.2,
+      ),
     )
 
 pub loop-count-preserved : goal.loop-count-preserved
@@ -70,7 +77,7 @@ loop-count-preserved g c =
             gives_more (g.S.Source.left c.args.source.now) so_far.0 (g.S.Source.left c.loop-count.source) piece (g.S.Source.left c.read.new.self) was.1 c.in-Ok.ensures.told,
             takes_more (g.K.Sink.taken c.args.sink.now) was.0 (g.K.Sink.taken c.loop-count.sink) new.0 (g.K.Sink.taken c.pass.new.sink) was.2 new.3,
             reads_on so_far.0 piece c.loop-count.feeder.rest c.pass.new.feeder.rest so_far.1.0 on.1.0 was.3 new.1,
-            serves_on so_far.1.0 on.1.0 was.0 new.0 was.4 new.2,
+            serves_on first c.loop-count.store c.pass.new.store so_far.1.0 on.1.0 was.0 new.0 was.4 new.2,
             omega (arith, was.5, length-append so_far.0 piece, length-take c.in-Ok.n c.read.new.buf, c.in-Ok.ensures.within, c.read.auto.buf),
           ),
         ),

@@ -1,0 +1,5 @@
+pub mod Puts
+pub mod Parts
+pub mod Around
+pub mod Cuts
+pub mod Worlds

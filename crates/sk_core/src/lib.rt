@@ -1,0 +1,16 @@
+//! The store: it does what the abstract store does, over an index of its queues.
+#![tactic(auto)]
+
+mod args;
+mod move_text;
+mod push;
+mod queues;
+mod range;
+mod read;
+mod store;
+mod texts;
+
+pub use store::Core;
+
+#[cfg(test)]
+mod tests;

@@ -1,0 +1,36 @@
+-- What the changes of every command owe to the laws. Proved for each kind of change, and for one list of changes after another.
+use Rattle.std.proofs.Common.{◌≡◌, ℕ, ◌+◌, List, [], ◌∷◌, ◌++◌, refl, sym, ap, subst, ◌∙◌, arith, Bool, true, false, cond}
+use Rattle.std.specs.List.{list_any}
+use Rattle.sk_resp.specs.Spelling.{Bytes}
+use Rattle.sk_model.specs.declared.row.Place.{Place}
+use Rattle.sk_model.specs.declared.row.Row.{Row}
+use Rattle.sk_model.specs.Rows.{End, is_same, take_row}
+use Rattle.sk_model.specs.World.{World}
+use Rattle.sk_model.specs.Change.{Move, Add, Carry, Change, Moves, carried, changed, perform}
+use Rattle.sk_model.specs.Laws.{copies, pushed}
+use Rattle.sk_model.proofs.Copies.{copies-put_row, copies-take_row}
+
+pub record Good (w : World) (changes : List Change) : Type 0 where
+  -- a text stands as often as before, and once more for each push of it
+  pub counts : (text : Bytes) → copies text (perform w changes) ≡ pushed text changes + copies text w
+
+perform-append : (w : World) (a b : List Change) → perform w (a ++ b) ≡ perform (perform w a) b
+perform-append w [] b = refl
+perform-append w (change ∷ a) b = perform-append (changed w change) a b
+
+pushed-append : (text : Bytes) (a b : List Change) → pushed text (a ++ b) ≡ pushed text a + pushed text b
+pushed-append text [] b = omega arith
+pushed-append text (change ∷ a) b = omega (arith, pushed-append text a b)
+
+pub good_nothing : (w : World) → Good w []
+good_nothing w = record { counts = λ text. omega arith }
+
+pub good_append : (w : World) (a b : List Change) → Good w a → Good (perform w a) b → Good w (a ++ b)
+good_append w a b first then_ = record { counts = λ text. omega (arith, ap (copies text) (perform-append w a b), pushed-append text a b, first.counts text, then_.counts text) }
+
+pub good_add : (w : World) (row : Row) (end : End) → Good w (Moves (Add row end) ∷ [])
+good_add w row end = record { counts = λ text. omega (arith, copies-put_row text end row w.rows) }
+
+-- a row that is there may go to another place
+pub good_carry : (w : World) (row : Row) (from : End) (to : Place) (end : End) → list_any (is_same row) w.rows ≡ true → Good w (Moves (Carry row from to end) ∷ [])
+good_carry w row from to end there = record { counts = λ text. omega (arith, copies-put_row text end (carried row to) (take_row from row w.rows), copies-take_row text from row w.rows there) }

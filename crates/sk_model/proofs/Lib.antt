@@ -1,0 +1,8 @@
+pub mod Texts
+pub mod Copies
+pub mod Good
+pub mod Commands
+pub mod Runs
+pub mod Running
+pub mod Readings
+mod Worked

@@ -1,0 +1,9 @@
+pub mod Rows
+pub mod World
+pub mod Change
+pub mod Reading
+pub mod Outcome
+pub mod Lists
+pub mod Step
+pub mod Run
+pub mod Laws

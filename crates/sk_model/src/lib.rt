@@ -1,0 +1,10 @@
+//! The abstract store: what it keeps, what each command does to it, what runs of commands are, and what holds of every run.
+#![tactic(auto)]
+
+mod command;
+mod laws;
+mod row;
+
+pub use command::Command;
+pub use laws::{nothing_is_lost, words_have_one_reading};
+pub use row::{Place, Row};
