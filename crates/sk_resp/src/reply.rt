@@ -2,6 +2,19 @@
 ghost use Rattle.std.specs.Prelude.{◌≡◌, ◌++◌, OnOk, map};
 ghost use Rattle.sk_resp.specs.Reply.{wire};
 
+mod fault;
+mod feeder;
+mod laws;
+mod number_line;
+mod state;
+mod text;
+
+pub use fault::ReplyFault;
+pub use feeder::ReplyFeeder;
+pub use laws::{
+    no_reply_begins_another, one_list_of_replies, replies_have_texts, written_replies_are_read,
+};
+
 use crate::say::write_say;
 use crate::spelling::{write_bulk, write_header, write_line};
 use crate::{Memory, Say, Word};
