@@ -13,7 +13,7 @@ mod word;
 pub use name::Name;
 pub use reply::{Replies, Reply, write_reply};
 pub use reply::{ReplyFault, ReplyFeeder};
-pub use reply::{no_reply_begins_another, one_list_of_replies, replies_have_texts, written_replies_are_read};
+pub use reply::{no_reply_begins_another, replies_come_in_pieces, replies_have_one_reading, replies_have_texts, written_replies_are_read};
 pub use request::{Feeder, one_reading, piece_by_piece, written_is_read};
 pub use request::write_request;
 pub use say::Say;

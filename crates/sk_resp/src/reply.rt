@@ -12,7 +12,7 @@ mod text;
 pub use fault::ReplyFault;
 pub use feeder::ReplyFeeder;
 pub use laws::{
-    no_reply_begins_another, one_list_of_replies, replies_have_texts, written_replies_are_read,
+    no_reply_begins_another, replies_come_in_pieces, replies_have_one_reading, replies_have_texts, written_replies_are_read,
 };
 
 use crate::say::write_say;
