@@ -91,7 +91,7 @@ runs_minus k stack n some small =
   ∙ after-nil _ ∙ after-nil _ ∙ onward-nil go (number k true n stack)
 
 -- a line of text
-one_more : (stay end : Stage) (done : List ℕ) (b : ℕ) (stack : Levels) → b ≢ 13 → b ≢ 10 → length done < 2 ^ 16 → lines stay end done stack b ≡ gives [] (at stay (done ++ b ∷ []) stack)
+pub one_more : (stay end : Stage) (done : List ℕ) (b : ℕ) (stack : Levels) → b ≢ 13 → b ≢ 10 → length done < 2 ^ 16 → lines stay end done stack b ≡ gives [] (at stay (done ++ b ∷ []) stack)
 one_more stay end done b stack p q lt =
   off (eqb b 13) _ _ (ne_eqb b 13 p) ∙ off (eqb b 10) fails _ (ne_eqb b 10 q) ∙ off (leb (2 ^ 16) (length done)) fails _ (not_true (leb (2 ^ 16) (length done)) (λ t. grind arith))
 

@@ -45,8 +45,8 @@ reached_next m next bytes texts h e =
 pub reads : (m next : Machine) (bytes : Bytes) (texts : List Bytes) → IsReached m → run_within m bytes ≡ gives texts next → ReadsReplies (seen m ++ bytes) texts (seen next)
 reads m next bytes texts h e = let good = ran_within m next bytes texts h.within e in record { is = good.is; each = good.each; part = finish next good.is_open; }
 
-begins_runs : (bytes : Bytes) → BeginsSome bytes → run_within fresh bytes ≡ fails → ⊥
-begins_runs bytes b e =
+pub begins_run : (bytes : Bytes) → BeginsSome bytes → run_within fresh bytes ≡ fails → ⊥
+begins_run bytes b e =
   let whole : gives b.texts fresh ≡ fails = sym (accepts_all b.texts b.each) ∙ ap (run_within fresh) (sym b.is) ∙ runs-append go_within fresh bytes b.more ∙ ap (λ o. onward o (λ n. run_within n b.more)) e in
   cc whole
 
@@ -71,7 +71,7 @@ stuck m next piece n texts h lt e f =
     more = drop (n + 1) piece;
     is = ap (λ z. seen m ++ z) (parted piece n) ∙ sym (append_assoc (seen m) (take n piece) (drop n piece)) ∙ ap (λ z. z ++ drop n piece) good.is ∙ ap (λ z. (joined texts ++ seen next) ++ z) (drop_more piece n 0 lt);
     reads = record { is = refl; each = good.each; part = finish next good.is_open; };
-    stuck = λ begins. begins_runs ((joined texts ++ seen next) ++ b ∷ []) begins
+    stuck = λ begins. begins_run ((joined texts ++ seen next) ++ b ∷ []) begins
       (ap (λ z. run_within fresh (z ++ b ∷ [])) (sym good.is) ∙ ap (run_within fresh) (append_assoc (seen m) (take n piece) (b ∷ [])) ∙ from_fresh m (take n piece ++ b ∷ []) h
        ∙ run-on m next (take n piece) (b ∷ []) texts e ∙ ap (after texts) (runs-one go_within next b ∙ f));
   }

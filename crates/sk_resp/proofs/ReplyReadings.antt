@@ -11,7 +11,7 @@ use Rattle.sk_resp.proofs.ReplyOpens.{joined-append, joined-more, all-append}
 use Rattle.sk_resp.proofs.ReplyRuns.{after-nil, runs-append, runs-on}
 use Rattle.sk_resp.proofs.ReplyWithin.{ran_within, fresh_within, accepts_one, accepts_all}
 use Rattle.sk_resp.proofs.ReplyFinish.{finish}
-use Rattle.sk_resp.proofs.ReplyHearing.{fresh_reached, reads, stuck, one_length, written_reads}
+use Rattle.sk_resp.proofs.ReplyHearing.{fresh_reached, reads, stuck, begins_run, one_length, written_reads}
 use Rattle.sk_resp.proofs.ReplyWritten.{has_text}
 
 -- ## What the machine makes of a reading
@@ -118,6 +118,22 @@ reads_on bytes piece rest more texts others r s = record {
   each = all-append IsReplyText texts others r.each s.each;
   part = s.part;
 }
+
+pub unreadable_on : (bytes piece rest : Bytes) (texts others : List Bytes) → ReadsReplies bytes texts rest → IsUnreadable (rest ++ piece) others → IsUnreadable (bytes ++ piece) (texts ++ others)
+unreadable_on bytes piece rest texts others r u =
+  let front : joined texts ++ (joined others ++ u.part) ≡ joined (texts ++ others) ++ u.part = sym (append_assoc (joined texts) (joined others) u.part) ∙ ap (λ z. z ++ u.part) (sym (joined-append texts others)) in
+  let grouped : (ys : Bytes) → joined texts ++ ((joined others ++ u.part) ++ ys) ≡ (joined (texts ++ others) ++ u.part) ++ ys = λ ys. sym (append_assoc (joined texts) (joined others ++ u.part) ys) ∙ ap (λ z. z ++ ys) front in
+  record {
+    part = u.part;
+    byte = u.byte;
+    more = u.more;
+    is = ap (λ z. z ++ piece) r.is ∙ append_assoc (joined texts) rest piece ∙ ap (λ z. joined texts ++ z) u.is ∙ grouped (u.byte ∷ u.more);
+    reads = record { is = refl; each = all-append IsReplyText texts others r.each u.reads.each; part = u.reads.part; };
+    stuck = λ begins. begins_run ((joined (texts ++ others) ++ u.part) ++ u.byte ∷ []) begins
+      (ap (run_within fresh) (sym (grouped (u.byte ∷ [])))
+       ∙ runs-on go_within fresh fresh (joined texts) ((joined others ++ u.part) ++ u.byte ∷ []) texts (accepts_all texts r.each)
+       ∙ ap (after texts) (fails_there (rest ++ piece) others u));
+  }
 
 pub unreadable_stays : (bytes piece : Bytes) (texts : List Bytes) → IsUnreadable bytes texts → IsUnreadable (bytes ++ piece) texts
 unreadable_stays bytes piece texts u = record {

@@ -1,13 +1,14 @@
 -- The size that the reader keeps, and what it says of the limit on the bytes of a whole reply.
-use Rattle.std.proofs.Common.{◌≡◌, ◌+◌, ◌-◌, ◌<◌, ◌≤◌, ◌^◌, ℕ, zero, suc, List, [], ◌∷◌, ◌++◌, length, Bool, true, false, cond, ltb, leb, refl, sym, ap, subst, ◌∙◌, arith, append_assoc, append-nil, length-append}
+use Rattle.std.proofs.Common.{◌≡◌, ◌≢◌, ◌+◌, ◌-◌, ◌<◌, ◌≤◌, ◌^◌, ℕ, zero, suc, List, [], ◌∷◌, ◌++◌, length, Bool, true, false, cond, ltb, leb, refl, sym, ap, subst, ◌∙◌, arith, append_assoc, append-nil, length-append}
+use Rattle.std.specs.List.{AllByRecursion}
 use Rattle.std.specs.Fmt.{decimal}
-use Rattle.sk_resp.specs.Spelling.{Bytes, line, opened}
+use Rattle.sk_resp.specs.Spelling.{Bytes, plus, minus, cr, lf, line, opened}
 use Rattle.sk_resp.specs.declared.reply.state.Stage.{Stage}
 use Rattle.sk_resp.specs.declared.reply.state.Stage.TheVariants as stage
-use Rattle.sk_resp.specs.ReplyMachine.{Levels, Machine, at, fresh, Out, gives, fails, go, go_within, run_within, runs, onward, after, seen, seen_levels, owed, stage_needs, weight, fit, IsOpen, IsOpenWithin}
+use Rattle.sk_resp.specs.ReplyMachine.{Levels, Machine, at, fresh, Out, gives, fails, lines, go_at, go, go_within, run_within, runs, onward, after, seen, seen_levels, owed, stage_needs, weight, fit, IsOpen, IsOpenWithin}
 use Rattle.sk_resp.proofs.ReplyOpens.{Good, went}
 use Rattle.sk_resp.proofs.ReplyRuns.{after-nil, went_to}
-use Rattle.sk_resp.proofs.ReplyAccepts.{on, off, is_true}
+use Rattle.sk_resp.proofs.ReplyAccepts.{on, off, is_true, one_more}
 use Rattle.sk_resp.proofs.ReplyWithin.{fits, ran_within}
 
 -- the byte that was taken is counted
@@ -50,15 +51,42 @@ body_runs need done (b ∷ text) stack le small =
   ∙ body_runs need (done ++ b ∷ []) text stack (omega (arith, le, len)) small'
   ∙ ap (λ z. gives [] (at (stage.Body need) z stack)) (append_assoc done (b ∷ []) text)
 
--- so many bytes of it were taken
-pub body_taken : (s t : Stage) (done line : Bytes) (stack levels : Levels) (need : ℕ) (text : Bytes) → s ≡ stage.Body need → t ≡ s → line ≡ done ++ text → levels ≡ stack → length done + length text ≤ need → weight (at s done stack) ≤ 2 ^ 32
-    → run_within (at s done stack) text ≡ gives [] (at t line levels)
-body_taken s t done line stack levels need text e f g h le small =
-  subst (λ z. run_within (at z done stack) text ≡ gives [] (at t line levels)) (sym e)
-    (body_runs need done text stack le (subst (λ z. weight (at z done stack) ≤ 2 ^ 32) e small)
-    ∙ ap (λ z. gives [] (at z (done ++ text) stack)) (sym e ∙ sym f)
-    ∙ ap (λ z. gives [] (at t z stack)) (sym g)
-    ∙ ap (λ z. gives [] (at t line z)) (sym h))
+-- whatever the stage is called by
+pub body_taken : (s : Stage) (done : Bytes) (stack : Levels) (need : ℕ) (text : Bytes) → s ≡ stage.Body need → length done + length text ≤ need → weight (at s done stack) ≤ 2 ^ 32
+    → run_within (at s done stack) text ≡ gives [] (at s (done ++ text) stack)
+body_taken s done stack need text e le small =
+  subst (λ z. run_within (at z done stack) text ≡ gives [] (at z (done ++ text) stack)) (sym e) (body_runs need done text stack le (subst (λ z. weight (at z done stack) ≤ 2 ^ 32) e small))
+
+-- ## The bytes of a simple or an error text
+
+text_runs : (stay end : Stage) (base : ℕ) (done text : Bytes) (stack : Levels) → ((xs : Bytes) (b : ℕ) → go_at stay xs stack b ≡ lines stay end xs stack b) → ((xs : Bytes) → weight (at stay xs stack) ≡ base + length xs)
+    → AllByRecursion (λ b. (b ≢ cr) × (b ≢ lf)) text → length done + length text ≤ 2 ^ 16 → base + (length done + length text) ≤ 2 ^ 32 → run_within (at stay done stack) text ≡ gives [] (at stay (done ++ text) stack)
+text_runs stay end base done [] stack h w plain short small = ap (λ z. gives [] (at stay z stack)) (sym (append-nil done))
+text_runs stay end base done (b ∷ text) stack h w plain short small =
+  let len = length-append done (b ∷ []) in
+  ap (λ o. onward o (λ n. run_within n text)) (ap fit (h done b ∙ one_more stay end done b stack plain.0.0 plain.0.1 (omega (arith, short))) ∙ fits [] (at stay (done ++ b ∷ []) stack) (omega (arith, w (done ++ b ∷ []), small, len)))
+  ∙ after-nil _
+  ∙ text_runs stay end base (done ++ b ∷ []) text stack h w plain.1 (omega (arith, short, len)) (omega (arith, small, len))
+  ∙ ap (λ z. gives [] (at stay z stack)) (append_assoc done (b ∷ []) text)
+
+text_weight : (m : ℕ) (text : Bytes) (stack : Levels) → length (seen_levels stack ++ (m ∷ text)) + (2 + owed stack) ≡ (length (seen_levels stack) + 3 + owed stack) + length text
+text_weight m text stack = omega (arith, length-append (seen_levels stack) (m ∷ text))
+
+pub simple_taken : (s : Stage) (done : Bytes) (stack : Levels) (text : Bytes) (size : ℕ) → s ≡ stage.Simple → size ≡ length (seen (at s done stack)) + owed stack → AllByRecursion (λ b. (b ≢ cr) × (b ≢ lf)) text → length done + length text ≤ 2 ^ 16 → size + 2 + length text ≤ 2 ^ 32
+    → run_within (at s done stack) text ≡ gives [] (at s (done ++ text) stack)
+simple_taken s done stack text size e sized plain short small =
+  let is : size ≡ length (seen (at stage.Simple done stack)) + owed stack = sized ∙ ap (λ z. length (seen (at z done stack)) + owed stack) e in
+  subst (λ z. run_within (at z done stack) text ≡ gives [] (at z (done ++ text) stack)) (sym e)
+    (text_runs stage.Simple stage.SimpleEnd (length (seen_levels stack) + 3 + owed stack) done text stack (λ xs b. refl) (λ xs. text_weight plus xs stack) plain short (omega (arith, small, is, text_weight plus done stack)))
+
+pub error_taken : (s : Stage) (done : Bytes) (stack : Levels) (text : Bytes) (size : ℕ) → s ≡ stage.Error → size ≡ length (seen (at s done stack)) + owed stack → AllByRecursion (λ b. (b ≢ cr) × (b ≢ lf)) text → length done + length text ≤ 2 ^ 16 → size + 2 + length text ≤ 2 ^ 32
+    → run_within (at s done stack) text ≡ gives [] (at s (done ++ text) stack)
+error_taken s done stack text size e sized plain short small =
+  let is : size ≡ length (seen (at stage.Error done stack)) + owed stack = sized ∙ ap (λ z. length (seen (at z done stack)) + owed stack) e in
+  subst (λ z. run_within (at z done stack) text ≡ gives [] (at z (done ++ text) stack)) (sym e)
+    (text_runs stage.Error stage.ErrorEnd (length (seen_levels stack) + 3 + owed stack) done text stack (λ xs b. refl) (λ xs. text_weight minus xs stack) plain short (omega (arith, small, is, text_weight minus done stack)))
+
+-- ## Bytes that were taken together
 
 pub taken_size : (m n : Machine) (a c : ℕ) (text : Bytes) → IsOpenWithin m → run_within m text ≡ gives [] n → a ≡ length (seen m) + owed m.stack → c ≡ a + length text → m.stack ≡ n.stack → c ≡ length (seen n) + owed n.stack
 taken_size m n a c text within e size more same =

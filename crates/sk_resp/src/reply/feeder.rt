@@ -41,7 +41,7 @@ impl State {
         }
     }
 
-    // Takes the next byte outside a bulk string, and gives the reply that it makes whole.
+    // Takes the next byte, and gives the reply that it makes whole.
     fn step(&mut self, alloc: Global, byte: u8) -> Result<Option<Reply>, ReplyFault>
         requires within { IsOpenWithin (says self.old) }
         requires sized { IsSized self.old }
@@ -67,7 +67,7 @@ impl State {
         }
     }
 
-    // Takes the next byte, or all bytes of a bulk string that are there, and gives the reply that they make whole.
+    // Takes the next byte, or all bytes of a text or a bulk string that are there, and gives the reply that they make whole.
     fn take_some(
         &mut self,
         alloc: Global,
@@ -81,14 +81,11 @@ impl State {
         ensures read { IfOk result (λ r. AreRead r.1) }
         ensures fault { IfErr result (λ e. e ≢ Memory → go_within (says self.old) (get_or input.now 0 0) ≡ fails) }
     {
-        if let Stage::Body(need) = self.stage {
-            let here = self.line.len();
-            if here < need {
-                return match self.take_body(need - here, input) {
-                    Ok(taken) => Ok((taken, None)),
-                    Err(fault) => Err(fault),
-                };
-            }
+        let taken = self.more_of_line(input);
+        if taken > 0 {
+            self.line.extend_from_slice(&input[..taken])?;
+            self.size += taken;
+            return Ok((taken, None));
         }
         match self.step(alloc, input[0]) {
             Ok(found) => Ok((1, found)),

@@ -22,6 +22,7 @@ pub fn replies_have_one_reading()
 /// A stream of replies may be read piece by piece.
 pub fn replies_come_in_pieces()
     ensures reads { (bytes piece rest more : Bytes) (texts others : List Bytes) → ReadsReplies bytes texts rest → ReadsReplies (rest ++ piece) others more → ReadsReplies (bytes ++ piece) (texts ++ others) more }
+    ensures unreadable { (bytes piece rest : Bytes) (texts others : List Bytes) → ReadsReplies bytes texts rest → IsUnreadable (rest ++ piece) others → IsUnreadable (bytes ++ piece) (texts ++ others) }
     ensures stays { (bytes piece : Bytes) (texts : List Bytes) → IsUnreadable bytes texts → IsUnreadable (bytes ++ piece) texts }
 {}
 

@@ -15,7 +15,7 @@ use std::alloc::Global;
 const DEEPEST: usize = 8;
 
 /// The most bytes of a whole reply.
-const LONGEST_REPLY: usize = 1 << 32;
+pub const LONGEST_REPLY: usize = 1 << 32;
 
 /// The fewest bytes of a reply: a mark and CRLF.
 pub const SHORTEST_REPLY: usize = 3;

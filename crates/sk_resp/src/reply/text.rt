@@ -1,17 +1,39 @@
 // The texts of replies: lines that end at a CR, and bulk strings, whose length is known.
-ghost use Rattle.std.specs.Prelude.{◌≡◌, ◌≢◌, ◌+◌, ◌^◌, ◌<◌, ◌≤◌, ◌++◌, ◌∷◌, [], Some, None, IfOk, IfErr, length, take};
+ghost use Rattle.std.specs.Prelude.{◌≡◌, ◌≢◌, ◌+◌, ◌^◌, ◌<◌, ◌≤◌, ◌++◌, ◌∷◌, [], ◌↔◌, ℕ, IsTrue, IfOk, IfErr, length, take};
+ghost use Rattle.std.specs.List.{AllByRecursion};
+ghost use Rattle.sk_resp.specs.Spelling.{cr, lf};
 ghost use Rattle.sk_resp.specs.ReplyMachine;
-ghost use Rattle.sk_resp.specs.ReplyMachine.{starts, lines, bodies, go_at, gives, fails, levels, says, given, owed, IsCounted, Made};
+ghost use Rattle.sk_resp.specs.ReplyMachine.{starts, lines, bodies, go_at, gives, fails, levels, at, says, given, owed, run_within, IsOpenWithin, IsSized, Made};
 ghost use Rattle.sk_resp.specs.declared.reply.fault.ReplyFault.TheVariants.{Memory};
 
 use super::fault::ReplyFault;
-use super::state::{Kind, Stage, State};
+use super::state::{Kind, LONGEST_REPLY, Stage, State};
 use crate::{Reply, Word};
 use std::alloc::Global;
 use std::mem;
 
 /// The most bytes of a simple or an error text.
 const LONGEST_TEXT: usize = 1 << 16;
+
+// A byte of a text.
+fn is_plain(byte: u8) -> bool
+    ensures { IsTrue result ↔ ((byte ≢ cr) × (byte ≢ lf)) }
+{
+    byte != b'\r' && byte != b'\n'
+}
+
+// How many bytes at the front of the input are bytes of a text, up to so many.
+fn plain_front(input: &[u8], most: usize) -> usize
+    ensures most { result ≤ most }
+    ensures fits { result ≤ length input.now }
+    ensures plain { AllByRecursion (λ b. (b ≢ cr) × (b ≢ lf)) (take result input.now) }
+{
+    let mut at = 0;
+    while at < input.len() && at < most && is_plain(input[at]) {
+        at += 1;
+    }
+    at
+}
 
 impl State {
     /// Takes the mark of a reply.
@@ -54,20 +76,31 @@ impl State {
         Ok(None)
     }
 
-    /// Takes the bytes of a bulk string that are there, where so many are left, and answers how many it took.
-    pub fn take_body(&mut self, left: usize, input: &[u8]) -> Result<usize, ReplyFault>
-        requires some { (0 < left) × (0 < length input.now) }
-        requires small { self.old.size + left ≤ 2 ^ 32 }
-        ensures some { IfOk result (λ n. (0 < n) × (n ≤ left) × (n ≤ length input.now)) }
-        ensures line { IfOk result (λ n. self.new.line.items ≡ self.old.line.items ++ take n input.now) }
-        ensures size { IfOk result (λ n. self.new.size ≡ self.old.size + n) }
-        ensures same { (self.new.stage ≡ self.old.stage) × (self.new.stack ≡ self.old.stack) }
-        ensures fault { IfErr result (λ e. e ≡ Memory) }
+    /// How many bytes of the input are more of the open text or bulk string, as long as they are together.
+    pub fn more_of_line(&self, input: &[u8]) -> usize
+        requires within { IsOpenWithin (says self.now) }
+        requires sized { IsSized self.now }
+        requires some { 0 < length input.now }
+        ensures fits { result ≤ length input.now }
+        ensures goes { run_within (says self.now) (take result input.now) ≡ gives [] (at self.now.stage (self.now.line.items ++ take result input.now) (levels self.now.stack.items)) }
+        ensures filled { result ≡ 0 → (need : ℕ) → self.now.stage ≡ Stage.Body need → need ≤ length self.now.line.items }
     {
-        let n = left.min(input.len());
-        self.line.extend_from_slice(&input[..n])?;
-        self.size += n;
-        Ok(n)
+        match self.stage {
+            Stage::Body(need) => (need - self.line.len()).min(input.len()),
+            Stage::Simple => plain_front(input, self.text_room()),
+            Stage::Error => plain_front(input, self.text_room()),
+            _ => 0,
+        }
+    }
+
+    // How many bytes the open text may still have.
+    fn text_room(&self) -> usize
+        requires short { length self.now.line.items ≤ 2 ^ 16 }
+        requires small { self.now.size + 2 ≤ 2 ^ 32 }
+        ensures short { length self.now.line.items + result ≤ 2 ^ 16 }
+        ensures small { self.now.size + 2 + result ≤ 2 ^ 32 }
+    {
+        (LONGEST_TEXT - self.line.len()).min(LONGEST_REPLY - 2 - self.size)
     }
 
     /// Takes the CR behind the bytes of a bulk string.

@@ -1,27 +1,14 @@
-use Rattle.std.proofs.Common.{◌≡◌, ◌+◌, ◌-◌, ◌<◌, ◌≤◌, ◌^◌, [], ◌∷◌, ◌++◌, length, take, sym, ap, ◌∙◌, arith, length-take-le}
-use Rattle.sk_resp.specs.ReplyMachine.{says, levels, run_within, gives}
-use Rattle.sk_resp.proofs.ReplySizes.{body_taken, taken_size}
+use Rattle.std.proofs.Common.{◌≡◌, ◌+◌, [], ◌++◌, length, take, refl, sym, ap, ◌∙◌, arith, length-take-le}
+use Rattle.sk_resp.specs.ReplyMachine.{says, levels, at, gives}
+use Rattle.sk_resp.proofs.ReplySizes.{taken_size}
 use Rattle.sk_resp.proofs.reply.state.State.take_some.Goals as goal
 
-pub returns-in-Ok-clause-ok : goal.returns-in-Ok-clause-ok
-returns-in-Ok-clause-ok c =
+pub returns-then-taken-gt0-clause-sized : goal.returns-then-taken-gt0-clause-sized
+returns-then-taken-gt0-clause-sized c =
     let s = c.args.self.now in
-    let n = c.take_body.new.self in
-    let text = take c.in-Ok.taken c.args.input.now in
-    let ok = c.in-Ok.ensures in (
-      ok.some.0,
-      ok.some.2,
-      body_taken s.stage n.stage s.line.items n.line.items (levels s.stack.items) (levels n.stack.items) c.in-Body.need text c.in-Body.is ok.same.0 ok.line (ap (λ v. levels v.items) ok.same.1)
-          (omega (arith, ok.some.1, length-take-le c.in-Ok.taken c.args.input.now, c.len-here.ensures, c.if-here-need.true)) c.requires.within.small,
-    )
-
-pub returns-in-Ok-clause-sized : goal.returns-in-Ok-clause-sized
-returns-in-Ok-clause-sized c =
-    let s = c.args.self.now in
-    let n = c.take_body.new.self in
-    let text = take c.in-Ok.taken c.args.input.now in
-    let ok = c.in-Ok.ensures in
-    let e : run_within (says s) text ≡ gives [] (says n) =
-    body_taken s.stage n.stage s.line.items n.line.items (levels s.stack.items) (levels n.stack.items) c.in-Body.need text c.in-Body.is ok.same.0 ok.line (ap (λ v. levels v.items) ok.same.1)
-        (omega (arith, ok.some.1, length-take-le c.in-Ok.taken c.args.input.now, c.len-here.ensures, c.if-here-need.true)) c.requires.within.small in
-    taken_size (says s) (says n) s.size n.size text c.requires.within e c.requires.sized (omega (arith, ok.size, ok.some.2, length-take-le c.in-Ok.taken c.args.input.now)) (ap (λ v. levels v.items) (sym ok.same.1))
+    let n = c.more_of_line-taken.result in
+    let text = take n c.args.input.now in
+    let line = c.extend_from_slice.new.self.items in
+    taken_size (says s) (at s.stage line (levels s.stack.items)) s.size (s.size + n) text c.requires.within
+        (c.more_of_line-taken.ensures.goes ∙ ap (λ z. gives [] (at s.stage z (levels s.stack.items))) (sym c.in_ok-extend_from_slice.ensures.items)) c.requires.sized
+        (omega (arith, c.more_of_line-taken.ensures.fits, length-take-le n c.args.input.now)) refl
