@@ -114,9 +114,9 @@ starts-went depth stack text b is_open e =
   let W : Out → Type 0 = Went ((seen_levels stack ++ []) ++ b ∷ []) in
   by_cond W (eqb b 43) _ _ (λ t. goes stack [] b stage.Simple text depth is_open (empty_text text e) (cc (e, same b 43 t)))
   (λ f. by_cond W (eqb b 45) _ _ (λ t. goes stack [] b stage.Error text depth is_open (empty_text text e) (cc (e, same b 45 t)))
-  (λ f. by_cond W (eqb b 58) _ _ (λ t. goes stack [] b (stage.Sign kind.Int) text depth is_open tt (cc (e, same b 58 t)))
-  (λ f. by_cond W (eqb b 36) _ _ (λ t. goes stack [] b (stage.Sign kind.Bulk) text depth is_open tt (cc (e, same b 36 t)))
-  (λ f. by_cond W (eqb b 42) _ _ (λ t. goes stack [] b (stage.Sign kind.Array) text depth is_open tt (cc (e, same b 42 t)))
+  (λ f. by_cond W (eqb b 58) _ _ (λ t. goes stack [] b (stage.Sign kind.Int) text depth is_open tt (cc (same b 58 t)))
+  (λ f. by_cond W (eqb b 36) _ _ (λ t. goes stack [] b (stage.Sign kind.Bulk) text depth is_open tt (cc (same b 36 t)))
+  (λ f. by_cond W (eqb b 42) _ _ (λ t. goes stack [] b (stage.Sign kind.Array) text depth is_open tt (cc (same b 42 t)))
   (λ f. tt)))))
 
 pub differs : (x y : ℕ) → eqb x y ≡ false → x ≢ y

@@ -97,10 +97,7 @@ impl State {
         let Some(digit) = digit_of(byte) else {
             return Err(ReplyFault::Unreadable);
         };
-        if n == 0 {
-            return Err(ReplyFault::Unreadable);
-        }
-        if n > GREATEST_TENTH {
+        if n == 0 || n > GREATEST_TENTH {
             return Err(ReplyFault::Unreadable);
         }
         let next = 10 * n + digit;

@@ -118,6 +118,18 @@ impl State {
         Ok(None)
     }
 
+    // Takes the LF behind a text or a bulk string, and gives its bytes.
+    fn end_text(&mut self, alloc: Global, byte: u8) -> Result<Word, ReplyFault>
+        ensures ok { IfOk result (λ text. (byte ≡ lf) × (text ≡ self.old.line.items)) }
+        ensures same { (self.new.size ≡ self.old.size) × (self.new.stack ≡ self.old.stack) }
+        ensures fault { IfErr result (λ _. byte ≢ lf) }
+    {
+        if byte != b'\n' {
+            return Err(ReplyFault::Unreadable);
+        }
+        Ok(Word::new(mem::replace(&mut self.line, Vec::new(alloc))))
+    }
+
     /// Takes the LF behind a simple text, and gives the reply that it makes whole.
     pub fn end_simple(&mut self, alloc: Global, byte: u8) -> Result<Option<Reply>, ReplyFault>
         requires owed { owed (levels self.old.stack.items) ≤ self.old.size }
@@ -126,11 +138,10 @@ impl State {
         ensures made { IfOk result (Made self.old self.new) }
         ensures fault { IfErr result (λ e. e ≢ Memory → go_at Stage.SimpleEnd self.old.line.items (levels self.old.stack.items) byte ≡ fails) }
     {
-        if byte != b'\n' {
-            return Err(ReplyFault::Unreadable);
+        match self.end_text(alloc, byte) {
+            Ok(text) => self.settle(Reply::Simple(text)),
+            Err(fault) => Err(fault),
         }
-        let text = Word::new(mem::replace(&mut self.line, Vec::new(alloc)));
-        self.settle(Reply::Simple(text))
     }
 
     /// Takes the LF behind an error text, and gives the reply that it makes whole.
@@ -141,11 +152,10 @@ impl State {
         ensures made { IfOk result (Made self.old self.new) }
         ensures fault { IfErr result (λ e. e ≢ Memory → go_at Stage.ErrorEnd self.old.line.items (levels self.old.stack.items) byte ≡ fails) }
     {
-        if byte != b'\n' {
-            return Err(ReplyFault::Unreadable);
+        match self.end_text(alloc, byte) {
+            Ok(text) => self.settle(Reply::Error(text)),
+            Err(fault) => Err(fault),
         }
-        let text = Word::new(mem::replace(&mut self.line, Vec::new(alloc)));
-        self.settle(Reply::Error(text))
     }
 
     /// Takes the LF behind a bulk string, and gives the reply that it makes whole.
@@ -156,10 +166,9 @@ impl State {
         ensures made { IfOk result (Made self.old self.new) }
         ensures fault { IfErr result (λ e. e ≢ Memory → go_at Stage.BodyEnd self.old.line.items (levels self.old.stack.items) byte ≡ fails) }
     {
-        if byte != b'\n' {
-            return Err(ReplyFault::Unreadable);
+        match self.end_text(alloc, byte) {
+            Ok(bytes) => self.settle(Reply::Bulk(bytes)),
+            Err(fault) => Err(fault),
         }
-        let bytes = Word::new(mem::replace(&mut self.line, Vec::new(alloc)));
-        self.settle(Reply::Bulk(bytes))
     }
 }
