@@ -1,19 +1,19 @@
 -- What goes on can be finished.
-use Rattle.std.proofs.Common.{◌≡◌, ◌≢◌, ◌+◌, ◌-◌, ◌*◌, ◌<◌, ◌≤◌, ◌^◌, ℕ, ℤ, pos, negsuc, zero, suc, List, [], ◌∷◌, ◌++◌, length, replicate, ltb, Bool, true, false, inl, inr, refl, sym, ap, subst, ◌∙◌, arith, append_assoc, append-nil, length-append}
+use Rattle.std.proofs.Common.{◌≡◌, ◌+◌, ◌-◌, ◌*◌, ◌<◌, ◌≤◌, ◌^◌, ℕ, pos, negsuc, zero, suc, List, [], ◌∷◌, ◌++◌, length, replicate, ltb, Bool, true, false, inr, refl, sym, ap, subst, ◌∙◌, arith, append_assoc, append-nil, length-append}
 use Rattle.std.specs.List.{AllByRecursion}
-use Rattle.std.specs.Fmt.{decimal, signed_decimal}
+use Rattle.std.specs.Fmt.{decimal}
 use Rattle.std.proofs.lemmas.List.{length-replicate}
 use Rattle.sk_resp.specs.Spelling.{Bytes, line, header, opened, bulk, joined}
 use Rattle.sk_resp.specs.Reply.{array_text}
-use Rattle.sk_resp.specs.ReplyStream.{IsLineText, IsFlat, IsNested, IsReplyText, IsReplyPart, simple_text, error_text, int_text, bulk_text, null_text, null_array_text}
+use Rattle.sk_resp.specs.ReplyStream.{IsFlat, IsNested, IsReplyPart, simple_text, error_text, int_text, bulk_text, null_text, null_array_text}
 use Rattle.sk_resp.specs.declared.reply.state.Kind.{Kind}
 use Rattle.sk_resp.specs.declared.reply.state.Kind.TheVariants as kind
 use Rattle.sk_resp.specs.declared.reply.state.Stage.{Stage}
 use Rattle.sk_resp.specs.declared.reply.state.Stage.TheVariants as stage
-use Rattle.sk_resp.specs.ReplyMachine.{Levels, Machine, at, number_text, mark, spelled, part, seen_levels, seen, IsNumber, HasRoom, IsOpenAt, AreOpen, IsOpen, IsOpenWithin}
+use Rattle.sk_resp.specs.ReplyMachine.{Levels, Machine, number_text, mark, spelled, part, seen_levels, seen, IsNumber, HasRoom, IsOpenAt, AreOpen, IsOpenWithin}
 use Rattle.std.proofs.lemmas.Fmt.{decimal_digit}
-use Rattle.sk_resp.specs.ReplyMachine.{weight, behind, sign_needs, stage_needs, owed, needs}
-use Rattle.sk_resp.proofs.ReplyOpens.{by_cond, all-append, joined-append, joined-more, crlf, flat-within, depth_is, int_flat, int_old, one, settled-went}
+use Rattle.sk_resp.specs.ReplyMachine.{behind, sign_needs, stage_needs, owed}
+use Rattle.sk_resp.proofs.ReplyOpens.{by_cond, all-append, joined-append, crlf, flat-within, depth_is, int_flat, int_old, one}
 
 -- the part goes on to a reply that may stand so deep
 record Ends (depth : ℕ) (old : List ℕ) (need : ℕ) : Type 0 where
@@ -61,7 +61,7 @@ fills_bytes zero = refl
 fills_bytes (suc n) = omega (arith, fills_bytes n)
 
 by_text : (depth : ℕ) (old more text : List ℕ) (need : ℕ) → length more ≡ need → 0 < length more → IsNested depth text → old ++ more ≡ text → Ends depth old need
-by_text depth old more text need exact some is e = record { more = more; whole = subst (IsNested depth) (sym e) is; some = some; exact = exact; }
+by_text depth old more text need exact some is e = record { more = more; whole = subst (IsNested depth) (sym e) is; some = some; exact = exact }
 
 zeros : ℕ → List ℕ
 zeros n = replicate n 0
@@ -69,9 +69,9 @@ zeros n = replicate n 0
 body_ends : (need depth : ℕ) (text : List ℕ) → length text ≤ need → need ≤ 2 ^ 31 → Ends depth (opened need text) ((need - length text) + 2)
 unfolding opened bulk
 body_ends need depth text le short =
-  let rest = replicate (need - length text) 0 in
-  let len : length (text ++ rest) ≡ need = omega (arith, length-append text rest, length-replicate {A = ℕ} (need - length text) 0) in
-  by_text depth (opened need text) (rest ++ 13 ∷ 10 ∷ []) (bulk (text ++ rest)) ((need - length text) + 2) (omega (arith, length-append rest (13 ∷ 10 ∷ []), length-replicate {A = ℕ} (need - length text) 0)) (omega (arith, length-append rest (13 ∷ 10 ∷ [])))
+    let rest = replicate (need - length text) 0 in
+    let len : length (text ++ rest) ≡ need = omega (arith, length-append text rest, length-replicate {A = ℕ} (need - length text) 0) in
+    by_text depth (opened need text) (rest ++ 13 ∷ 10 ∷ []) (bulk (text ++ rest)) ((need - length text) + 2) (omega (arith, length-append rest (13 ∷ 10 ∷ []), length-replicate {A = ℕ} (need - length text) 0)) (omega (arith, length-append rest (13 ∷ 10 ∷ [])))
     (flat-within depth (bulk (text ++ rest)) (bulk_text (text ++ rest) (omega (arith, len)) refl))
     (append_assoc (line (36 ∷ decimal need)) text (rest ++ 13 ∷ 10 ∷ []) ∙ ap (λ z. line (36 ∷ decimal need) ++ z) (sym (append_assoc text rest (13 ∷ 10 ∷ []))) ∙ ap (λ n. line (36 ∷ decimal n) ++ line (text ++ rest)) (sym len))
 
@@ -83,8 +83,8 @@ number_ends kind.Array true n depth len is room e = by_text depth ((42 ∷ 45 �
 number_ends kind.Bulk false n depth len is room e = before depth ((36 ∷ decimal n) ++ 13 ∷ []) 10 (n + 2) (subst (λ z. Ends depth z (n + 2)) (append-nil (line (36 ∷ decimal n)) ∙ sym (crlf (36 ∷ decimal n))) (cast depth (line (36 ∷ decimal n) ++ []) ((n - length {A = ℕ} []) + 2) (n + 2) (omega arith) (body_ends n depth [] (omega arith) is)))
 number_ends kind.Array false n zero len is room e = absurd (omega (arith, room refl refl))
 number_ends kind.Array false n (suc depth) len is room e =
-  let count = fills_length n in
-  by_text (suc depth) ((42 ∷ decimal n) ++ 13 ∷ []) (10 ∷ joined (fills n)) (array_text (fills n)) (1 + 3 * n) (omega (arith, fills_bytes n)) (omega arith)
+    let count = fills_length n in
+    by_text (suc depth) ((42 ∷ decimal n) ++ 13 ∷ []) (10 ∷ joined (fills n)) (array_text (fills n)) (1 + 3 * n) (omega (arith, fills_bytes n)) (omega arith)
     (inr (fills n, fills_are depth n, omega (arith, count, is), refl))
     (append_assoc (42 ∷ decimal n) (13 ∷ []) (10 ∷ joined (fills n)) ∙ sym (append_assoc (42 ∷ decimal n) (13 ∷ 10 ∷ []) (joined (fills n))) ∙ ap (λ m. header m ++ joined (fills n)) (sym count))
 
@@ -122,35 +122,35 @@ stage_ends (stage.Digits k neg n) text depth len e is = cast depth (mark k ∷ s
 stage_ends (stage.DigitsEnd k neg n) text depth len e is = number_ends k neg n depth len is.0 is.1 e
 stage_ends (stage.Body need) text depth len e is = body_ends need depth text is.0 is.1
 stage_ends stage.BodyEnd text depth len e is = by_text depth ((opened (length text) text) ++ 13 ∷ []) (10 ∷ []) (bulk text) 1 refl (omega arith) (flat-within depth (bulk text) (bulk_text text is refl))
-  (append_assoc (opened (length text) text) (13 ∷ []) (10 ∷ []) ∙ append_assoc (line (36 ∷ decimal (length text))) text (13 ∷ 10 ∷ []))
+    (append_assoc (opened (length text) text) (13 ∷ []) (10 ∷ []) ∙ append_assoc (line (36 ∷ decimal (length text))) text (13 ∷ 10 ∷ []))
 
 -- the arrays around it go on to a reply as well
 levels_end : (depth : ℕ) (stack : Levels) (old : List ℕ) (need : ℕ) → AreOpen depth stack → Ends depth old need → Ends 8 (seen_levels stack ++ old) (need + owed stack)
 levels_end depth [] old need is_open e = cast 8 old need (need + 0) (omega arith) (subst (λ d. Ends d old need) is_open e)
 levels_end depth ((count, texts) ∷ stack) old need is_open e =
-  let text = old ++ e.more in
-  let n = count - suc (length texts) in
-  let all : List Bytes = texts ++ text ∷ fills n in
-  let len : length all ≡ count = omega (arith, length-append texts (text ∷ fills n), fills_length n, is_open.0) in
-  let each : AllByRecursion (IsNested depth) all = all-append (IsNested depth) texts (text ∷ fills n) is_open.2 (e.whole, fills_are depth n) in
-  let front = header count ++ joined texts in
-  let same : (front ++ old) ++ (e.more ++ joined (fills n)) ≡ array_text all =
+    let text = old ++ e.more in
+    let n = count - suc (length texts) in
+    let all : List Bytes = texts ++ text ∷ fills n in
+    let len : length all ≡ count = omega (arith, length-append texts (text ∷ fills n), fills_length n, is_open.0) in
+    let each : AllByRecursion (IsNested depth) all = all-append (IsNested depth) texts (text ∷ fills n) is_open.2 (e.whole, fills_are depth n) in
+    let front = header count ++ joined texts in
+    let same : (front ++ old) ++ (e.more ++ joined (fills n)) ≡ array_text all =
     append_assoc front old (e.more ++ joined (fills n))
     ∙ ap (λ z. front ++ z) (sym (append_assoc old e.more (joined (fills n))))
     ∙ append_assoc (header count) (joined texts) (text ++ joined (fills n))
     ∙ ap (λ z. header count ++ z) (sym (joined-append texts (text ∷ fills n)))
     ∙ ap (λ m. header m ++ joined all) (sym len) in
-  subst (λ z. Ends 8 z (need + (3 * n + owed stack))) (sym (append_assoc (seen_levels stack) front old))
+    subst (λ z. Ends 8 z (need + (3 * n + owed stack))) (sym (append_assoc (seen_levels stack) front old))
     (cast 8 (seen_levels stack ++ (front ++ old)) ((need + 3 * n) + owed stack) (need + (3 * n + owed stack)) (omega arith) (levels_end (suc depth) stack (front ++ old) (need + 3 * n) is_open.3
-      (by_text (suc depth) (front ++ old) (e.more ++ joined (fills n)) (array_text all) (need + 3 * n) (omega (arith, e.exact, fills_bytes n, length-append e.more (joined (fills n)))) (omega (arith, e.some, length-append e.more (joined (fills n)))) (inr (all, each, omega (arith, len, is_open.1), refl)) same)))
+    (by_text (suc depth) (front ++ old) (e.more ++ joined (fills n)) (array_text all) (need + 3 * n) (omega (arith, e.exact, fills_bytes n, length-append e.more (joined (fills n)))) (omega (arith, e.some, length-append e.more (joined (fills n)))) (inr (all, each, omega (arith, len, is_open.1), refl)) same)))
 
 -- the least that ends it: so many bytes as `needs` says
 pub finish : (m : Machine) → IsOpenWithin m → IsReplyPart (seen m)
 finish m within =
-  let o = within.is_open in
-  let e = levels_end o.1.0 m.stack (part m.stage m.line) (stage_needs m.stage (length m.line) (length m.stack)) o.1.1 (stage_ends m.stage m.line o.1.0 (length m.stack) (depth_is o.1.0 m.stack o.1.1) o.0) in
-  record {
-    more = e.more;
-    whole = record { nested = e.whole; short = omega (arith, e.exact, within.small, length-append (seen m) e.more); };
-    some = e.some;
-  }
+    let o = within.is_open in
+    let e = levels_end o.1.0 m.stack (part m.stage m.line) (stage_needs m.stage (length m.line) (length m.stack)) o.1.1 (stage_ends m.stage m.line o.1.0 (length m.stack) (depth_is o.1.0 m.stack o.1.1) o.0) in
+    record {
+      more = e.more;
+      whole = record { nested = e.whole; short = omega (arith, e.exact, within.small, length-append (seen m) e.more) };
+      some = e.some;
+    }

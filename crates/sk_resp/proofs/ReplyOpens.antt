@@ -1,7 +1,7 @@
 -- A byte keeps what a state says of the bytes that have come.
-use Rattle.std.proofs.Common.{◌≡◌, ◌≢◌, ◌+◌, ◌-◌, ◌*◌, ◌/◌, ◌%◌, ◌<◌, ◌≤◌, ◌^◌, ℕ, ℤ, pos, negsuc, zero, suc, List, [], ◌∷◌, ◌++◌, length, Bool, true, false, cond, eqb, ltb, leb, Option, Some, None, inl, inr, refl, sym, ap, subst, ◌∙◌, arith, append_assoc, append-nil, length-append}
+use Rattle.std.proofs.Common.{◌≡◌, ◌≢◌, ◌+◌, ◌-◌, ◌*◌, ◌/◌, ◌%◌, ◌<◌, ◌≤◌, ◌^◌, ℕ, pos, negsuc, zero, suc, List, [], ◌∷◌, ◌++◌, length, Bool, true, false, cond, eqb, ltb, leb, Option, Some, None, inl, inr, refl, sym, ap, subst, ◌∙◌, arith, append_assoc, append-nil, length-append}
 use Rattle.std.specs.List.{AllByRecursion}
-use Rattle.std.specs.Fmt.{decimal, signed_decimal}
+use Rattle.std.specs.Fmt.{decimal}
 use Rattle.std.proofs.lemmas.Fmt.{decimal_step, decimal_digit}
 use Rattle.std.proofs.lemmas.Bool.Decides.{eqb_tells}
 use Rattle.sk_resp.specs.Spelling.{Bytes, line, header, opened, bulk, joined}
@@ -63,20 +63,20 @@ settled-went depth ((count, texts) ∷ stack) text is_open is =
     let more : AllByRecursion (IsNested depth) (texts ++ text ∷ []) = all-append (IsNested depth) texts (text ∷ []) is_open.2 (is, tt) in
     let len : length (texts ++ text ∷ []) ≡ suc (length texts) = length-append texts (text ∷ []) ∙ omega arith in
     let same : seen_levels stack ++ (header count ++ joined (texts ++ text ∷ [])) ≡ (seen_levels stack ++ (header count ++ joined texts)) ++ text =
-      ap (λ z. seen_levels stack ++ (header count ++ z)) (joined-more texts text)
-      ∙ ap (λ z. seen_levels stack ++ z) (sym (append_assoc (header count) (joined texts) text))
-      ∙ sym (append_assoc (seen_levels stack) (header count ++ joined texts) text) in
+    ap (λ z. seen_levels stack ++ (header count ++ z)) (joined-more texts text)
+    ∙ ap (λ z. seen_levels stack ++ z) (sym (append_assoc (header count) (joined texts) text))
+    ∙ sym (append_assoc (seen_levels stack) (header count ++ joined texts) text) in
     by_cond (Went ((seen_levels stack ++ (header count ++ joined texts)) ++ text)) (ltb (suc (length texts)) count) _ _
-      (λ t. record {
-        is = sym (append-nil _ ∙ same);
-        each = tt;
-        is_open = (refl, (depth, (grind (arith, len), is_open.1, more, is_open.3)));
-      })
-      (λ f.
-        let full : length (texts ++ text ∷ []) ≡ count = grind (arith, len, is_open.0) in
-        subst (λ z. Went z (settled stack (array_text (texts ++ text ∷ []))))
-          (ap (λ n. seen_levels stack ++ (header n ++ joined (texts ++ text ∷ []))) full ∙ same)
-          (settled-went (suc depth) stack (array_text (texts ++ text ∷ [])) is_open.3 (inr (texts ++ text ∷ [], more, omega (arith, full, is_open.1), refl))))
+    (λ t. record {
+      is = sym (append-nil _ ∙ same);
+      each = tt;
+      is_open = (refl, (depth, (grind (arith, len), is_open.1, more, is_open.3)));
+    })
+    (λ f.
+    let full : length (texts ++ text ∷ []) ≡ count = grind (arith, len, is_open.0) in
+    subst (λ z. Went z (settled stack (array_text (texts ++ text ∷ []))))
+    (ap (λ n. seen_levels stack ++ (header n ++ joined (texts ++ text ∷ []))) full ∙ same)
+    (settled-went (suc depth) stack (array_text (texts ++ text ∷ [])) is_open.3 (inr (texts ++ text ∷ [], more, omega (arith, full, is_open.1), refl))))
 
 -- ## One stage after the other
 
@@ -103,21 +103,21 @@ array-within (suc depth) texts each some few = let e : suc depth - 1 ≡ depth =
 
 ends-went : (depth : ℕ) (stack : Levels) (old text : List ℕ) (b : ℕ) → AreOpen depth stack → IsNested depth text → old ++ 10 ∷ [] ≡ text → Went ((seen_levels stack ++ old) ++ b ∷ []) (ends stack text b)
 ends-went depth stack old text b is_open is e = by_cond (Went ((seen_levels stack ++ old) ++ b ∷ [])) (eqb b 10) _ _
-  (λ t. subst (λ z. Went z (settled stack text)) (ap (λ z. seen_levels stack ++ z) (sym e ∙ ap (λ c. old ++ c ∷ []) (sym (same b 10 t))) ∙ sym (append_assoc (seen_levels stack) old (b ∷ []))) (settled-went depth stack text is_open is))
-  (λ f. tt)
+    (λ t. subst (λ z. Went z (settled stack text)) (ap (λ z. seen_levels stack ++ z) (sym e ∙ ap (λ c. old ++ c ∷ []) (sym (same b 10 t))) ∙ sym (append_assoc (seen_levels stack) old (b ∷ []))) (settled-went depth stack text is_open is))
+    (λ f. tt)
 
 empty_text : (text : List ℕ) → text ≡ [] → IsLineText text
 empty_text text e = subst IsLineText (sym e) (record { plain = tt; short = omega arith })
 
 starts-went : (depth : ℕ) (stack : Levels) (text : List ℕ) (b : ℕ) → AreOpen depth stack → text ≡ [] → Went ((seen_levels stack ++ []) ++ b ∷ []) (starts text stack b)
 starts-went depth stack text b is_open e =
-  let W : Out → Type 0 = Went ((seen_levels stack ++ []) ++ b ∷ []) in
-  by_cond W (eqb b 43) _ _ (λ t. goes stack [] b stage.Simple text depth is_open (empty_text text e) (cc (e, same b 43 t)))
-  (λ f. by_cond W (eqb b 45) _ _ (λ t. goes stack [] b stage.Error text depth is_open (empty_text text e) (cc (e, same b 45 t)))
-  (λ f. by_cond W (eqb b 58) _ _ (λ t. goes stack [] b (stage.Sign kind.Int) text depth is_open tt (cc (same b 58 t)))
-  (λ f. by_cond W (eqb b 36) _ _ (λ t. goes stack [] b (stage.Sign kind.Bulk) text depth is_open tt (cc (same b 36 t)))
-  (λ f. by_cond W (eqb b 42) _ _ (λ t. goes stack [] b (stage.Sign kind.Array) text depth is_open tt (cc (same b 42 t)))
-  (λ f. tt)))))
+    let W : Out → Type 0 = Went ((seen_levels stack ++ []) ++ b ∷ []) in
+    by_cond W (eqb b 43) _ _ (λ t. goes stack [] b stage.Simple text depth is_open (empty_text text e) (cc (e, same b 43 t)))
+    (λ f. by_cond W (eqb b 45) _ _ (λ t. goes stack [] b stage.Error text depth is_open (empty_text text e) (cc (e, same b 45 t)))
+    (λ f. by_cond W (eqb b 58) _ _ (λ t. goes stack [] b (stage.Sign kind.Int) text depth is_open tt (cc (same b 58 t)))
+    (λ f. by_cond W (eqb b 36) _ _ (λ t. goes stack [] b (stage.Sign kind.Bulk) text depth is_open tt (cc (same b 36 t)))
+    (λ f. by_cond W (eqb b 42) _ _ (λ t. goes stack [] b (stage.Sign kind.Array) text depth is_open tt (cc (same b 42 t)))
+    (λ f. tt)))))
 
 pub differs : (x y : ℕ) → eqb x y ≡ false → x ≢ y
 differs x y f = λ e. elim (eqb_tells x y) [ inl g ↦ (let no : true ≡ false = sym g.0 ∙ f in cc) | inr g ↦ g.1 e ]
@@ -129,14 +129,14 @@ text_more text b is p q lt = record {
 }
 
 lines-went : (m : ℕ) (stay end : Stage) (depth : ℕ) (stack : Levels) (text : List ℕ) (b : ℕ) → AreOpen depth stack → IsLineText text
-  → ((xs : List ℕ) → IsLineText xs → IsOpenAt stay xs (length stack)) → IsOpenAt end text (length stack) → ((xs : List ℕ) → part stay xs ≡ m ∷ xs) → part end text ≡ (m ∷ text) ++ 13 ∷ []
-  → Went ((seen_levels stack ++ (m ∷ text)) ++ b ∷ []) (lines stay end text stack b)
+    → ((xs : List ℕ) → IsLineText xs → IsOpenAt stay xs (length stack)) → IsOpenAt end text (length stack) → ((xs : List ℕ) → part stay xs ≡ m ∷ xs) → part end text ≡ (m ∷ text) ++ 13 ∷ []
+    → Went ((seen_levels stack ++ (m ∷ text)) ++ b ∷ []) (lines stay end text stack b)
 lines-went m stay end depth stack text b is_open is open_stay open_end e f =
-  let W : Out → Type 0 = Went ((seen_levels stack ++ (m ∷ text)) ++ b ∷ []) in
-  by_cond W (eqb b 13) _ _ (λ t. goes stack (m ∷ text) b end text depth is_open open_end (f ∙ ap (λ c. (m ∷ text) ++ c ∷ []) (sym (same b 13 t))))
-  (λ p. by_cond W (eqb b 10) _ _ (λ t. tt)
-  (λ q. by_cond W (leb (2 ^ 16) (length text)) _ _ (λ t. tt)
-  (λ r. goes stack (m ∷ text) b stay (text ++ b ∷ []) depth is_open (open_stay (text ++ b ∷ []) (text_more text b is (differs b 13 p) (differs b 10 q) (grind arith))) (e (text ++ b ∷ [])))))
+    let W : Out → Type 0 = Went ((seen_levels stack ++ (m ∷ text)) ++ b ∷ []) in
+    by_cond W (eqb b 13) _ _ (λ t. goes stack (m ∷ text) b end text depth is_open open_end (f ∙ ap (λ c. (m ∷ text) ++ c ∷ []) (sym (same b 13 t))))
+    (λ p. by_cond W (eqb b 10) _ _ (λ t. tt)
+    (λ q. by_cond W (leb (2 ^ 16) (length text)) _ _ (λ t. tt)
+    (λ r. goes stack (m ∷ text) b stay (text ++ b ∷ []) depth is_open (open_stay (text ++ b ∷ []) (text_more text b is (differs b 13 p) (differs b 10 q) (grind arith))) (e (text ++ b ∷ [])))))
 
 room_here : (k : Kind) (depth : ℕ) → is_full k depth ≡ false → HasRoom k false depth
 room_here kind.Int depth f = λ e g. absurd (cc)
@@ -150,16 +150,16 @@ small_digit kind.Array d le = omega arith
 
 signs-went : (k : Kind) (depth : ℕ) (stack : Levels) (text : List ℕ) (b : ℕ) → AreOpen depth stack → Went ((seen_levels stack ++ (mark k ∷ [])) ++ b ∷ []) (signs k text stack b)
 signs-went k depth stack text b is_open =
-  let W : Out → Type 0 = Went ((seen_levels stack ++ (mark k ∷ [])) ++ b ∷ []) in
-  by_cond W (eqb b 45) _ _ (λ t. goes stack (mark k ∷ []) b (stage.Minus k) text depth is_open tt (cc (same b 45 t)))
-  (λ f. by_digit (λ o. W (first_digit k text stack o)) b tt (λ d le e.
+    let W : Out → Type 0 = Went ((seen_levels stack ++ (mark k ∷ [])) ++ b ∷ []) in
+    by_cond W (eqb b 45) _ _ (λ t. goes stack (mark k ∷ []) b (stage.Minus k) text depth is_open tt (cc (same b 45 t)))
+    (λ f. by_digit (λ o. W (first_digit k text stack o)) b tt (λ d le e.
     by_cond W (is_full k (length stack)) _ _ (λ t. tt)
     (λ g. goes stack (mark k ∷ []) b (stage.Digits k false d) text depth is_open (small_digit k d le, room_here k (length stack) g) (ap (λ z. mark k ∷ z) (decimal_digit d (omega arith) ∙ ap (λ c. c ∷ []) (sym e))))))
 
 minus-went : (k : Kind) (depth : ℕ) (stack : Levels) (text : List ℕ) (b : ℕ) → AreOpen depth stack → Went ((seen_levels stack ++ (mark k ∷ 45 ∷ [])) ++ b ∷ []) (minus_digit k text stack (digit_of b))
 minus-went k depth stack text b is_open =
-  let W : Out → Type 0 = Went ((seen_levels stack ++ (mark k ∷ 45 ∷ [])) ++ b ∷ []) in
-  by_digit (λ o. W (minus_digit k text stack o)) b tt (λ d le e.
+    let W : Out → Type 0 = Went ((seen_levels stack ++ (mark k ∷ 45 ∷ [])) ++ b ∷ []) in
+    by_digit (λ o. W (minus_digit k text stack o)) b tt (λ d le e.
     by_cond W (eqb d 0) _ _ (λ t. tt)
     (λ f. by_cond W (ltb (most k true) d) _ _ (λ t. tt)
     (λ g. goes stack (mark k ∷ 45 ∷ []) b (stage.Digits k true d) text depth is_open ((omega (arith, differs d 0 f), grind arith), λ p q. absurd (cc)) (ap (λ z. mark k ∷ 45 ∷ z) (decimal_digit d (omega arith) ∙ ap (λ c. c ∷ []) (sym e))))))
@@ -174,9 +174,9 @@ most_small kind.Array true = omega arith
 
 pub decimal-more : (n d : ℕ) → 0 < n → d ≤ 9 → 10 * n + d < 2 ^ 64 → decimal (10 * n + d) ≡ decimal n ++ (48 + d) ∷ []
 decimal-more n d some le small =
-  let q : (10 * n + d) / 10 ≡ n = omega arith in
-  let r : (10 * n + d) % 10 ≡ d = omega arith in
-  decimal_step (10 * n + d) (omega arith) small ∙ ap (λ z. decimal z ++ (48 + (10 * n + d) % 10) ∷ []) q ∙ ap (λ z. decimal n ++ (48 + z) ∷ []) r
+    let q : (10 * n + d) / 10 ≡ n = omega arith in
+    let r : (10 * n + d) % 10 ≡ d = omega arith in
+    decimal_step (10 * n + d) (omega arith) small ∙ ap (λ z. decimal z ++ (48 + (10 * n + d) % 10) ∷ []) q ∙ ap (λ z. decimal n ++ (48 + z) ∷ []) r
 
 spelled-more : (neg : Bool) (n d : ℕ) → 0 < n → d ≤ 9 → 10 * n + d < 2 ^ 64 → spelled neg (10 * n + d) ≡ spelled neg n ++ (48 + d) ∷ []
 spelled-more false n d some le small = decimal-more n d some le small
@@ -187,31 +187,31 @@ number_of k false n some le = le
 number_of k true n some le = (some, le)
 
 digits-went : (k : Kind) (neg : Bool) (n depth : ℕ) (stack : Levels) (text : List ℕ) (b : ℕ) → AreOpen depth stack → IsNumber k neg n → HasRoom k neg (length stack)
-  → Went ((seen_levels stack ++ (mark k ∷ spelled neg n)) ++ b ∷ []) (digits k neg n text stack b)
+    → Went ((seen_levels stack ++ (mark k ∷ spelled neg n)) ++ b ∷ []) (digits k neg n text stack b)
 digits-went k neg n depth stack text b is_open is room =
-  let W : Out → Type 0 = Went ((seen_levels stack ++ (mark k ∷ spelled neg n)) ++ b ∷ []) in
-  by_cond W (eqb b 13) _ _ (λ t. goes stack (mark k ∷ spelled neg n) b (stage.DigitsEnd k neg n) text depth is_open (is, room) (ap (λ c. (mark k ∷ spelled neg n) ++ c ∷ []) (sym (same b 13 t))))
-  (λ f. by_digit (λ o. W (more_digit k neg n text stack o)) b tt (λ d le e.
+    let W : Out → Type 0 = Went ((seen_levels stack ++ (mark k ∷ spelled neg n)) ++ b ∷ []) in
+    by_cond W (eqb b 13) _ _ (λ t. goes stack (mark k ∷ spelled neg n) b (stage.DigitsEnd k neg n) text depth is_open (is, room) (ap (λ c. (mark k ∷ spelled neg n) ++ c ∷ []) (sym (same b 13 t))))
+    (λ f. by_digit (λ o. W (more_digit k neg n text stack o)) b tt (λ d le e.
     by_cond W (eqb n 0) _ _ (λ t. tt)
     (λ g. by_cond W (ltb 922337203685477580 n) _ _ (λ t. tt)
     (λ h. by_cond W (ltb (most k neg) (10 * n + d)) _ _ (λ t. tt)
     (λ i.
-      let some : 0 < n = omega (arith, differs n 0 g) in
-      let small : 10 * n + d ≤ most k neg = grind arith in
-      goes stack (mark k ∷ spelled neg n) b (stage.Digits k neg (10 * n + d)) text depth is_open (number_of k neg (10 * n + d) (omega arith) small, room)
-        (ap (λ z. mark k ∷ z) (spelled-more neg n d some le (omega (arith, most_small k neg)) ∙ ap (λ c. spelled neg n ++ c ∷ []) (sym e))))))))
+    let some : 0 < n = omega (arith, differs n 0 g) in
+    let small : 10 * n + d ≤ most k neg = grind arith in
+    goes stack (mark k ∷ spelled neg n) b (stage.Digits k neg (10 * n + d)) text depth is_open (number_of k neg (10 * n + d) (omega arith) small, room)
+    (ap (λ z. mark k ∷ z) (spelled-more neg n d some le (omega (arith, most_small k neg)) ∙ ap (λ c. spelled neg n ++ c ∷ []) (sym e))))))))
 
 bodies-went : (need depth : ℕ) (stack : Levels) (text : List ℕ) (b : ℕ) → AreOpen depth stack → length text ≤ need → need ≤ 2 ^ 31
-  → Went ((seen_levels stack ++ (opened need text)) ++ b ∷ []) (bodies need text stack b)
+    → Went ((seen_levels stack ++ (opened need text)) ++ b ∷ []) (bodies need text stack b)
 unfolding opened
 bodies-went need depth stack text b is_open le short =
-  let old = opened need text in
-  let W : Out → Type 0 = Went ((seen_levels stack ++ old) ++ b ∷ []) in
-  by_cond W (ltb (length text) need) _ _
-  (λ t. goes stack old b (stage.Body need) (text ++ b ∷ []) depth is_open (grind (arith, length-append text (b ∷ [])), short) (sym (append_assoc (line (36 ∷ decimal need)) text (b ∷ []))))
-  (λ f. by_cond W (eqb b 13) _ _
+    let old = opened need text in
+    let W : Out → Type 0 = Went ((seen_levels stack ++ old) ++ b ∷ []) in
+    by_cond W (ltb (length text) need) _ _
+    (λ t. goes stack old b (stage.Body need) (text ++ b ∷ []) depth is_open (grind (arith, length-append text (b ∷ [])), short) (sym (append_assoc (line (36 ∷ decimal need)) text (b ∷ []))))
+    (λ f. by_cond W (eqb b 13) _ _
     (λ t. let len : length text ≡ need = grind arith in goes stack old b stage.BodyEnd text depth is_open (omega arith)
-       (ap (λ n. (line (36 ∷ decimal n) ++ text) ++ 13 ∷ []) len ∙ ap (λ c. old ++ c ∷ []) (sym (same b 13 t))))
+    (ap (λ n. (line (36 ∷ decimal n) ++ text) ++ 13 ∷ []) len ∙ ap (λ c. old ++ c ∷ []) (sym (same b 13 t))))
     (λ g. tt))
 
 pub one : (n : ℕ) → 0 < n → n ≤ 1 → decimal n ≡ 49 ∷ []
@@ -228,15 +228,15 @@ int_old true n = crlf (58 ∷ 45 ∷ decimal n)
 
 -- behind an LF
 number-went : (k : Kind) (neg : Bool) (n depth : ℕ) (stack : Levels) → AreOpen depth stack → IsNumber k neg n → HasRoom k neg (length stack)
-  → Went (seen_levels stack ++ (((mark k ∷ spelled neg n) ++ 13 ∷ []) ++ 10 ∷ [])) (number k neg n stack)
+    → Went (seen_levels stack ++ (((mark k ∷ spelled neg n) ++ 13 ∷ []) ++ 10 ∷ [])) (number k neg n stack)
 unfolding header opened
 number-went kind.Int neg n depth stack is_open is room =
-  subst (λ z. Went (seen_levels stack ++ z) (settled stack (number_text neg n))) (sym (int_old neg n)) (settled-went depth stack (number_text neg n) is_open (flat-within depth (number_text neg n) (int_flat neg n is)))
+    subst (λ z. Went (seen_levels stack ++ z) (settled stack (number_text neg n))) (sym (int_old neg n)) (settled-went depth stack (number_text neg n) is_open (flat-within depth (number_text neg n) (int_flat neg n is)))
 number-went kind.Bulk true n depth stack is_open is room =
-  subst (λ z. Went (seen_levels stack ++ z) (settled stack (line (36 ∷ 45 ∷ 49 ∷ [])))) (ap (λ z. line (36 ∷ 45 ∷ z)) (sym (one n is.0 is.1)) ∙ sym (crlf (36 ∷ 45 ∷ decimal n)))
+    subst (λ z. Went (seen_levels stack ++ z) (settled stack (line (36 ∷ 45 ∷ 49 ∷ [])))) (ap (λ z. line (36 ∷ 45 ∷ z)) (sym (one n is.0 is.1)) ∙ sym (crlf (36 ∷ 45 ∷ decimal n)))
     (settled-went depth stack (line (36 ∷ 45 ∷ 49 ∷ [])) is_open (flat-within depth (line (36 ∷ 45 ∷ 49 ∷ [])) (null_text refl)))
 number-went kind.Array true n depth stack is_open is room =
-  subst (λ z. Went (seen_levels stack ++ z) (settled stack (line (42 ∷ 45 ∷ 49 ∷ [])))) (ap (λ z. line (42 ∷ 45 ∷ z)) (sym (one n is.0 is.1)) ∙ sym (crlf (42 ∷ 45 ∷ decimal n)))
+    subst (λ z. Went (seen_levels stack ++ z) (settled stack (line (42 ∷ 45 ∷ 49 ∷ [])))) (ap (λ z. line (42 ∷ 45 ∷ z)) (sym (one n is.0 is.1)) ∙ sym (crlf (42 ∷ 45 ∷ decimal n)))
     (settled-went depth stack (line (42 ∷ 45 ∷ 49 ∷ [])) is_open (flat-within depth (line (42 ∷ 45 ∷ 49 ∷ [])) (null_array_text refl)))
 number-went kind.Bulk false n depth stack is_open is room = record {
   is = ap (λ z. seen_levels stack ++ z) (crlf (36 ∷ decimal n) ∙ sym (append-nil (line (36 ∷ decimal n))));
@@ -245,23 +245,23 @@ number-went kind.Bulk false n depth stack is_open is room = record {
 }
 number-went kind.Array false n zero stack is_open is room = absurd (omega (arith, room refl refl, depth_is zero stack is_open))
 number-went kind.Array false n (suc depth) stack is_open is room =
-  by_cond (Went (seen_levels stack ++ (((42 ∷ decimal n) ++ 13 ∷ []) ++ 10 ∷ []))) (eqb n 0) _ _
-  (λ t. subst (λ z. Went (seen_levels stack ++ z) (settled stack (array_text [])))
-      (append-nil (header 0) ∙ ap header (sym (same n 0 t)) ∙ sym (crlf (42 ∷ decimal n)))
-      (settled-went (suc depth) stack (array_text []) is_open (inr ([], tt, omega arith, refl))))
-  (λ f. record {
-    is = ap (λ z. seen_levels stack ++ z) (crlf (42 ∷ decimal n) ∙ sym (append-nil (header n))) ∙ sym (append-nil (seen_levels stack ++ (header n ++ [])));
-    each = tt;
-    is_open = (refl, (depth, (omega (arith, differs n 0 f), is, tt, is_open)));
-  })
+    by_cond (Went (seen_levels stack ++ (((42 ∷ decimal n) ++ 13 ∷ []) ++ 10 ∷ []))) (eqb n 0) _ _
+    (λ t. subst (λ z. Went (seen_levels stack ++ z) (settled stack (array_text [])))
+    (append-nil (header 0) ∙ ap header (sym (same n 0 t)) ∙ sym (crlf (42 ∷ decimal n)))
+    (settled-went (suc depth) stack (array_text []) is_open (inr ([], tt, omega arith, refl))))
+    (λ f. record {
+      is = ap (λ z. seen_levels stack ++ z) (crlf (42 ∷ decimal n) ∙ sym (append-nil (header n))) ∙ sym (append-nil (seen_levels stack ++ (header n ++ [])));
+      each = tt;
+      is_open = (refl, (depth, (omega (arith, differs n 0 f), is, tt, is_open)));
+    })
 
 digits_end-went : (k : Kind) (neg : Bool) (n depth : ℕ) (stack : Levels) (b : ℕ) → AreOpen depth stack → IsNumber k neg n → HasRoom k neg (length stack)
-  → Went ((seen_levels stack ++ ((mark k ∷ spelled neg n) ++ 13 ∷ [])) ++ b ∷ []) (digits_end k neg n stack b)
+    → Went ((seen_levels stack ++ ((mark k ∷ spelled neg n) ++ 13 ∷ [])) ++ b ∷ []) (digits_end k neg n stack b)
 digits_end-went k neg n depth stack b is_open is room =
-  let old = (mark k ∷ spelled neg n) ++ 13 ∷ [] in
-  by_cond (Went ((seen_levels stack ++ old) ++ b ∷ [])) (eqb b 10) _ _
-  (λ t. subst (λ z. Went z (number k neg n stack)) (ap (λ c. seen_levels stack ++ (old ++ c ∷ [])) (sym (same b 10 t)) ∙ sym (append_assoc (seen_levels stack) old (b ∷ []))) (number-went k neg n depth stack is_open is room))
-  (λ f. tt)
+    let old = (mark k ∷ spelled neg n) ++ 13 ∷ [] in
+    by_cond (Went ((seen_levels stack ++ old) ++ b ∷ [])) (eqb b 10) _ _
+    (λ t. subst (λ z. Went z (number k neg n stack)) (ap (λ c. seen_levels stack ++ (old ++ c ∷ [])) (sym (same b 10 t)) ∙ sym (append_assoc (seen_levels stack) old (b ∷ []))) (number-went k neg n depth stack is_open is room))
+    (λ f. tt)
 
 went_at : (s : Stage) (text : List ℕ) (stack : Levels) (b depth : ℕ) → AreOpen depth stack → IsOpenAt s text (length stack) → Went ((seen_levels stack ++ part s text) ++ b ∷ []) (go_at s text stack b)
 unfolding opened bulk
@@ -276,7 +276,7 @@ went_at (stage.Digits k neg n) text stack b depth levels_open is_open = digits-w
 went_at (stage.DigitsEnd k neg n) text stack b depth levels_open is_open = digits_end-went k neg n depth stack b levels_open is_open.0 is_open.1
 went_at (stage.Body need) text stack b depth levels_open is_open = bodies-went need depth stack text b levels_open is_open.0 is_open.1
 went_at stage.BodyEnd text stack b depth levels_open is_open = ends-went depth stack ((line (36 ∷ decimal (length text)) ++ text) ++ 13 ∷ []) (bulk text) b levels_open (flat-within depth (bulk text) (bulk_text text is_open refl))
-  (append_assoc (line (36 ∷ decimal (length text)) ++ text) (13 ∷ []) (10 ∷ []) ∙ append_assoc (line (36 ∷ decimal (length text))) text (13 ∷ 10 ∷ []))
+    (append_assoc (line (36 ∷ decimal (length text)) ++ text) (13 ∷ []) (10 ∷ []) ∙ append_assoc (line (36 ∷ decimal (length text))) text (13 ∷ 10 ∷ []))
 
 pub went : (m : Machine) (b : ℕ) → IsOpen m → Went (seen m ++ b ∷ []) (go m b)
 went m b is_open = went_at m.stage m.line m.stack b is_open.1.0 is_open.1.1 is_open.0

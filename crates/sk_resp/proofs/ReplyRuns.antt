@@ -1,6 +1,5 @@
 -- Bytes one after another, with any step.
-use Rattle.std.proofs.Common.{◌≡◌, ◌+◌, ◌<◌, ◌≤◌, ℕ, zero, suc, List, [], ◌∷◌, ◌++◌, length, take, drop, get_or, refl, sym, ap, subst, ◌∙◌, arith, append_assoc, append-nil, length-append, map}
-use Rattle.std.specs.List.{AllByRecursion}
+use Rattle.std.proofs.Common.{◌≡◌, ◌+◌, ℕ, List, [], ◌∷◌, ◌++◌, take, drop, refl, sym, ap, subst, ◌∙◌, append_assoc, append-nil}
 use Rattle.std.proofs.Math.Seq.{take-add}
 use Rattle.sk_resp.specs.Spelling.{Bytes, joined}
 use Rattle.sk_resp.specs.ReplyStream.{IsNested}
@@ -43,7 +42,7 @@ runs-one step m b = onward-nil step (step m b)
 -- the next bytes of an input
 pub runs-more : (step : Machine → ℕ → Out) (m next last : Machine) (bytes : Bytes) (i n : ℕ) (added texts : List Bytes) → runs step m (take i bytes) ≡ gives added next → runs step next (take n (drop i bytes)) ≡ gives texts last → runs step m (take (i + n) bytes) ≡ gives (added ++ texts) last
 runs-more step m next last bytes i n added texts e f =
-  ap (runs step m) (take-add i n bytes) ∙ runs-on step m next (take i bytes) (take n (drop i bytes)) added e ∙ ap (after added) f
+    ap (runs step m) (take-add i n bytes) ∙ runs-on step m next (take i bytes) (take n (drop i bytes)) added e ∙ ap (after added) f
 
 pub went_to : (m next : Machine) (b : ℕ) (texts : List Bytes) → IsOpen m → go m b ≡ gives texts next → Good (IsNested 8) IsOpen (seen m ++ b ∷ []) texts next
 went_to m next b texts is_open e = subst (Went (seen m ++ b ∷ [])) e (went m b is_open)
@@ -62,7 +61,7 @@ good_on P Q step old bytes (gives texts m) w h = good_after P Q old bytes texts 
 
 -- what holds of each step holds of all of them
 pub went-runs : (P : Bytes → Type 0) (Q : Machine → Type 0) (step : Machine → ℕ → Out) → ((m : Machine) (b : ℕ) → Q m → WentTo P Q (seen m ++ b ∷ []) (step m b)) → (m : Machine) (bytes : Bytes) → Q m → WentTo P Q (seen m ++ bytes) (runs step m bytes)
-went-runs P Q step h m [] is_open = record { is = append-nil (seen m); each = tt; is_open = is_open; }
+went-runs P Q step h m [] is_open = record { is = append-nil (seen m); each = tt; is_open = is_open }
 went-runs P Q step h m (b ∷ bytes) is_open = subst (λ z. WentTo P Q z (runs step m (b ∷ bytes))) (append_assoc (seen m) (b ∷ []) bytes) (good_on P Q step (seen m ++ b ∷ []) bytes (step m b) (h m b is_open) (λ n is. went-runs P Q step h n bytes is))
 
 pub ran_to : (m next : Machine) (bytes : Bytes) (texts : List Bytes) → IsOpen m → run m bytes ≡ gives texts next → Good (IsNested 8) IsOpen (seen m ++ bytes) texts next

@@ -1,8 +1,8 @@
 -- Each reply within the limits has a text that a reader takes.
-use Rattle.std.proofs.Common.{◌≡◌, ◌≢◌, ◌+◌, ◌<◌, ◌≤◌, ◌^◌, ℕ, List, [], ◌∷◌, ◌++◌, length, Bool, true, false, cond, eqb, ltb, leb, inl, inr, refl, sym, ap, subst, ◌∙◌, arith, length-append}
-use Rattle.std.specs.Prelude.{codes, ◌&&◌, nat_le, if◌then◌else◌}
+use Rattle.std.proofs.Common.{◌≡◌, ◌≢◌, ◌≤◌, ◌^◌, ℕ, [], ◌∷◌, ◌++◌, length, Bool, true, false, cond, eqb, leb, inl, inr, refl, arith}
+use Rattle.std.specs.Prelude.{codes, ◌&&◌, nat_le}
 use Rattle.std.specs.List.{AllByRecursion}
-use Rattle.sk_resp.specs.Spelling.{Bytes, cr, lf, plus, minus, line}
+use Rattle.sk_resp.specs.Spelling.{Bytes, cr, lf, minus, line}
 use Rattle.sk_resp.specs.Name.{spelling}
 use Rattle.sk_resp.specs.Reply.{shown, fault_text, say_text, wire}
 use Rattle.sk_resp.specs.ReplyStream.{IsLineText, IsFlat, IsNested, IsReplyText, IsWithin, IsWritable, simple_text, error_text, int_text, bulk_text, null_text, null_array_text}
@@ -43,7 +43,7 @@ plain_text (b ∷ text) e = let p = both (is_plain b) (are_plain text) e in (pla
 
 -- a text whose bytes can be computed
 fixed : (text : Bytes) → are_plain text ≡ true → leb (length text) (2 ^ 16) ≡ true → IsLineText text
-fixed text p q = record { plain = plain_text text p; short = grind arith; }
+fixed text p q = record { plain = plain_text text p; short = grind arith }
 
 first_of : (a b : Bool) → (a && b) ≡ true → a ≡ true
 first_of true b e = refl
@@ -94,4 +94,4 @@ nested (reply.Array texts) is = inr (texts, is.0, is.1, refl)
 nested reply.NullArray is = inl (null_array_text refl)
 
 pub has_text : (r : Reply) → IsWritable r → IsReplyText (wire r)
-has_text r is = record { nested = nested r is.within; short = is.short; }
+has_text r is = record { nested = nested r is.within; short = is.short }

@@ -1,6 +1,6 @@
 -- The reader of replies as a machine over bytes: what it keeps of a reply that isn't whole, what a byte does to it, and how many bytes the
 -- reply must still have. No public contract speaks of it.
-use Rattle.std.specs.Prelude.{◌≡◌, ◌≢◌, ◌<◌, ◌≤◌, ◌+◌, ◌-◌, ◌*◌, ◌^◌, ℕ, zero, suc, List, [], ◌∷◌, ◌++◌, length, map, reverse, Option, Some, None, Bool, true, false, cond, eqb, ltb, leb, codes, take, get_or}
+use Rattle.std.specs.Prelude.{◌≡◌, ◌<◌, ◌≤◌, ◌+◌, ◌-◌, ◌*◌, ◌^◌, ℕ, suc, List, [], ◌∷◌, ◌++◌, length, map, reverse, Option, Some, None, Bool, true, false, cond, eqb, ltb, leb, codes}
 use Rattle.std.specs.Fmt.{decimal}
 use Rattle.std.specs.List.{AllByRecursion}
 use Rattle.sk_resp.specs.Spelling.{Bytes, star, dollar, plus, minus, colon, cr, lf, line, header, opened, bulk, joined}
@@ -58,17 +58,17 @@ digit_of b = cond (ltb b 48) None (cond (ltb 57 b) None (Some (b - 48)))
 
 abbrev pub starts : Bytes → Levels → ℕ → Out
 starts line stack b =
-  cond (eqb b plus) (gives [] (at stage.Simple line stack))
+    cond (eqb b plus) (gives [] (at stage.Simple line stack))
     (cond (eqb b minus) (gives [] (at stage.Error line stack))
-      (cond (eqb b colon) (gives [] (at (stage.Sign kind.Int) line stack))
-        (cond (eqb b dollar) (gives [] (at (stage.Sign kind.Bulk) line stack))
-          (cond (eqb b star) (gives [] (at (stage.Sign kind.Array) line stack)) fails))))
+    (cond (eqb b colon) (gives [] (at (stage.Sign kind.Int) line stack))
+    (cond (eqb b dollar) (gives [] (at (stage.Sign kind.Bulk) line stack))
+    (cond (eqb b star) (gives [] (at (stage.Sign kind.Array) line stack)) fails))))
 
 abbrev pub lines : Stage → Stage → Bytes → Levels → ℕ → Out
 lines stay end line stack b =
-  cond (eqb b cr) (gives [] (at end line stack))
+    cond (eqb b cr) (gives [] (at end line stack))
     (cond (eqb b lf) fails
-      (cond (leb (2 ^ 16) (length line)) fails (gives [] (at stay (line ++ b ∷ []) stack))))
+    (cond (leb (2 ^ 16) (length line)) fails (gives [] (at stay (line ++ b ∷ []) stack))))
 
 abbrev pub ends : Levels → Bytes → ℕ → Out
 ends stack text b = cond (eqb b lf) (settled stack text) fails
@@ -87,9 +87,9 @@ minus_digit k line stack (Some d) = cond (eqb d 0) fails (cond (ltb (most k true
 abbrev pub more_digit : Kind → Bool → ℕ → Bytes → Levels → Option ℕ → Out
 more_digit k neg n line stack None = fails
 more_digit k neg n line stack (Some d) =
-  cond (eqb n 0) fails
+    cond (eqb n 0) fails
     (cond (ltb 922337203685477580 n) fails
-      (cond (ltb (most k neg) (10 * n + d)) fails (gives [] (at (stage.Digits k neg (10 * n + d)) line stack))))
+    (cond (ltb (most k neg) (10 * n + d)) fails (gives [] (at (stage.Digits k neg (10 * n + d)) line stack))))
 
 abbrev pub digits : Kind → Bool → ℕ → Bytes → Levels → ℕ → Out
 digits k neg n line stack b = cond (eqb b cr) (gives [] (at (stage.DigitsEnd k neg n) line stack)) (more_digit k neg n line stack (digit_of b))
@@ -111,7 +111,7 @@ digits_end k neg n stack b = cond (eqb b lf) (number k neg n stack) fails
 
 abbrev pub bodies : ℕ → Bytes → Levels → ℕ → Out
 bodies need line stack b =
-  cond (ltb (length line) need) (gives [] (at (stage.Body need) (line ++ b ∷ []) stack))
+    cond (ltb (length line) need) (gives [] (at (stage.Body need) (line ++ b ∷ []) stack))
     (cond (eqb b cr) (gives [] (at stage.BodyEnd line stack)) fails)
 
 abbrev pub go_at : Stage → Bytes → Levels → ℕ → Out

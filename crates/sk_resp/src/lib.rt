@@ -11,11 +11,11 @@ mod wire_fault;
 mod word;
 
 pub use name::Name;
-pub use reply::{Replies, Reply, write_reply};
-pub use reply::{ReplyFault, ReplyFeeder};
-pub use reply::{no_reply_begins_another, replies_come_in_pieces, replies_have_one_reading, replies_have_texts, written_replies_are_read};
-pub use request::{Feeder, one_reading, piece_by_piece, written_is_read};
-pub use request::write_request;
+pub use reply::{
+    Replies, Reply, ReplyFault, ReplyFeeder, no_reply_begins_another, replies_come_in_pieces,
+    replies_have_one_reading, replies_have_texts, write_reply, written_replies_are_read,
+};
+pub use request::{Feeder, one_reading, piece_by_piece, write_request, written_is_read};
 pub use say::Say;
 pub use std::alloc::AllocError as Memory;
 pub use wire_fault::WireFault;

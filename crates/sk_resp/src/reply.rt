@@ -9,15 +9,15 @@ mod number_line;
 mod state;
 mod text;
 
-pub use fault::ReplyFault;
-pub use feeder::ReplyFeeder;
-pub use laws::{
-    no_reply_begins_another, replies_come_in_pieces, replies_have_one_reading, replies_have_texts, written_replies_are_read,
-};
-
 use crate::say::write_say;
 use crate::spelling::{write_bulk, write_header, write_line};
 use crate::{Memory, Say, Word};
+pub use fault::ReplyFault;
+pub use feeder::ReplyFeeder;
+pub use laws::{
+    no_reply_begins_another, replies_come_in_pieces, replies_have_one_reading, replies_have_texts,
+    written_replies_are_read,
+};
 use std::alloc::Global;
 use std::marker::Model;
 

@@ -84,7 +84,13 @@ impl State {
     }
 
     /// Takes a further digit, or the CR behind them.
-    pub fn take_digit(&mut self, kind: Kind, negative: bool, n: usize, byte: u8) -> Result<Option<Reply>, ReplyFault>
+    pub fn take_digit(
+        &mut self,
+        kind: Kind,
+        negative: bool,
+        n: usize,
+        byte: u8,
+    ) -> Result<Option<Reply>, ReplyFault>
         requires { self.old.size ≤ 2 ^ 32 }
         ensures ok { IfOk result (λ found. digits kind negative n self.old.line.items (levels self.old.stack.items) byte ≡ gives (given found) (says self.new)) }
         ensures made { IfOk result (Made self.old self.new) }

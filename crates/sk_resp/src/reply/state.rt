@@ -37,27 +37,9 @@ impl Kind {
         ensures { result ≡ ReplyMachine.most self negative }
     {
         match self {
-            Kind::Int => {
-                if negative {
-                    1 << 63
-                } else {
-                    (1 << 63) - 1
-                }
-            }
-            Kind::Bulk => {
-                if negative {
-                    1
-                } else {
-                    1 << 31
-                }
-            }
-            Kind::Array => {
-                if negative {
-                    1
-                } else {
-                    1 << 31
-                }
-            }
+            Kind::Int => { if negative { 1 << 63 } else { (1 << 63) - 1 } }
+            Kind::Bulk => { if negative { 1 } else { 1 << 31 } }
+            Kind::Array => { if negative { 1 } else { 1 << 31 } }
         }
     }
 
@@ -79,13 +61,7 @@ impl Kind {
         match self {
             Kind::Int => 3,
             Kind::Bulk => 4,
-            Kind::Array => {
-                if depth < DEEPEST {
-                    3
-                } else {
-                    4
-                }
-            }
+            Kind::Array => { if depth < DEEPEST { 3 } else { 4 } }
         }
     }
 
@@ -97,20 +73,8 @@ impl Kind {
     {
         match self {
             Kind::Int => 0,
-            Kind::Bulk => {
-                if negative {
-                    0
-                } else {
-                    n + 2
-                }
-            }
-            Kind::Array => {
-                if negative {
-                    0
-                } else {
-                    3 * n
-                }
-            }
+            Kind::Bulk => { if negative { 0 } else { n + 2 } }
+            Kind::Array => { if negative { 0 } else { 3 * n } }
         }
     }
 }

@@ -215,7 +215,10 @@ fn read_pieces(first: &[u8], second: &[u8], alloc: Global) -> (Vec<Reply>, bool,
 fn streams_are_read_as_replies_however_they_are_cut(rt: HostRuntime) -> Result<(), Fail> {
     let alloc = rt.alloc();
     for row in STREAMS.split(|byte| *byte == b'\n') {
-        let at = row.iter().position(|byte| *byte == b' ').ok_or("a row has two parts")?;
+        let at = row
+            .iter()
+            .position(|byte| *byte == b' ')
+            .ok_or("a row has two parts")?;
         let kinds = &row[..at];
         let (stream, place) = stream_of(alloc, &row[at + 1..])?;
         let (replies, stop) = read_bytes(alloc, &stream)?;
@@ -225,8 +228,16 @@ fn streams_are_read_as_replies_however_they_are_cut(rt: HostRuntime) -> Result<(
         let cuts = if stream.len() < 200 { stream.len() } else { 0 };
         for cut in 0..=cuts {
             let (replies, one, two) = read_pieces(&stream[..cut], &stream[cut..], alloc);
-            assert_eq!(rt; (one, two), (cut <= place, stream.len() <= place), "{row:?} at {cut}");
-            assert_eq!(rt; kinds_of(alloc, &replies)?.as_slice(), kinds, "{row:?} at {cut}");
+            assert_eq!(rt;
+                (one, two),
+                (cut <= place, stream.len() <= place),
+                "{row:?} at {cut}"
+            );
+            assert_eq!(rt;
+                kinds_of(alloc, &replies)?.as_slice(),
+                kinds,
+                "{row:?} at {cut}"
+            );
         }
     }
     Ok(())

@@ -55,7 +55,12 @@ impl State {
     }
 
     /// Takes a byte of a simple or an error text, or the CR behind it, at which the second of these stages follows.
-    pub fn take_text(&mut self, stay: Stage, end: Stage, byte: u8) -> Result<Option<Reply>, ReplyFault>
+    pub fn take_text(
+        &mut self,
+        stay: Stage,
+        end: Stage,
+        byte: u8,
+    ) -> Result<Option<Reply>, ReplyFault>
         requires { self.old.size ≤ 2 ^ 32 }
         ensures ok { IfOk result (λ found. lines stay end self.old.line.items (levels self.old.stack.items) byte ≡ gives (given found) (says self.new)) }
         ensures made { IfOk result (Made self.old self.new) }

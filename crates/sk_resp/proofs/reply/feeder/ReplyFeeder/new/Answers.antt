@@ -1,5 +1,5 @@
-use Rattle.std.proofs.Common.{◌≡◌, ◌+◌, length, subst, sym, ap, ◌∙◌}
-use Rattle.sk_resp.specs.ReplyMachine.{says, seen, owed, IsReached}
+use Rattle.std.proofs.Common.{◌+◌, length, subst, sym, ap, ◌∙◌}
+use Rattle.sk_resp.specs.ReplyMachine.{seen, owed, IsReached}
 use Rattle.sk_resp.proofs.ReplyHearing.{fresh_reached}
 use Rattle.sk_resp.proofs.reply.feeder.ReplyFeeder.new.Goals as goal
 

@@ -1,4 +1,4 @@
-use Rattle.std.proofs.Common.{◌≡◌, ◌+◌, ◌≤◌, ◌^◌, ◌++◌, length, take, subst, arith, length-take-le}
+use Rattle.std.proofs.Common.{length, take, subst, arith, length-take-le}
 use Rattle.sk_resp.specs.ReplyMachine.{levels, IsOpenAt}
 use Rattle.sk_resp.proofs.ReplySizes.{body_taken, simple_taken, error_taken}
 use Rattle.sk_resp.proofs.reply.state.State.more_of_line.Goals as goal
@@ -15,7 +15,7 @@ returns-in-Simple-clause-goes c =
     let n = c.plain_front.result in
     let len = length-take-le n c.args.input.now in
     simple_taken s.stage s.line.items (levels s.stack.items) (take n c.args.input.now) s.size c.in-Simple.is c.requires.sized c.plain_front.ensures.plain
-        (omega (arith, len, c.plain_front.ensures.most, c.text_room.ensures.short)) (omega (arith, len, c.plain_front.ensures.most, c.text_room.ensures.small))
+    (omega (arith, len, c.plain_front.ensures.most, c.text_room.ensures.short)) (omega (arith, len, c.plain_front.ensures.most, c.text_room.ensures.small))
 
 pub returns-in-Error-clause-goes : goal.returns-in-Error-clause-goes
 returns-in-Error-clause-goes c =
@@ -23,4 +23,4 @@ returns-in-Error-clause-goes c =
     let n = c.plain_front-in-Error.result in
     let len = length-take-le n c.args.input.now in
     error_taken s.stage s.line.items (levels s.stack.items) (take n c.args.input.now) s.size c.in-Error.is c.requires.sized c.plain_front-in-Error.ensures.plain
-        (omega (arith, len, c.plain_front-in-Error.ensures.most, c.text_room-in-Error.ensures.short)) (omega (arith, len, c.plain_front-in-Error.ensures.most, c.text_room-in-Error.ensures.small))
+    (omega (arith, len, c.plain_front-in-Error.ensures.most, c.text_room-in-Error.ensures.short)) (omega (arith, len, c.plain_front-in-Error.ensures.most, c.text_room-in-Error.ensures.small))

@@ -1,4 +1,4 @@
-use Rattle.std.proofs.Common.{◌≡◌, ◌≤◌, ◌^◌, ℕ, List, [], length}
+use Rattle.std.proofs.Common.{◌≡◌, [], length}
 use Rattle.sk_resp.specs.Reply.{wire}
 use Rattle.sk_resp.specs.ReplyStream.{IsRead}
 use Rattle.sk_resp.specs.ReplyMachine.{settled, levels, owed}

@@ -1,5 +1,5 @@
-use Rattle.std.proofs.Common.{◌≡◌, ◌+◌, [], length, true, false, subst, sym, ap, ◌∙◌}
-use Rattle.sk_resp.specs.ReplyMachine.{go, gives, given, says, seen, levels, owed, Made}
+use Rattle.std.proofs.Common.{◌≡◌, ◌+◌, [], subst, sym, ◌∙◌}
+use Rattle.sk_resp.specs.ReplyMachine.{go, gives, given, says, Made}
 use Rattle.sk_resp.proofs.ReplyRuns.{went_to}
 use Rattle.sk_resp.proofs.ReplySizes.{counted_size, goes_within, fails_within}
 use Rattle.sk_resp.proofs.reply.state.State.step.Goals as goal

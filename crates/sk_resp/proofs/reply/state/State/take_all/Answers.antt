@@ -1,10 +1,9 @@
-use Rattle.std.proofs.Common.{◌≡◌, ◌+◌, ◌-◌, ◌<◌, ◌≤◌, ℕ, List, [], ◌∷◌, ◌++◌, length, take, drop, get_or, map, subst, sym, ap, ◌∙◌, arith, append_assoc, append-nil, length-take-le, length-drop}
-use Rattle.std.specs.List.{AllByRecursion}
+use Rattle.std.proofs.Common.{◌≡◌, ◌-◌, [], ◌∷◌, ◌++◌, length, take, drop, map, subst, sym, ap, ◌∙◌, arith, append_assoc, append-nil, length-take-le, length-drop}
 use Rattle.std.proofs.lemmas.Result.{err_from_is_err_and}
 use Rattle.std.proofs.lemmas.List.{take_all, map-append}
 use Rattle.sk_resp.specs.Reply.{wire}
 use Rattle.sk_resp.specs.ReplyStream.{IsRead}
-use Rattle.sk_resp.specs.ReplyMachine.{says, given, run_within, go_within, gives, fails, AreRead}
+use Rattle.sk_resp.specs.ReplyMachine.{says, given, run_within, go_within, gives, AreRead}
 use Rattle.sk_resp.proofs.ReplyOpens.{all-append}
 use Rattle.sk_resp.proofs.ReplyRuns.{runs-more}
 use Rattle.sk_resp.proofs.ReplyHearing.{reached_next, reads, stops, rest_is, first_is}
@@ -30,7 +29,7 @@ returns-in_err-push-in-Some-clause-fault c =
     let so_far = l.invariant.so_far in
     rw p.1 (
       so_far.0,
-      record { is = c.in_err-push-in-Some.ensures.items ∙ so_far.1.is; read = so_far.1.read; },
+      record { is = c.in_err-push-in-Some.ensures.items ∙ so_far.1.is; read = so_far.1.read },
       stops (says c.args.self.now) (says l.self) c.args.piece.now l.at (map wire so_far.0) p.0 c.requires.0 (omega (arith, c.loop-at-test.true)) so_far.2 (λ fault. absurd (fault p.2)),
     )
 

@@ -1,4 +1,4 @@
-use Rattle.std.proofs.Common.{◌≡◌, ◌-◌, ◌≤◌, ℕ, List, take, length, map}
+use Rattle.std.proofs.Common.{◌≡◌, ◌-◌, ◌≤◌, List, take, length, map}
 use Rattle.sk_resp.specs.Reply.{wire}
 use Rattle.sk_resp.specs.ReplyStream.{AddsReplies}
 use Rattle.sk_resp.specs.ReplyMachine.{IsHeard, run_within, gives, says}
