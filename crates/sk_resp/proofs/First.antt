@@ -1,14 +1,15 @@
 -- The first item or fault of a stream, computed.
-use Rattle.std.proofs.Common.{◌≡◌, ◌≢◌, ◌+◌, ◌-◌, ◌<◌, ◌≤◌, ◌^◌, ◌⊎◌, ℕ, ℤ, pos, negsuc, List, [], ◌∷◌, ◌++◌, length, Bool, true, false, eqb, ◌||◌, refl, sym, ap, ◌∙◌, arith, append_assoc, append-nil, length-append, inl, inr, zero, suc}
+use Rattle.std.proofs.Common.{◌≡◌, ◌≢◌, ◌+◌, ◌-◌, ◌<◌, ◌≤◌, ◌^◌, ◌⊎◌, ℕ, ℤ, pos, negsuc, List, [], ◌∷◌, ◌++◌, length, Bool, true, false, eqb, ◌||◌, refl, sym, ap, ◌∙◌, arith, append_assoc, append-nil, length-append, subst, inl, inr, zero, suc}
 use Rattle.std.proofs.Math.Bool.{cond}
 use Rattle.std.proofs.lemmas.Bool.{ne_eqb}
 use Rattle.std.specs.List.{AllByRecursion}
 use Rattle.std.specs.Fmt.{decimal, signed_decimal}
-use Rattle.std.proofs.lemmas.Fmt.{length-decimal-le}
+use Rattle.std.proofs.lemmas.Fmt.{decimal_injective, length-decimal-le}
+use Rattle.std.proofs.lemmas.List.{append_cancel_right}
 use Rattle.sk_resp.specs.declared.wire_fault.WireFault.{WireFault}
 use Rattle.sk_resp.specs.declared.wire_fault.WireFault.TheVariants.{MultiLength, BulkLength, NoDollar, Quote, InlineLong, Limit, Memory}
 use Rattle.sk_resp.specs.Spelling.{header, opened, bulk, total_length}
-use Rattle.sk_resp.specs.Request.{bulks, IsWord, NoLf, IsSkipped, IsCountLine, IsLengthLine, IsBadLine, ended, long, IsBadBulk, bad_line, bad_cr, bad_lf, IsInside, IsItem, whole, skipped, inline, IsFault, IsPlain, IsQuote, NoStar, inline_words, if_some}
+use Rattle.sk_resp.specs.Request.{bulks, array, IsWord, IsCommand, IsWanting, NoLf, IsLine, IsCount, IsSkipped, IsCountLine, IsLengthLine, IsBadLine, ended, long, IsBadBulk, bad_line, bad_cr, bad_lf, IsInside, IsItem, whole, skipped, inline, IsFault, IsInline, IsPlain, IsQuote, NoStar, inline_words, if_some}
 use Rattle.sk_resp.proofs.Lines.{no_lf-number}
 use Rattle.sk_resp.proofs.Items.{header-is, bulk-is, opened-is, line_only}
 use Rattle.sk_resp.proofs.Integers.{minus_line}

@@ -1,14 +1,15 @@
 -- What is computed stands in the stream, so that each stream is read in some way.
-use Rattle.std.proofs.Common.{◌≡◌, ◌≢◌, ◌+◌, ◌<◌, ◌≤◌, ◌^◌, ◌⊎◌, ℕ, pos, negsuc, List, [], ◌∷◌, ◌++◌, length, Bool, true, false, eqb, refl, sym, ap, ◌∙◌, arith, append_assoc, append-nil, length-append, subst, zero, suc, inl, inr}
+use Rattle.std.proofs.Common.{◌≡◌, ◌≢◌, ◌+◌, ◌-◌, ◌<◌, ◌≤◌, ◌^◌, ◌⊎◌, ℕ, ℤ, pos, negsuc, List, [], ◌∷◌, ◌++◌, length, Bool, true, false, eqb, ◌||◌, refl, sym, ap, ◌∙◌, arith, append_assoc, append-nil, length-append, subst, zero, suc, inl, inr}
 use Rattle.std.specs.List.{AllByRecursion}
+use Rattle.std.specs.Fmt.{decimal, signed_decimal}
 use Rattle.std.proofs.Math.Bool.{cond}
 use Rattle.std.proofs.lemmas.Bool.{cond_both, eqb-true, eqb-false, or_cases, false≢true}
 use Rattle.std.proofs.lemmas.List.Concat.{flat_map-append}
 use Rattle.sk_resp.specs.declared.wire_fault.WireFault.{WireFault}
-use Rattle.sk_resp.specs.declared.wire_fault.WireFault.TheVariants.{BulkLength, NoDollar, Limit}
+use Rattle.sk_resp.specs.declared.wire_fault.WireFault.TheVariants.{MultiLength, BulkLength, NoDollar, Quote, InlineLong, Limit, Memory}
 use Rattle.sk_resp.specs.Spelling.{header, opened, bulk, total_length}
-use Rattle.sk_resp.specs.Request.{bulks, IsWord, IsWanting, NoLf, IsLine, IsCountLine, IsLengthLine, ended, long, bad_line, bad_cr, bad_lf, IsInside, IsItem, whole, skipped, inline, IsFault, IsPlain, IsQuote, NoStar}
-use Rattle.sk_resp.specs.Stream.{Opens, BeginsNone, Reads, Faulty}
+use Rattle.sk_resp.specs.Request.{bulks, array, IsWord, IsCommand, IsWanting, NoLf, IsLine, IsCount, IsSkipped, IsCountLine, IsLengthLine, IsBadLine, ended, long, IsBadBulk, bad_line, bad_cr, bad_lf, IsInside, IsItem, whole, skipped, inline, IsFault, IsInline, IsPlain, IsQuote, NoStar, inline_words, if_some}
+use Rattle.sk_resp.specs.Stream.{Item, texts_of, commands_of, Opens, BeginsNone, Reads, Faulty}
 use Rattle.sk_resp.proofs.Items.{header-is, bulk-is, opened-is, opened-append, total_length-append, words-append}
 use Rattle.sk_resp.proofs.Decide.{le_or_lt, decide_count, decide_length}
 use Rattle.sk_resp.proofs.Streams.{opens-none, opens-item, opens-then}

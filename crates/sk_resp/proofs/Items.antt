@@ -1,15 +1,15 @@
 -- Items and faults in the form in which a reader meets them.
-use Rattle.std.proofs.Common.{◌≡◌, ◌≢◌, ◌+◌, ◌<◌, ◌≤◌, ◌^◌, ℕ, ℤ, List, [], ◌∷◌, ◌++◌, length, refl, sym, ap, ◌∙◌, arith, append_assoc, append-nil, length-append, take, get_or}
+use Rattle.std.proofs.Common.{◌≡◌, ◌≢◌, ◌+◌, ◌<◌, ◌≤◌, ◌^◌, ℕ, ℤ, pos, negsuc, List, [], ◌∷◌, ◌++◌, length, refl, sym, ap, ◌∙◌, arith, append_assoc, append-nil, length-append, subst, inl, inr, take, get_or, drop, drop-cons}
 use Rattle.std.specs.List.{AllByRecursion}
 use Rattle.std.specs.Fmt.{decimal, signed_decimal}
-use Rattle.std.proofs.lemmas.Fmt.{decimal_injective}
+use Rattle.std.proofs.lemmas.Fmt.{decimal_injective, length-decimal-le}
 use Rattle.std.proofs.lemmas.List.{append_cancel_right}
 use Rattle.std.proofs.lemmas.List.Concat.{flat_map-append}
 use Rattle.sk_resp.specs.Spelling.{header, opened, bulk, total_length}
-use Rattle.sk_resp.specs.Request.{bulks, IsWord, IsCommand, IsWanting, NoLf, IsLine, IsSkipped, IsCountLine, IsLengthLine, IsBadLine, ended, long, bad_line, bad_cr, bad_lf, IsInside, IsItem, skipped, IsFault}
+use Rattle.sk_resp.specs.Request.{bulks, array, IsWord, IsCommand, IsWanting, NoLf, IsLine, IsCount, IsSkipped, IsCountLine, IsLengthLine, IsBadLine, ended, long, IsBadBulk, bad_line, bad_cr, bad_lf, IsInside, IsItem, whole, skipped, inline, IsFault, IsInline, IsPlain, IsQuote, NoStar}
 use Rattle.sk_resp.specs.Reading.{IsOpenWord}
-use Rattle.sk_resp.specs.declared.wire_fault.WireFault.TheVariants.{MultiLength, BulkLength, Limit}
-use Rattle.sk_resp.proofs.Lines.{first_lf, no_lf-number}
+use Rattle.sk_resp.specs.declared.wire_fault.WireFault.TheVariants.{MultiLength, BulkLength, NoDollar, Quote, InlineLong, Limit, Memory}
+use Rattle.sk_resp.proofs.Lines.{first_lf, lf_past, no_lf-number}
 
 -- texts of one length, and the rests behind them
 pub same_parts : (a b x y : List ℕ) → length a ≡ length b → a ++ x ≡ b ++ y → (a ≡ b) × (x ≡ y)

@@ -1,11 +1,17 @@
 -- A stream is read in one way.
-use Rattle.std.proofs.Common.{◌≡◌, ℕ, List, [], ◌∷◌, ◌++◌, refl, sym, ap, ◌∙◌, append_assoc, subst}
+use Rattle.std.proofs.Common.{◌≡◌, ◌≢◌, ◌+◌, ◌-◌, ◌<◌, ◌≤◌, ◌^◌, ◌⊎◌, ℕ, ℤ, pos, negsuc, List, [], ◌∷◌, ◌++◌, length, Bool, true, false, eqb, refl, sym, ap, ◌∙◌, arith, append_assoc, append-nil, length-append, subst, zero, suc, inl, inr}
 use Rattle.std.specs.List.{AllByRecursion}
+use Rattle.std.specs.Fmt.{decimal, signed_decimal}
+use Rattle.std.proofs.Math.Bool.{cond}
+use Rattle.std.proofs.lemmas.Bool.{cond_both}
+use Rattle.std.proofs.lemmas.Bool.Decides.{eqb_tells}
 use Rattle.sk_resp.specs.declared.wire_fault.WireFault.{WireFault}
-use Rattle.sk_resp.specs.Request.{array, IsCommand, IsItem, whole, IsFault}
-use Rattle.sk_resp.specs.Stream.{Item, texts_of, commands_of, Opens, Reads, Faulty}
+use Rattle.sk_resp.specs.declared.wire_fault.WireFault.TheVariants.{MultiLength, BulkLength, NoDollar, Quote, InlineLong, Limit, Memory}
+use Rattle.sk_resp.specs.Spelling.{header, opened, bulk, total_length}
+use Rattle.sk_resp.specs.Request.{bulks, array, IsWord, IsCommand, IsWanting, NoLf, IsLine, IsCount, IsSkipped, IsCountLine, IsLengthLine, IsBadLine, ended, long, IsBadBulk, bad_line, bad_cr, bad_lf, IsInside, IsItem, whole, skipped, inline, IsFault, IsInline, IsPlain, IsQuote, NoStar}
+use Rattle.sk_resp.specs.Stream.{Item, texts_of, commands_of, Opens, BeginsNone, Reads, Faulty}
 use Rattle.sk_resp.proofs.Streams.{gives-same, fails-same, gives-fails, opens-more, opens-then, opens-item}
-use Rattle.sk_resp.proofs.First.{first, first-item, first-fault}
+use Rattle.sk_resp.proofs.First.{Out, gives, fails, open_yet, first, first-item, first-fault}
 
 abbrev NoItem : List ℕ → Type 0
 NoItem bytes = (text more : List ℕ) (commands : List (List (List ℕ))) → IsItem text commands → bytes ≡ text ++ more → ⊥

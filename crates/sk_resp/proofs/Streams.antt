@@ -1,21 +1,21 @@
 -- Streams of items, and the part of one that is open.
-use Rattle.std.proofs.Common.{◌≡◌, ◌+◌, ◌-◌, ◌<◌, ℕ, List, [], ◌∷◌, ◌++◌, length, take, drop, refl, sym, ap, ◌∙◌, arith, append_assoc, append-nil, length-append, length-drop, subst, zero, suc, inl}
-use Rattle.std.specs.List.{AllByRecursion}
+use Rattle.std.proofs.Common.{◌≡◌, ◌≢◌, ◌+◌, ◌-◌, ◌<◌, ◌≤◌, ◌^◌, ℕ, List, [], ◌∷◌, ◌++◌, length, take, drop, refl, sym, ap, ◌∙◌, arith, append_assoc, append-nil, length-append, length-take-le, length-drop, subst, zero, suc, inl, inr}
+use Rattle.std.specs.List.{AllByRecursion, flat_map}
 use Rattle.std.proofs.Math.Seq.{take-add}
-use Rattle.std.proofs.lemmas.List.{take-append-drop, take_all}
+use Rattle.std.proofs.lemmas.List.{take-append-drop, take_all, append_cancel_right}
 use Rattle.std.proofs.lemmas.List.Concat.{flat_map-append}
 use Rattle.sk_resp.specs.declared.wire_fault.WireFault.{WireFault}
-use Rattle.sk_resp.specs.declared.wire_fault.WireFault.TheVariants.{MultiLength, BulkLength, NoDollar, Quote}
+use Rattle.sk_resp.specs.declared.wire_fault.WireFault.TheVariants.{MultiLength, BulkLength, NoDollar, Quote, InlineLong, Limit, Memory}
 use Rattle.sk_resp.specs.declared.request.state.Stage.{Stage}
 use Rattle.sk_resp.specs.declared.request.state.Stage.TheVariants.{Start, Inline, Count, Mark, Length, Body, End}
 use Rattle.sk_resp.specs.declared.request.state.State.{State}
 use Rattle.sk_resp.specs.Spelling.{header, opened}
-use Rattle.sk_resp.specs.Request.{bulks, NoLf, IsLine, IsCountLine, IsLengthLine, IsBadLine, long, bad_line, bad_cr, IsItem, IsFault}
-use Rattle.sk_resp.specs.Stream.{Item, texts_of, commands_of, Opens, BeginsNone, Faulty}
-use Rattle.sk_resp.specs.Reading.{seen, seen_at, IsOpen, IsOpenAt, Took, goes, ends}
+use Rattle.sk_resp.specs.Request.{bulks, IsWanting, NoLf, IsLine, IsCountLine, IsLengthLine, IsBadLine, long, IsBadBulk, bad_line, bad_cr, bad_lf, IsInside, IsItem, IsFault, IsInline, IsPlain, NoStar}
+use Rattle.sk_resp.specs.Stream.{Item, texts_of, commands_of, Opens, BeginsNone, Reads, Faulty}
+use Rattle.sk_resp.specs.Reading.{seen, seen_at, IsOpen, IsOpenAt, IsOpenWord, Took, goes, ends}
 use Rattle.sk_resp.proofs.Lines.{no_lf-append}
-use Rattle.sk_resp.proofs.Items.{inside, opened-append, fault-no_lf, header-is}
-use Rattle.sk_resp.proofs.First.{gives, fails, first, first-item, first-fault}
+use Rattle.sk_resp.proofs.Items.{inside, opened-append, fault-no_lf, header-is, opened-is}
+use Rattle.sk_resp.proofs.First.{Out, gives, fails, open_yet, first, first-item, first-fault}
 
 -- ## No item or fault begins another
 

@@ -3,7 +3,7 @@ use Rattle.std.specs.Prelude.{◌≡◌, ◌≤◌, ◌<◌, List, ℕ, [], ◌�
 use Rattle.std.specs.Fmt.{decimal}
 use Rattle.std.proofs.Common.{arith, length-append}
 use denote.Param.Weighed.{most}
-use Rattle.sk_resp.specs.Spelling.{Bytes, star, header, joined, total_length}
+use Rattle.sk_resp.specs.Spelling.{Bytes, star, line, header, joined, total_length}
 use Rattle.sk_resp.specs.Reply.{wire}
 use Rattle.sk_resp.specs.declared.reply.Reply.{Reply}
 use Rattle.sk_resp.specs.declared.reply.Reply.TheVariants as reply

@@ -1,5 +1,6 @@
 -- How RESP2 spells lines, bulk strings and the heads of arrays.
 use Rattle.std.specs.Prelude.{ℕ, List, [], ◌∷◌, ◌++◌, ◌+◌, length}
+use Rattle.std.specs.List.{flat_map}
 use Rattle.std.specs.Fmt.{decimal}
 
 abbrev pub Bytes : Type 0

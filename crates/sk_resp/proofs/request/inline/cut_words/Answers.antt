@@ -1,4 +1,5 @@
-use Rattle.std.proofs.Common.{◌≡◌, [], ◌∷◌, ◌++◌, drop, get_or, sym, ap, ◌∙◌, arith, append-nil, append_assoc, suc, drop-cons, add-one, true}
+use Rattle.std.proofs.Common.{◌≡◌, ◌≢◌, ◌+◌, ◌-◌, ◌<◌, ◌≤◌, ◌^◌, ℕ, ℤ, List, [], ◌∷◌, ◌++◌, length, take, drop, get_or, subst, sym, ap, ◌∙◌, refl, arith, append-nil, append_assoc, length-append, suc, drop-cons, add-one, true, false}
+use Rattle.std.specs.Fmt.{decimal, signed_decimal}
 use Rattle.sk_resp.specs.Request.{is_blank, is_some_word}
 use Rattle.std.specs.List.{filter}
 use Rattle.sk_resp.proofs.Cuts.{words_at, cut_at, cut_end, plain-more, drop_all}

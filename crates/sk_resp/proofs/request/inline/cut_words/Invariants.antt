@@ -1,6 +1,6 @@
-use Rattle.std.proofs.Common.{◌≡◌, ◌++◌, drop, false}
+use Rattle.std.proofs.Common.{◌≡◌, ◌++◌, ℕ, List, drop, false}
 use Rattle.std.specs.List.{filter, slice_split, All}
-use Rattle.sk_resp.specs.Request.{is_some_word, is_blank}
+use Rattle.sk_resp.specs.Request.{is_some_word, is_blank, without_cr}
 use Rattle.sk_resp.proofs.request.inline.cut_words.Given as goal
 
 -- what is cut so far, and what is left behind the open word

@@ -1,4 +1,5 @@
-use Rattle.std.proofs.Common.{sym, ap, ◌∙◌}
+use Rattle.std.proofs.Common.{◌≡◌, ◌≢◌, ◌+◌, ◌-◌, ◌<◌, ◌≤◌, ◌^◌, ℕ, ℤ, List, [], ◌∷◌, ◌++◌, length, take, drop, get_or, subst, sym, ap, ◌∙◌, refl, arith, append-nil, append_assoc, length-append, suc, drop-cons}
+use Rattle.std.specs.Fmt.{decimal, signed_decimal}
 use Rattle.sk_resp.specs.Request.{without_cr}
 use Rattle.sk_resp.proofs.Cuts.{without_cr-cr, without_cr-none}
 use Rattle.sk_resp.proofs.request.inline.drop_cr.Goals as goal

@@ -1,4 +1,5 @@
-use Rattle.std.proofs.Common.{arith}
+use Rattle.std.proofs.Common.{◌≡◌, ◌≢◌, ◌+◌, ◌-◌, ◌<◌, ◌≤◌, ◌^◌, ℕ, ℤ, List, [], ◌∷◌, ◌++◌, length, take, drop, get_or, subst, sym, ap, ◌∙◌, refl, arith, append-nil, append_assoc, length-append, suc, drop-cons}
+use Rattle.std.specs.Fmt.{decimal, signed_decimal}
 use Rattle.sk_resp.proofs.Integers.{not_count, over_count, skipped_zero, skipped_negative}
 use Rattle.sk_resp.proofs.request.number_line.count_number.Goals as goal
 

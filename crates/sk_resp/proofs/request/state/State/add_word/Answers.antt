@@ -1,9 +1,13 @@
-use Rattle.std.proofs.Common.{◌≡◌, [], ◌∷◌, ◌++◌, length, sym, ap, ◌∙◌, refl, arith, append-nil}
-use Rattle.sk_resp.specs.Spelling.{header}
-use Rattle.sk_resp.specs.Request.{bulks, whole}
-use Rattle.sk_resp.specs.Reading.{goes, ends}
-use Rattle.sk_resp.proofs.Items.{wanting_more, command_whole}
-use Rattle.sk_resp.proofs.Fronts.{bulks-word}
+use Rattle.std.proofs.Common.{◌≡◌, ◌≢◌, ◌+◌, ◌-◌, ◌<◌, ◌≤◌, ◌^◌, ℕ, ℤ, List, [], ◌∷◌, ◌++◌, length, take, drop, get_or, subst, sym, ap, ◌∙◌, refl, arith, append-nil, append_assoc, length-append, length-drop, IfOk}
+use Rattle.std.specs.Fmt.{decimal, signed_decimal}
+use Rattle.sk_resp.specs.Spelling.{header, opened, bulk, total_length}
+use Rattle.sk_resp.specs.Request.{bulks, array, whole, IsFault}
+use Rattle.sk_resp.specs.Reading.{goes, ends, IsOpenWord, Took, given, Fails, seen, seen_at}
+use Rattle.sk_resp.specs.declared.request.state.Stage.TheVariants.{Start, Inline, Count, Mark, Length, Body, End}
+use Rattle.sk_resp.specs.declared.wire_fault.WireFault.TheVariants.{MultiLength, BulkLength, NoDollar, Quote, InlineLong, Limit, Memory}
+use Rattle.std.proofs.lemmas.List.{take_all}
+use Rattle.sk_resp.proofs.Items.{fault-no_lf, first_byte, bulk-whole, wanting_more, command_whole}
+use Rattle.sk_resp.proofs.Fronts.{header-spelt, bulks-word, bulk_at, some_taken}
 use Rattle.sk_resp.proofs.request.state.State.add_word.Goals as goal
 
 pub returns-then-len-self-clause-ok : goal.returns-then-len-self-clause-ok

@@ -1,6 +1,11 @@
-use Rattle.std.proofs.Common.{[], ◌∷◌, ◌++◌, sym, ap, ◌∙◌, refl, arith}
-use Rattle.sk_resp.specs.Reading.{goes, ends}
-use Rattle.sk_resp.proofs.Items.{fault-count_ends, item-skipped, header-whole}
+use Rattle.std.proofs.Common.{◌≡◌, ◌≢◌, ◌+◌, ◌-◌, ◌<◌, ◌≤◌, ◌^◌, ℕ, ℤ, List, [], ◌∷◌, ◌++◌, length, take, drop, get_or, subst, sym, ap, ◌∙◌, refl, arith, append-nil, append_assoc, length-append}
+use Rattle.std.specs.Fmt.{decimal, signed_decimal}
+use Rattle.sk_resp.specs.Spelling.{header, opened, total_length}
+use Rattle.sk_resp.specs.Request.{bulks, array, whole, skipped, inline, IsCount, IsFault}
+use Rattle.sk_resp.specs.Reading.{goes, ends, IsOpenWord}
+use Rattle.sk_resp.specs.declared.wire_fault.WireFault.TheVariants.{MultiLength, BulkLength, NoDollar, Quote, InlineLong, Limit, Memory}
+use Rattle.sk_resp.proofs.Items.{fault-count_ends, fault-count_long, fault-length_ends, fault-length_long, fault-limit, fault-no_cr, fault-no_lf, item-skipped, first_byte, opened-append, opened-whole, header-whole, bulks-more, wanting_more, command_whole}
+use Rattle.std.proofs.lemmas.Fmt.{decimal_injective}
 use Rattle.sk_resp.proofs.request.state.State.take_count.Goals as goal
 
 pub returns-in_default-clause-fault : goal.returns-in_default-clause-fault

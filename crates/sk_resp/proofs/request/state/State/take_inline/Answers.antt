@@ -1,6 +1,6 @@
-use Rattle.std.proofs.Common.{◌≡◌, [], ◌∷◌, ◌++◌, length, sym, ap, ◌∙◌, refl, arith}
+use Rattle.std.proofs.Common.{◌≡◌, ◌≢◌, ◌+◌, ◌-◌, ◌<◌, ◌≤◌, ◌^◌, ℕ, ℤ, List, [], ◌∷◌, ◌++◌, length, take, drop, get_or, subst, sym, ap, ◌∙◌, refl, arith, append-nil, append_assoc, length-append, suc, drop-cons}
 use Rattle.std.specs.List.{filter, slice_split}
-use Rattle.sk_resp.specs.Request.{inline, inline_words, is_some_word, is_blank, without_cr}
+use Rattle.sk_resp.specs.Request.{inline, if_some, inline_words, is_some_word, is_blank, without_cr}
 use Rattle.sk_resp.specs.Reading.{ends}
 use Rattle.sk_resp.proofs.Cuts.{if_some-none, if_some-some}
 use Rattle.sk_resp.proofs.request.state.State.take_inline.Goals as goal

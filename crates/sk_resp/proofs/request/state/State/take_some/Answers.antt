@@ -1,4 +1,5 @@
-use Rattle.std.proofs.Common.{◌<◌, ◌≤◌, [], ◌++◌, length, take, subst, sym, arith, IfOk}
+use Rattle.std.proofs.Common.{◌≡◌, ◌≢◌, ◌+◌, ◌-◌, ◌<◌, ◌≤◌, ◌^◌, ℕ, ℤ, List, [], ◌∷◌, ◌++◌, length, take, drop, get_or, subst, sym, ap, ◌∙◌, refl, arith, append-nil, append_assoc, length-append, suc, drop-cons, IfOk}
+use Rattle.sk_resp.specs.Request.{IsFault}
 use Rattle.sk_resp.specs.Reading.{seen, seen_at, Took, given, Fails}
 use Rattle.sk_resp.proofs.Items.{first_byte}
 use Rattle.sk_resp.proofs.request.state.State.take_some.Goals as goal
