@@ -9,7 +9,7 @@ use Rattle.sk_payload.specs.declared.head.Head.{Head}
 use Rattle.sk_payload.specs.declared.head.Retry.TheVariants.{Default}
 use Rattle.sk_payload.specs.declared.head.Until.TheVariants.{Success}
 
--- what follows, where there is this
+-- what follows from it, where it is there
 abbrev pub given : {A B : Type 0} → Option A → (A → Option B) → Option B
 given found f = option_and_then f found
 

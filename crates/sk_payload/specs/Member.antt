@@ -4,7 +4,7 @@ use Rattle.std.specs.Prelude.{ℕ, ◌+◌, length, Bool, true, false, ◌&&◌,
 use Rattle.std.specs.List.{list_all}
 use Rattle.std.specs.Str.{is_utf8}
 use Rattle.serde_json.specs.Data.{Data, null, boolean, number, string, array, object}
-use Rattle.serde_json.specs.Find.{as_str, as_number, as_u64}
+use Rattle.serde_json.specs.Find.{as_str, as_number, as_array, as_u64}
 use Rattle.serde_json.specs.Written.{compact_text}
 use Rattle.sk_resp.specs.Spelling.{Bytes}
 use Rattle.sk_payload.specs.declared.head.Lock.{Lock}
@@ -15,11 +15,11 @@ use Rattle.sk_payload.specs.declared.head.Until.TheVariants.{Success, Start}
 
 -- ## Whether it must be there
 
--- it must
+-- It must.
 abbrev pub required : {A : Type 0} → (Data → Option A) → Option Data → Option A
 required reads found = option_and_then reads found
 
--- it may be absent, and gives this then
+-- It may be absent, and gives this then.
 abbrev pub optional : {A : Type 0} → A → (Data → Option A) → Option Data → Option A
 optional absent reads None = Some absent
 optional absent reads (Some d) = reads d
@@ -44,14 +44,9 @@ count_of low high d = option_and_then (λ n. if nat_le low n && nat_le n high th
 
 -- ## The other members
 
--- `args`: an array, as its text without whitespace
+-- `args`: an array, as its text without whitespace, where the members of an object stand in the order of their names' bytes
 abbrev pub args_of : Data → Option Bytes
-args_of null = None
-args_of (boolean b) = None
-args_of (number n) = None
-args_of (string s) = None
-args_of (array ds) = Some (compact_text (array ds))
-args_of (object ms) = None
+args_of d = option_map (λ ds. compact_text (array ds)) (as_array d)
 
 -- `retry`: null and true are the default, false is never, and a number is a count.
 abbrev pub retry_of : Data → Option Retry

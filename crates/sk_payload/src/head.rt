@@ -15,12 +15,12 @@ pub enum Retry {
     Never,
 }
 
-/// How long the lock of a unique job stands, where its time isn't over before.
+/// When the lock of a unique job is released, where its time isn't over before.
 #[derive(Clone, Copy, Debug, PartialEq, Eq, Drop)]
 pub enum Until {
-    /// Until the job succeeds.
+    /// When the job succeeds.
     Success,
-    /// Until a run of the job starts.
+    /// When a run of the job starts.
     Start,
 }
 
@@ -42,7 +42,7 @@ pub struct Head {
     pub class: Text,
     /// The queue where the job waits, a name of at most 255 bytes.
     pub queue: Text,
-    /// The arguments, as a JSON array without whitespace.
+    /// The arguments, as a JSON array without whitespace. The members of an object in it stand in the order of their names' bytes.
     pub args: Text,
     /// How often it is tried again.
     pub retry: Retry,
