@@ -7,6 +7,7 @@ mod reply;
 mod request;
 mod say;
 mod spelling;
+mod text;
 mod wire_fault;
 mod word;
 mod word_order;
@@ -20,6 +21,7 @@ pub use reply::{
 pub use request::{Feeder, one_reading, piece_by_piece, write_request, written_is_read};
 pub use say::Say;
 pub use std::alloc::AllocError as Memory;
+pub use text::Text;
 pub use wire_fault::WireFault;
 pub use word::{Word, Words};
 
