@@ -74,11 +74,16 @@ fault_flat fault.Memory = error_line (codes "OOM want of memory") (fixed _ refl 
 
 name_line : (n : Name) → IsLineText (codes "ERR wrong number of arguments for '" ++ spelling n ++ codes "' command")
 name_line name.Ping = fixed _ refl refl
+name_line name.Lpush = fixed _ refl refl
+name_line name.Lrange = fixed _ refl refl
+name_line name.Lmove = fixed _ refl refl
 
 say_flat : (s : Say) → IsFlat (line (say_text s))
 say_flat say.Pong = simple_text (codes "PONG") (fixed _ refl refl) refl
 say_flat say.NotBuilt = error_line (codes "SK not built") (fixed _ refl refl)
 say_flat (say.Arity n) = error_line (codes "ERR wrong number of arguments for '" ++ spelling n ++ codes "' command") (name_line n)
+say_flat say.NotInt = error_line (codes "ERR value is not an integer or out of range") (fixed _ refl refl)
+say_flat say.Oom = error_line (codes "OOM want of memory") (fixed _ refl refl)
 say_flat (say.Protocol f) = fault_flat f
 
 -- ## Replies
