@@ -5,7 +5,7 @@ use Rattle.std.specs.Fmt.{decimal}
 use Rattle.sk_resp.specs.Spelling.{Bytes, plus, minus, cr, lf, line, opened}
 use Rattle.sk_resp.specs.declared.reply.state.Stage.{Stage}
 use Rattle.sk_resp.specs.declared.reply.state.Stage.TheVariants as stage
-use Rattle.sk_resp.specs.ReplyMachine.{Levels, Machine, at, fresh, gives, fails, lines, go_at, go, go_within, run_within, onward, seen, seen_levels, owed, stage_needs, weight, fit, IsOpen, IsOpenWithin}
+use Rattle.sk_resp.specs.ReplyMachine.{Levels, Machine, at, gives, fails, lines, go_at, go, go_within, run_within, onward, seen, seen_levels, owed, stage_needs, weight, fit, IsOpen, IsOpenWithin}
 use Rattle.sk_resp.proofs.ReplyRuns.{after-nil, went_to}
 use Rattle.sk_resp.proofs.ReplyAccepts.{on, off, is_true, one_more}
 use Rattle.sk_resp.proofs.ReplyWithin.{fits, ran_within}
