@@ -47,9 +47,6 @@ goes stack old b s text depth levels_open is_open e = record {
   is_open = (is_open, (depth, levels_open));
 }
 
-one_joined : (text : List ℕ) → joined (text ∷ []) ≡ text
-one_joined text = append-nil text
-
 pub joined-more : (texts : List Bytes) (text : List ℕ) → joined (texts ++ text ∷ []) ≡ joined texts ++ text
 joined-more texts text = joined-append texts (text ∷ []) ∙ ap (λ z. joined texts ++ z) (append-nil text)
 
@@ -96,10 +93,6 @@ crlf xs = append_assoc xs (13 ∷ []) (10 ∷ [])
 pub flat-within : (depth : ℕ) (text : List ℕ) → IsFlat text → IsNested depth text
 flat-within zero text is = is
 flat-within (suc depth) text is = inl is
-
-array-within : (depth : ℕ) (texts : List Bytes) → AllByRecursion (IsNested (depth - 1)) texts → 0 < depth → length texts ≤ 2 ^ 31 → IsNested depth (array_text texts)
-array-within zero texts each some few = absurd (omega arith)
-array-within (suc depth) texts each some few = let e : suc depth - 1 ≡ depth = omega arith in inr (texts, subst (λ d. AllByRecursion (IsNested d) texts) e each, few, refl)
 
 ends-went : (depth : ℕ) (stack : Levels) (old text : List ℕ) (b : ℕ) → AreOpen depth stack → IsNested depth text → old ++ 10 ∷ [] ≡ text → Went ((seen_levels stack ++ old) ++ b ∷ []) (ends stack text b)
 ends-went depth stack old text b is_open is e = by_cond (Went ((seen_levels stack ++ old) ++ b ∷ [])) (eqb b 10) _ _

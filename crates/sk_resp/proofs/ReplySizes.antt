@@ -5,7 +5,7 @@ use Rattle.std.specs.Fmt.{decimal}
 use Rattle.sk_resp.specs.Spelling.{Bytes, plus, minus, cr, lf, line, opened}
 use Rattle.sk_resp.specs.declared.reply.state.Stage.{Stage}
 use Rattle.sk_resp.specs.declared.reply.state.Stage.TheVariants as stage
-use Rattle.sk_resp.specs.ReplyMachine.{Levels, Machine, at, fresh, gives, fails, lines, go_at, go, go_within, run_within, onward, seen, seen_levels, owed, stage_needs, weight, fit, IsOpen, IsOpenWithin}
+use Rattle.sk_resp.specs.ReplyMachine.{Levels, Machine, at, gives, fails, lines, go_at, go, go_within, run_within, onward, seen, seen_levels, owed, stage_needs, weight, fit, IsOpen, IsOpenWithin}
 use Rattle.sk_resp.proofs.ReplyRuns.{after-nil, went_to}
 use Rattle.sk_resp.proofs.ReplyAccepts.{on, off, is_true, one_more}
 use Rattle.sk_resp.proofs.ReplyWithin.{fits, ran_within}
@@ -14,9 +14,6 @@ use Rattle.sk_resp.proofs.ReplyWithin.{fits, ran_within}
 pub counted_size : (m n : Machine) (b a c : ℕ) → IsOpen m → go m b ≡ gives [] n → a ≡ length (seen m) + owed m.stack → c + owed m.stack ≡ a + owed n.stack → c + 1 ≡ length (seen n) + owed n.stack
 counted_size m n b a c is_open e size same =
     omega (arith, size, same, ap length (went_to m n b [] is_open e).is, length-append (seen m) (b ∷ []))
-
-needs_of : Machine → ℕ
-needs_of m = stage_needs m.stage (length m.line) (length m.stack)
 
 weight_is : (n : Machine) (size : ℕ) → size ≡ length (seen n) + owed n.stack → weight n ≡ size + stage_needs n.stage (length n.line) (length n.stack)
 weight_is n size e = omega (arith, e)
@@ -27,10 +24,6 @@ goes_within m n b size e is t = ap fit e ∙ on (leb (weight n) (2 ^ 32)) _ _ (a
 
 pub fails_within : (m n : Machine) (b size : ℕ) → go m b ≡ gives [] n → size ≡ length (seen n) + owed n.stack → leb (size + stage_needs n.stage (length n.line) (length n.stack)) (2 ^ 32) ≡ false → go_within m b ≡ fails
 fails_within m n b size e is f = ap fit e ∙ off (leb (weight n) (2 ^ 32)) _ _ (ap (λ w. leb w (2 ^ 32)) (weight_is n size is) ∙ f)
-
--- a whole reply is within the limit
-pub gives_within : (m n : Machine) (b : ℕ) (text : Bytes) → go m b ≡ gives (text ∷ []) n → n ≡ fresh → go_within m b ≡ gives (text ∷ []) n
-gives_within m n b text e is = ap fit e ∙ fits (text ∷ []) n (subst (λ m. weight m ≤ 2 ^ 32) (sym is) (omega arith))
 
 -- ## The bytes of a bulk string
 

@@ -188,14 +188,23 @@ fn texts_of(alloc: Global, replies: &[Reply]) -> Result<Vec<u8>, Memory> {
     Ok(texts)
 }
 
+// The bytes were taken, or nothing can go on with them.
+fn is_taken(fed: Result<(), ReplyFault>) -> Result<bool, ReplyFault> {
+    match fed {
+        Ok(()) => Ok(true),
+        Err(ReplyFault::Unreadable) => Ok(false),
+        Err(ReplyFault::Memory) => Err(ReplyFault::Memory),
+    }
+}
+
 // The replies of a stream that comes a byte at a time, and the place of the first byte that is refused.
-fn read_bytes(alloc: Global, stream: &[u8]) -> Result<(Vec<Reply>, usize), Memory> {
+fn read_bytes(alloc: Global, stream: &[u8]) -> Result<(Vec<Reply>, usize), ReplyFault> {
     let mut replies = Vec::new(alloc);
     let mut feeder = ReplyFeeder::new(alloc);
     let mut place = usize::MAX;
     for (i, byte) in stream.iter().enumerate() {
-        let fed = feeder.feed(&[*byte], &mut replies);
-        if fed.is_err() && place == usize::MAX {
+        let taken = is_taken(feeder.feed(&[*byte], &mut replies))?;
+        if !taken && place == usize::MAX {
             place = i;
         }
     }
@@ -203,12 +212,16 @@ fn read_bytes(alloc: Global, stream: &[u8]) -> Result<(Vec<Reply>, usize), Memor
 }
 
 // The replies of a stream that comes in two pieces, and which pieces are taken.
-fn read_pieces(first: &[u8], second: &[u8], alloc: Global) -> (Vec<Reply>, bool, bool) {
+fn read_pieces(
+    alloc: Global,
+    first: &[u8],
+    second: &[u8],
+) -> Result<(Vec<Reply>, bool, bool), ReplyFault> {
     let mut replies = Vec::new(alloc);
     let mut feeder = ReplyFeeder::new(alloc);
-    let one = feeder.feed(first, &mut replies).is_ok();
-    let two = feeder.feed(second, &mut replies).is_ok();
-    (replies, one, two)
+    let one = is_taken(feeder.feed(first, &mut replies))?;
+    let two = is_taken(feeder.feed(second, &mut replies))?;
+    Ok((replies, one, two))
 }
 
 #[test]
@@ -227,7 +240,7 @@ fn streams_are_read_as_replies_however_they_are_cut(rt: HostRuntime) -> Result<(
         assert!(rt; stream.starts_with(&texts_of(alloc, &replies)?), "{row:?}");
         let cuts = if stream.len() < 200 { stream.len() } else { 0 };
         for cut in 0..=cuts {
-            let (replies, one, two) = read_pieces(&stream[..cut], &stream[cut..], alloc);
+            let (replies, one, two) = read_pieces(alloc, &stream[..cut], &stream[cut..])?;
             assert_eq!(rt;
                 (one, two),
                 (cut <= place, stream.len() <= place),
