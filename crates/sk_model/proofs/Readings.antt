@@ -1,18 +1,15 @@
 -- The words of a command are read in one way.
-use Rattle.std.proofs.Common.{◌≡◌, ◌≢◌, ◌<◌, ℕ, List, [], ◌∷◌, ◌++◌, refl, sym, ap, subst, ◌∙◌, arith, length, Bool, true, false}
-use Rattle.std.specs.Prelude.{Option, Some, None, Result, Ok, Err, MatchOption, MatchResult, IsTrue, codes, cond, ℤ}
+use Rattle.std.proofs.Common.{◌≡◌, [], ◌∷◌, refl, sym, ap, subst, ◌∙◌, arith, length}
+use Rattle.std.specs.Prelude.{Option, Some, None, Ok, Err, MatchOption, MatchResult, IsTrue, codes, cond, ℤ}
 use Rattle.std.specs.Str.{str_eq_ignore_ascii_case, str_to_ascii_lowercase, bytes_eq}
-use Rattle.std.specs.Fmt.{signed_decimal}
 use Rattle.std.proofs.lemmas.Slice.Eq.{bytes_eq-Decides}
-use Rattle.sk_base.specs.Name.{IsName}
 use Rattle.sk_resp.specs.Spelling.{Bytes}
 use Rattle.sk_resp.specs.Name.{spelling}
-use Rattle.sk_resp.specs.Number.{IsI64, IsInt}
+use Rattle.sk_resp.specs.Number.{IsInt}
 use Rattle.sk_resp.specs.Request.{Command as Words}
 use Rattle.sk_resp.proofs.Integers.{signed_same}
 use Rattle.sk_resp.specs.declared.name.Name.{Name}
 use Rattle.sk_resp.specs.declared.name.Name.TheVariants as name
-use Rattle.sk_resp.specs.declared.say.Say.{Say}
 use Rattle.sk_resp.specs.declared.say.Say.TheVariants.{NotBuilt, Arity, NotInt}
 use Rattle.sk_model.specs.declared.command.Command.{Command}
 use Rattle.sk_model.specs.declared.command.Command.TheVariants as command

