@@ -39,6 +39,10 @@ IsKeyWhole name words out = Then (IsTwo name words) out (λ w. Then (IsWhole w.1
 abbrev pub IsKeyRange : Name → Words → Read (Bytes × ℤ × ℤ) → Type 0
 IsKeyRange name words out = Then (IsThree name words) out (λ w. Then (IsWhole w.1) out (λ first. Then (IsWhole w.2) out (λ last. out ≡ Ok (w.0, first, last))))
 
+-- a key and two indices, and at most one word more
+abbrev pub IsRanks : Name → Words → Read (Bytes × ℤ × ℤ × Words) → Type 0
+IsRanks name words out = Then (IsThreeAnd name (is_from 3 4 (length words)) words) out (λ w. Then (IsWhole w.1) out (λ first. Then (IsWhole w.2) out (λ last. out ≡ Ok (w.0, first, last, w.3))))
+
 -- ## The table
 
 abbrev pub Reads : Name → Words → Read Command → Type 0
@@ -82,8 +86,7 @@ Reads name.Zadd words out = Then (IsOneAnd name.Zadd (nat_le 3 (length words)) w
 Reads name.Zrem words out = Then (IsKeyTexts name.Zrem words) out (λ w. IsPlain (plain.Zrem w.0 w.1) out)
 Reads name.Zcard words out = Then (IsOne name.Zcard words) out (λ w. IsPlain (plain.Zcard w) out)
 Reads name.Zscore words out = Then (IsTwo name.Zscore words) out (λ w. IsPlain (plain.Zscore w.0 w.1) out)
-Reads name.Zrange words out = Then (IsThreeAnd name.Zrange (is_from 3 4 (length words)) words) out (λ w. Then (IsWhole w.1) out (λ first. Then (IsWhole w.2) out (λ last.
-    Then (IsWithScores w.3) out (λ scores. IsPlain (plain.Zrange w.0 first last scores) out))))
+Reads name.Zrange words out = Then (IsRanks name.Zrange words) out (λ w. Then (IsWithScores w.3) out (λ scores. IsPlain (plain.Zrange w.0 w.1 w.2 scores) out))
 Reads name.Zrangebyscore words out = Then (IsThreeAnd name.Zrangebyscore (is_range_count (length words)) words) out (λ w. Then (IsBound w.1) out (λ low. Then (IsBound w.2) out (λ high.
     Then (IsRangeOptions w.3 no_range_options) out (λ o. IsPlain (plain.Zrangebyscore w.0 low high o) out))))
 Reads name.Zremrangebyrank words out = Then (IsKeyRange name.Zremrangebyrank words) out (λ w. IsPlain (plain.Zremrangebyrank w.0 w.1 w.2) out)

@@ -1,9 +1,9 @@
 // Forms of arguments that several commands have.
 ghost use Rattle.std.specs.Prelude.{◌≡◌};
-ghost use Rattle.sk_cmd.specs.Table.{IsKeyRange, IsKeyTexts, IsKeyWhole, IsPlain, IsScript};
+ghost use Rattle.sk_cmd.specs.Table.{IsKeyRange, IsKeyTexts, IsKeyWhole, IsPlain, IsRanks, IsScript};
 
 use crate::argument::read_whole;
-use crate::counts::{one_and, three, two};
+use crate::counts::{is_from, one_and, three, three_and, two};
 use crate::{CmdFault, Command, PlainCommand, ScriptCommand};
 use sk_resp::{Name, Word, Words};
 
@@ -44,4 +44,15 @@ pub fn key_range(name: Name, words: Vec<Word>) -> Result<(Word, i64, i64), CmdFa
     let first = read_whole(first.bytes())?;
     let last = read_whole(last.bytes())?;
     Ok((key, first, last))
+}
+
+/// A key and two indices, and at most one word more
+pub fn ranks(name: Name, words: Vec<Word>) -> Result<(Word, i64, i64, Words), CmdFault>
+    ensures { IsRanks name words.items result }
+{
+    let fits = is_from(3, 4, words.len());
+    let (key, first, last, more) = three_and(name, fits, words)?;
+    let first = read_whole(first.bytes())?;
+    let last = read_whole(last.bytes())?;
+    Ok((key, first, last, more))
 }

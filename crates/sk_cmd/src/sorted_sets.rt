@@ -3,9 +3,8 @@ ghost use Rattle.std.specs.Prelude.{◌≡◌};
 ghost use Rattle.sk_resp.specs.declared.name.Name.TheVariants as Name;
 ghost use Rattle.sk_cmd.specs.Table.{Reads};
 
-use crate::argument::{read_whole};
-use crate::counts::{is_from, is_range_count, one, one_and, three, three_and, two};
-use crate::forms::{key_range, key_texts, plain};
+use crate::counts::{is_range_count, one, one_and, three, three_and, two};
+use crate::forms::{key_range, key_texts, plain, ranks};
 use crate::options::{range_options, with_scores};
 use crate::pairs::{read_scores};
 use crate::scores::{read_bound};
@@ -53,10 +52,7 @@ pub fn zscore(words: Vec<Word>) -> Result<Command, CmdFault>
 pub fn zrange(words: Vec<Word>) -> Result<Command, CmdFault>
     ensures { Reads Name.Zrange words.items result }
 {
-    let fits = is_from(3, 4, words.len());
-    let (key, first, last, options) = three_and(Name::Zrange, fits, words)?;
-    let first = read_whole(first.bytes())?;
-    let last = read_whole(last.bytes())?;
+    let (key, first, last, options) = ranks(Name::Zrange, words)?;
     let scores = with_scores(options.list())?;
     plain(PlainCommand::Zrange(key, first, last, scores))
 }
