@@ -60,7 +60,7 @@ digits_more i ds within p q = subst IsDigits (sym (take_more ds i 0 within)) (di
 pub six_are_digits : (ds : List ℕ) → IsDigits ds → IsDigits (six ds)
 six_are_digits ds p = digits_take 6 (ds ++ _) (digits_append ds _ p refl)
 
-fraction_ends : (ds : List ℕ) → NoDigit (fraction ds)
+pub fraction_ends : (ds : List ℕ) → NoDigit (fraction ds)
 fraction_ends [] = tt
 fraction_ends (d ∷ ds) = refl
 

@@ -5,3 +5,4 @@ pub mod Arguments
 pub mod Options
 pub mod Table
 pub mod ReadOnly
+pub mod Laws
