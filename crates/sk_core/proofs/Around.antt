@@ -1,11 +1,8 @@
 -- Where the rows of one queue stand among all rows.
-use Rattle.std.proofs.Common.{◌≡◌, List, [], ◌∷◌, ◌++◌, refl, sym, ap, subst, ◌∙◌, arith, append_assoc, Bool, true, false, map}
-use Rattle.std.specs.Prelude.{cond, length, ◌==◌}
+use Rattle.std.proofs.Common.{◌≡◌, List, [], ◌∷◌, ◌++◌, refl, sym, ap, subst, ◌∙◌, arith, append_assoc, map}
 use Rattle.std.specs.List.{AllByRecursion}
 use Rattle.std.specs.List.Sorted.{IsStrictlySortedBy}
-use Rattle.std.specs.Map.{keys_of, lookup}
-use Rattle.std.specs.BTreeMap.{is_at}
-use Rattle.std.specs.Ordering.{is_eq}
+use Rattle.std.specs.Map.{keys_of}
 use Rattle.std.specs.declared.cmp.Ordering.{Ordering}
 use Rattle.std.specs.declared.cmp.Ordering.TheVariants.{Less, Equal, Greater}
 use Rattle.std.proofs.lemmas.Map.Keys.{sorted_tail}
@@ -17,7 +14,7 @@ use Rattle.sk_model.specs.declared.row.Row.{Row}
 use Rattle.sk_model.specs.Rows.{place_cmp}
 use Rattle.sk_model.specs.Lists.{row_at}
 use Rattle.sk_model.proofs.Texts.{bytes_tell}
-use Rattle.sk_core.specs.Queues.{Queues, name_cmp, texts_of, put, without, keep, rows_of}
+use Rattle.sk_core.specs.Queues.{Queues, name_cmp, texts_of, put, without, rows_of}
 use Rattle.sk_core.proofs.Puts.{lookup_absent, without_absent}
 
 -- the rows of a queue with these texts

@@ -1,19 +1,15 @@
 -- A row of a queue taken out from the right, and a row put in from the left.
-use Rattle.std.proofs.Common.{◌≡◌, List, [], ◌∷◌, ◌++◌, refl, sym, ap, subst, ◌∙◌, arith, append_assoc, Bool, true, false, map}
+use Rattle.std.proofs.Common.{◌≡◌, List, [], ◌∷◌, ◌++◌, refl, sym, ap, ◌∙◌, arith, append_assoc, Bool, true, false}
 use Rattle.std.specs.Prelude.{Option, Some, None, filter}
 use Rattle.std.specs.List.{AllByRecursion, list_any, last_or}
-use Rattle.std.specs.declared.cmp.Ordering.{Ordering}
-use Rattle.std.specs.declared.cmp.Ordering.TheVariants.{Less, Equal, Greater}
-use Rattle.std.proofs.lemmas.Cmp.{nat_list_cmp_total}
 use Rattle.std.proofs.lemmas.List.{map-append}
 use Rattle.sk_resp.specs.Spelling.{Bytes}
 use Rattle.sk_model.specs.declared.row.Place.TheVariants.{Queue}
 use Rattle.sk_model.specs.declared.row.Row.{Row}
-use Rattle.sk_model.specs.Rows.{place_cmp, is_at, is_same, rows_at, Left, Right, insert_after, stands_before, put_row, without_last, take_row}
+use Rattle.sk_model.specs.Rows.{is_at, is_same, rows_at, Right, insert_after, without_last, take_row}
 use Rattle.sk_model.specs.Lists.{row_at}
 use Rattle.sk_model.proofs.Texts.{same_row, at_place}
-use Rattle.sk_core.specs.Queues.{name_cmp}
-use Rattle.sk_core.proofs.Around.{own, IsBelow, IsAbove, reversed, turned, equal_names}
+use Rattle.sk_core.proofs.Around.{own}
 
 -- ## Lists of rows in two parts
 

@@ -1,10 +1,10 @@
 -- Edits of the index at one name.
-use Rattle.std.proofs.Common.{◌≡◌, List, [], ◌∷◌, refl, arith, Bool, true, false}
-use Rattle.std.specs.Prelude.{Option, Some, None}
-use Rattle.std.specs.Map.{lookup, remove_entry, set_value, keys_of}
-use Rattle.std.specs.BTreeMap.{is_at, insert_entry}
+use Rattle.std.proofs.Common.{◌≡◌, List, [], ◌∷◌, refl, arith}
+use Rattle.std.specs.Prelude.{Some, None}
+use Rattle.std.specs.Map.{lookup, set_value, keys_of}
+use Rattle.std.specs.BTreeMap.{is_at}
 use Rattle.std.specs.List.Sorted.{IsStrictlySortedBy}
-use Rattle.std.specs.declared.cmp.Ordering.TheVariants.{Less, Equal, Greater}
+use Rattle.std.specs.declared.cmp.Ordering.TheVariants.{Less}
 use Rattle.std.proofs.lemmas.Map.{lookup-none}
 use Rattle.std.proofs.lemmas.Map.Keys.{sorted_tail}
 use Rattle.std.proofs.lemmas.Map.Entries.{none_below_head}

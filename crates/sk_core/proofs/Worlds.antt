@@ -1,6 +1,6 @@
 -- What edits of the index are in the abstract store.
 use Rattle.std.proofs.Common.{◌≡◌, List, [], ◌∷◌, ◌++◌, refl, sym, ap, subst, ◌∙◌, arith, append_assoc, append-nil, Bool, true, false, map, length}
-use Rattle.std.specs.Prelude.{Option, Some, None, filter, cond, pos, ℤ, ◌==◌}
+use Rattle.std.specs.Prelude.{Option, Some, None, filter, cond, pos, ℤ}
 use Rattle.std.specs.List.{AllByRecursion, last_or}
 use Rattle.std.specs.List.Sorted.{IsStrictlySortedBy}
 use Rattle.std.specs.Map.{keys_of}
@@ -9,7 +9,6 @@ use Rattle.std.specs.declared.cmp.Ordering.{Ordering}
 use Rattle.std.specs.declared.cmp.Ordering.TheVariants.{Less, Equal, Greater}
 use Rattle.std.proofs.lemmas.Cmp.{nat_list_cmp_total, tied_itself}
 use Rattle.sk_resp.specs.Spelling.{Bytes, bulk}
-use Rattle.sk_resp.specs.declared.reply.Reply.{Reply}
 use Rattle.sk_resp.specs.declared.reply.Reply.TheVariants as reply
 use Rattle.sk_model.specs.declared.row.Place.{Place}
 use Rattle.sk_model.specs.declared.row.Place.TheVariants.{Queue}
@@ -20,7 +19,7 @@ use Rattle.sk_model.specs.Change.{perform}
 use Rattle.sk_model.specs.Lists.{row_at, pushes, push, range, range_of, move, move_row, length_at}
 use Rattle.sk_model.specs.Outcome.{Comes}
 use Rattle.sk_model.proofs.Texts.{at_place}
-use Rattle.sk_core.specs.Queues.{Queues, name_cmp, texts_of, put, without, keep, pushed, rows_of, world_of}
+use Rattle.sk_core.specs.Queues.{Queues, name_cmp, texts_of, put, keep, pushed, rows_of, world_of}
 use Rattle.sk_core.proofs.Around.{own, IsBelow, IsAbove, Around, around, reversed, turned, equal_names}
 use Rattle.sk_core.proofs.Cuts.{Cut, cut_take, cut_last, cut_own, none_filter, insert_behind, insert_here, insert_before}
 

@@ -11,3 +11,6 @@ mod store;
 mod texts;
 
 pub use store::Core;
+
+#[cfg(test)]
+mod tests;

@@ -4,4 +4,5 @@ pub mod Good
 pub mod Commands
 pub mod Runs
 pub mod Running
+pub mod Readings
 mod Worked

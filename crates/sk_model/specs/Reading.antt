@@ -1,11 +1,11 @@
 -- How the words of a command are read: a command with its arguments, or the text that refuses it.
-use Rattle.std.specs.Prelude.{◌≡◌, ◌≢◌, ◌≤◌, ◌<◌, ℕ, ℤ, List, [], ◌∷◌, ◌++◌, length, Option, Some, None, Result, Ok, Err, MatchOption, MatchResult, IsTrue, codes}
+use Rattle.std.specs.Prelude.{◌≡◌, ◌≢◌, ◌<◌, ℤ, [], ◌∷◌, ◌++◌, length, Option, Some, None, Result, Ok, Err, MatchOption, MatchResult, IsTrue, codes}
 use Rattle.std.specs.Str.{str_eq_ignore_ascii_case}
 use Rattle.sk_base.specs.Name.{IsName}
 use Rattle.sk_resp.specs.Spelling.{Bytes}
 use Rattle.sk_resp.specs.Name.{spelling}
 use Rattle.sk_resp.specs.Number.{IsInt}
-use Rattle.sk_resp.specs.Request.{Command as Words}
+pub use Rattle.sk_resp.specs.Request.{Command as Words}
 use Rattle.sk_resp.specs.declared.name.Name.{Name}
 use Rattle.sk_resp.specs.declared.name.Name.TheVariants as name
 use Rattle.sk_resp.specs.declared.say.Say.{Say}

@@ -120,3 +120,16 @@ fn other_command_lines_are_refused(rt: HostRuntime) -> Result<(), Fail> {
     }
     Ok(())
 }
+
+#[test]
+fn queues_are_kept_from_command_to_command(rt: HostRuntime) -> Result<(), Fail> {
+    let alloc = rt.alloc();
+    let input =
+        b"LPUSH queue:q a b\nLMOVE queue:q queue:r RIGHT LEFT\nLRANGE queue:r 0 -1\nLMOVE queue:s queue:r right left\nLRANGE q 0 01\nLPUSH q a\n";
+    let want =
+        b":2\r\n$1\r\na\r\n*1\r\n$1\r\na\r\n$-1\r\n-ERR value is not an integer or out of range\r\n-SK not built\r\n";
+    let (status, text) = ran(alloc, &["pipe"], input, 7)?;
+    assert_eq!(rt; text.as_slice(), want.as_slice());
+    assert_eq!(rt; status, 0);
+    Ok(())
+}

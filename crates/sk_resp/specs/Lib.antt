@@ -7,3 +7,5 @@ pub mod Reading
 pub mod Name
 pub mod Reply
 pub mod ReplySize
+pub mod ReplyStream
+pub mod ReplyMachine

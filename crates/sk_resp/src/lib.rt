@@ -7,16 +7,21 @@ mod reply;
 mod request;
 mod say;
 mod spelling;
+mod text;
 mod wire_fault;
 mod word;
 mod word_order;
 
 pub use name::Name;
 pub use number::read_int;
-pub use reply::{Replies, Reply, write_reply};
-pub use request::{Feeder, one_reading, piece_by_piece, written_is_read};
+pub use reply::{
+    Replies, Reply, ReplyFault, ReplyFeeder, no_reply_begins_another, replies_come_in_pieces,
+    replies_have_one_reading, replies_have_texts, write_reply, written_replies_are_read,
+};
+pub use request::{Feeder, one_reading, piece_by_piece, write_request, written_is_read};
 pub use say::Say;
 pub use std::alloc::AllocError as Memory;
+pub use text::Text;
 pub use wire_fault::WireFault;
 pub use word::{Word, Words};
 

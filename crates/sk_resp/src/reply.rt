@@ -2,9 +2,22 @@
 ghost use Rattle.std.specs.Prelude.{◌≡◌, ◌++◌, OnOk, map};
 ghost use Rattle.sk_resp.specs.Reply.{wire};
 
+mod fault;
+mod feeder;
+mod laws;
+mod number_line;
+mod state;
+mod text;
+
 use crate::say::write_say;
 use crate::spelling::{write_bulk, write_header, write_line};
 use crate::{Memory, Say, Word};
+pub use fault::ReplyFault;
+pub use feeder::ReplyFeeder;
+pub use laws::{
+    no_reply_begins_another, replies_come_in_pieces, replies_have_one_reading, replies_have_texts,
+    written_replies_are_read,
+};
 use std::alloc::Global;
 use std::marker::Model;
 
@@ -103,3 +116,6 @@ pub fn write_reply(alloc: Global, reply: &Reply, out: &mut Vec<u8>) -> Result<()
         Reply::NullArray => write_line(b"*-1", out),
     }
 }
+
+#[cfg(test)]
+mod tests;

@@ -35,9 +35,11 @@ returns-then-n-eq0-clause-ends g c =
     let nothing : Gives (g.S.Source.left c.loop-count.source) [] (g.S.Source.left c.read.new.self) = subst (λ m. Gives (g.S.Source.left c.loop-count.source) (take m c.read.new.buf) (g.S.Source.left c.read.new.self)) c.if-n-eq0.true c.in-Ok.ensures.told in (
       so_far.0,
       was.0,
-      (c.loop-count.store,
-      record { gave = gives_no_more (g.S.Source.left c.args.source.now) so_far.0 (g.S.Source.left c.loop-count.source) (g.S.Source.left c.read.new.self) was.1 nothing; took = was.2 },
-      ends_at first c.loop-count.store c.end_of_input.result so_far.0 c.loop-count.feeder.rest so_far.1.0 was.0 c.end_of_input.ensures was.3 was.4),
+      (
+        c.loop-count.store,
+        record { gave = gives_no_more (g.S.Source.left c.args.source.now) so_far.0 (g.S.Source.left c.loop-count.source) (g.S.Source.left c.read.new.self) was.1 nothing; took = was.2 },
+        ends_at first c.loop-count.store c.end_of_input.result so_far.0 c.loop-count.feeder.rest so_far.1.0 was.0 c.end_of_input.ensures was.3 was.4,
+      ),
     )
 
 pub returns-in-Err-clause-ends : goal.returns-in-Err-clause-ends
@@ -48,12 +50,14 @@ returns-in-Err-clause-ends g c =
     let piece = take c.in-Ok.n c.read.new.buf in (
       so_far.0 ++ piece,
       was.0 ++ stopped.1.0,
-      (c.pass.new.store,
-      record {
-        gave = gives_more (g.S.Source.left c.args.source.now) so_far.0 (g.S.Source.left c.loop-count.source) piece (g.S.Source.left c.read.new.self) was.1 c.in-Ok.ensures.told;
-        took = takes_more (g.K.Sink.taken c.args.sink.now) was.0 (g.K.Sink.taken c.loop-count.sink) stopped.1.0 (g.K.Sink.taken c.pass.new.sink) was.2 stopped.1.1;
-      },
-      ends_on first c.loop-count.store c.pass.new.store c.in-Err.end so_far.0 piece c.loop-count.feeder.rest so_far.1.0 was.0 stopped.1.0 stopped.0 was.3 was.4 stopped.1.2),
+      (
+        c.pass.new.store,
+        record {
+          gave = gives_more (g.S.Source.left c.args.source.now) so_far.0 (g.S.Source.left c.loop-count.source) piece (g.S.Source.left c.read.new.self) was.1 c.in-Ok.ensures.told;
+          took = takes_more (g.K.Sink.taken c.args.sink.now) was.0 (g.K.Sink.taken c.loop-count.sink) stopped.1.0 (g.K.Sink.taken c.pass.new.sink) was.2 stopped.1.1;
+        },
+        ends_on first c.loop-count.store c.pass.new.store c.in-Err.end so_far.0 piece c.loop-count.feeder.rest so_far.1.0 was.0 stopped.1.0 stopped.0 was.3 was.4 stopped.1.2,
+      ),
     )
 
 pub loop-count-preserved : goal.loop-count-preserved

@@ -1,0 +1,5 @@
+pub mod Floats
+pub mod Removed
+pub mod Names
+pub mod Bounds
+pub mod Worked

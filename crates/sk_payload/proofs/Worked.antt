@@ -1,0 +1,35 @@
+-- Heads of worked texts, by computation.
+use Rattle.std.proofs.Common.{◌≡◌, Some, None, true, false, refl, codes}
+use Rattle.std.specs.Str.{is_utf8, chars}
+use Rattle.std.specs.Fmt.{digits}
+use Rattle.serde_json.proofs.OnLiterals.{serde_json_on_literals}
+use Rattle.sk_payload.specs.Head.{head, head_of_value, head_of_object, names}
+use Rattle.sk_payload.specs.declared.head.Retry.TheVariants.{Default, Count}
+use Rattle.sk_payload.specs.declared.head.Until.TheVariants.{Start}
+
+-- the members that each job has, and what stands for the absent ones
+least : head (codes "{\"jid\":\"j\",\"class\":\"C\",\"queue\":\"q\",\"args\":[ 1 ]}")
+    ≡ Some (record { jid = codes "j"; class = codes "C"; queue = codes "q"; args = codes "[1]"; retry = Default; gen_ = 0; bid = None; lock = None; dead = true; created = 0 })
+unfolding serde_json_on_literals head head_of_value head_of_object is_utf8 chars digits
+least = refl
+
+-- every member that is read, and one that isn't
+most : head (codes "{\"jid\":\"j\",\"class\":\"C\",\"queue\":\"q\",\"args\":[],\"bid\":\"b\",\"retry\":3,\"retry_count\":0,\"dead\":false,\"created_at\":9,\"unique_for\":60,\"unique_until\":\"start\",\"at\":[]}")
+    ≡ Some (record { jid = codes "j"; class = codes "C"; queue = codes "q"; args = codes "[]"; retry = Count 3; gen_ = 1; bid = Some (codes "b"); lock = Some (record { seconds = 60; until = Start }); dead = false; created = 9 })
+unfolding serde_json_on_literals head head_of_value head_of_object is_utf8 chars digits
+most = refl
+
+-- of two members with one name the last
+last : names (codes "{\"jid\":-0,\"class\":\"C\",\"queue\":\"q\",\"args\":[],\"jid\":\"k\"}") (codes "k") ≡ true
+unfolding serde_json_on_literals head head_of_value head_of_object is_utf8 chars digits
+last = refl
+
+-- a fraction in the arguments
+fraction : head (codes "{\"jid\":\"j\",\"class\":\"C\",\"queue\":\"q\",\"args\":[1.5]}") ≡ None
+unfolding serde_json_on_literals head head_of_value head_of_object is_utf8 chars digits
+fraction = refl
+
+-- `retry_count` may be null in no job, `retry` in each
+null_count : head (codes "{\"jid\":\"j\",\"class\":\"C\",\"queue\":\"q\",\"args\":[],\"retry\":null,\"retry_count\":null}") ≡ None
+unfolding serde_json_on_literals head head_of_value head_of_object is_utf8 chars digits
+null_count = refl

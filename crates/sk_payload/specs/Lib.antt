@@ -1,0 +1,4 @@
+pub mod Json
+pub mod Member
+pub mod Head
+pub mod Reading

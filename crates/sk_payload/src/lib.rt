@@ -1,0 +1,18 @@
+//! A job's text, and what the store knows of it: its head, as Sidekiq's job format says (wiki page "Job Format").
+#![tactic(auto)]
+
+mod bound;
+mod head;
+mod length;
+mod member;
+mod no_head;
+mod payload;
+mod read;
+mod whole;
+
+pub use head::{Head, Lock, Retry, Until};
+pub use payload::Payload;
+pub use std::alloc::AllocError as Memory;
+
+#[cfg(test)]
+mod tests;
