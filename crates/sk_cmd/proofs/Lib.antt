@@ -1,4 +1,4 @@
 mod Agree
 mod AgreeCounts
 mod AgreeArguments
-mod AgreeTable
+pub mod AgreeTable

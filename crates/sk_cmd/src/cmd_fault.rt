@@ -24,18 +24,26 @@ pub enum CmdFault {
     Memory,
 }
 
+impl CmdFault {
+    /// The text that tells a client of the fault.
+    pub fn say(&self) -> Say
+        ensures { result ≡ fault_say self.now }
+    {
+        match self {
+            CmdFault::Unknown => Say::Unknown,
+            CmdFault::Arity(name) => Say::Arity(*name),
+            CmdFault::NotInt => Say::NotInt,
+            CmdFault::NotScore => Say::NotScore,
+            CmdFault::BadBound => Say::BadBound,
+            CmdFault::Syntax => Say::Syntax,
+            CmdFault::Memory => Say::Oom,
+        }
+    }
+}
+
 /// The reply to words with that fault. Takes no memory.
 pub fn fault_reply(fault: &CmdFault) -> Reply
     ensures { result ≡ reply.Say (fault_say fault.now) }
 {
-    let say = match fault {
-        CmdFault::Unknown => Say::Unknown,
-        CmdFault::Arity(name) => Say::Arity(*name),
-        CmdFault::NotInt => Say::NotInt,
-        CmdFault::NotScore => Say::NotScore,
-        CmdFault::BadBound => Say::BadBound,
-        CmdFault::Syntax => Say::Syntax,
-        CmdFault::Memory => Say::Oom,
-    };
-    Reply::Say(say)
+    Reply::Say(fault.say())
 }

@@ -1,23 +1,16 @@
 // LMOVE source destination RIGHT LEFT (Redis, "LMOVE")
 ghost use Rattle.std.specs.Prelude.{◌≡◌, ◌++◌, ◌∷◌, [], ℕ, List, IfOk, OnErr};
 ghost use Rattle.std.specs.BTreeMap.{IsOrdered};
-ghost use Rattle.sk_resp.specs.declared.name.Name.{Name};
-ghost use Rattle.sk_model.specs.Reading.{Reads};
 ghost use Rattle.sk_model.specs.declared.row.Place.TheVariants.{Queue};
 ghost use Rattle.sk_model.specs.Lists.{move};
 ghost use Rattle.sk_model.specs.Outcome.{Comes};
 ghost use Rattle.sk_core.specs.Queues.{name_cmp, world_of};
 
-use crate::args::{expect, four, queue};
 use crate::queues::{Queues, copy_last, pop, push_one};
-use sk_model::Command;
-use sk_resp::{Memory, Name, Reply, Say, Word};
+use sk_resp::{Memory, Reply, Word};
 use std::alloc::Global;
 
-/// Reads the words behind the command's name.
-pub fn read(words: Vec<Word>) -> Result<Command, Say>
-    ensures { Reads Name.Lmove words.items result }
-{
+
     let (source, destination, from, to) = four(Name::Lmove, words)?;
     let source = queue(source)?;
     let destination = queue(destination)?;

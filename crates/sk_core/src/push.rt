@@ -1,25 +1,18 @@
 // LPUSH key text .. (Redis, "LPUSH")
 ghost use Rattle.std.specs.Prelude.{◌≡◌, ◌<◌, ◌^◌, IfOk, OnErr, pos};
 ghost use Rattle.std.specs.BTreeMap.{IsOrdered};
-ghost use Rattle.sk_resp.specs.declared.name.Name.{Name};
 ghost use Rattle.sk_resp.specs.declared.reply.Reply.{Reply};
-ghost use Rattle.sk_model.specs.Reading.{Reads};
 ghost use Rattle.sk_model.specs.declared.row.Place.TheVariants.{Queue};
 ghost use Rattle.sk_model.specs.Lists.{push};
 ghost use Rattle.sk_model.specs.Outcome.{Comes};
 ghost use Rattle.sk_model.specs.Rows.{Left};
 ghost use Rattle.sk_core.specs.Queues.{name_cmp, world_of};
 
-use crate::args::{one_and_some, queue};
 use crate::queues::{Queues, push_all};
-use sk_model::Command;
-use sk_resp::{Memory, Name, Reply, Say, Word, Words};
+use sk_resp::{Memory, Reply, Word, Words};
 use std::alloc::Global;
 
-/// Reads the words behind the command's name.
-pub fn read(words: Vec<Word>) -> Result<Command, Say>
-    ensures { Reads Name.Lpush words.items result }
-{
+
     let (key, texts) = one_and_some(Name::Lpush, words)?;
     let queue = queue(key)?;
     Ok(Command::LPush(queue, texts))
