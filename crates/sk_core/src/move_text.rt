@@ -10,15 +10,6 @@ use crate::queues::{Queues, copy_last, pop, push_one};
 use sk_resp::{Memory, Reply, Word};
 use std::alloc::Global;
 
-
-    let (source, destination, from, to) = four(Name::Lmove, words)?;
-    let source = queue(source)?;
-    let destination = queue(destination)?;
-    expect(b"RIGHT", &from)?;
-    expect(b"LEFT", &to)?;
-    Ok(Command::LMove(source, destination))
-}
-
 /// Moves the text at the right end of the source to the left end of the destination, which may be the same queue.
 pub fn move_text(
     alloc: Global,

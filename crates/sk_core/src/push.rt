@@ -12,12 +12,6 @@ use crate::queues::{Queues, push_all};
 use sk_resp::{Memory, Reply, Word, Words};
 use std::alloc::Global;
 
-
-    let (key, texts) = one_and_some(Name::Lpush, words)?;
-    let queue = queue(key)?;
-    Ok(Command::LPush(queue, texts))
-}
-
 fn length_reply(count: usize) -> Reply
     requires { count < 2 ^ 63 }
     ensures { result ≡ Reply.Int (pos count) }

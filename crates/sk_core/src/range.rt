@@ -13,14 +13,6 @@ use crate::texts::Texts;
 use sk_resp::{Memory, Replies, Reply, Word};
 use std::alloc::Global;
 
-
-    let (key, first, last) = three(Name::Lrange, words)?;
-    let first = whole(&first)?;
-    let last = whole(&last)?;
-    let queue = queue(key)?;
-    Ok(Command::LRange(queue, first, last))
-}
-
 // The index with which a range begins.
 fn start_of(first: i64, count: usize) -> usize
     ensures { result ≡ first_index first count }
