@@ -12,7 +12,7 @@ ghost use Rattle.sk_core.specs.Queues.{name_cmp, texts_of, world_of};
 
 use crate::args::{queue, three, whole};
 use crate::queues::Queues;
-use crate::texts::Texts;
+use crate::payloads::Payloads;
 use sk_model::Command;
 use sk_resp::{Memory, Name, Replies, Reply, Say, Word};
 use std::alloc::Global;
@@ -51,7 +51,7 @@ fn end_of(last: i64, count: usize) -> usize
 }
 
 // The elements of a range, as replies.
-fn range_in(alloc: Global, texts: &Texts, first: i64, last: i64) -> Result<Vec<Reply>, Memory>
+fn range_in(alloc: Global, texts: &Payloads, first: i64, last: i64) -> Result<Vec<Reply>, Memory>
     ensures { IfOk result (λ replies. map wire replies.items ≡ map bulk (range_of first last texts.now)) }
 {
     let count = texts.len();
