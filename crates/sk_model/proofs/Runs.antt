@@ -1,11 +1,12 @@
 -- The laws, by induction over runs.
-use Rattle.std.proofs.Common.{◌≡◌, ℕ, ◌+◌, List, [], ◌∷◌, refl, ap, ◌∙◌, arith}
+use Rattle.std.proofs.Common.{◌≡◌, ℕ, ◌+◌, List, [], ◌∷◌, refl, ap, subst, ◌∙◌, arith}
 use Rattle.sk_resp.specs.Spelling.{Bytes}
 use Rattle.sk_resp.specs.Request.{Command as Words}
 use Rattle.sk_model.specs.World.{World, first}
 use Rattle.sk_model.specs.Change.{perform}
 use Rattle.sk_model.specs.Outcome.{Outcome}
-use Rattle.sk_model.specs.Run.{Run}
+use Rattle.sk_resp.specs.declared.reply.Reply.{Reply}
+use Rattle.sk_model.specs.Run.{Run, Answers}
 use Rattle.sk_model.specs.Life.{Life, Unborn, Kept, life_through}
 use Rattle.sk_model.specs.Laws.{copies, pushed, ConserveFrom, LiveJobsStand, Conserve, CopiesKeptFrom, CopiesKept}
 use Rattle.sk_model.proofs.Commands.{good}
@@ -20,6 +21,10 @@ conserve_from w lives (words ∷ commands) [] kept run = absurd run
 
 pub conserve : Conserve
 conserve commands outcomes run = conserve_from first (λ jid. Unborn) commands outcomes (λ jid live. cc live) run
+
+-- a run that gave these replies, from the first world
+pub answers_conserve : (old new : World) (commands : List Words) (replies : List Reply) (answers : Answers old commands replies new) → old ≡ first → LiveJobsStand answers.outcomes
+answers_conserve old new commands replies answers is = conserve commands answers.outcomes (subst (λ w. Run w commands answers.outcomes) is answers.run)
 
 copies_from : (w : World) (before : Bytes → ℕ) (commands : List Words) (outcomes : List Outcome) → ((text : Bytes) → copies text w ≡ before text) → Run w commands outcomes → CopiesKeptFrom w before outcomes
 copies_from w before [] [] so_far run = tt
