@@ -3,12 +3,12 @@
 
 mod args;
 mod move_text;
+mod payloads;
 mod push;
 mod queues;
 mod range;
 mod read;
 mod store;
-mod texts;
 
 pub use store::Core;
 

@@ -9,7 +9,7 @@ ghost use Rattle.sk_model.specs.Outcome.{Comes};
 ghost use Rattle.sk_core.specs.Queues.{name_cmp, texts_of, world_of};
 
 use crate::queues::Queues;
-use crate::texts::Texts;
+use crate::payloads::Payloads;
 use sk_resp::{Memory, Replies, Reply, Word};
 use std::alloc::Global;
 
@@ -36,7 +36,7 @@ fn end_of(last: i64, count: usize) -> usize
 }
 
 // The elements of a range, as replies.
-fn range_in(alloc: Global, texts: &Texts, first: i64, last: i64) -> Result<Vec<Reply>, Memory>
+fn range_in(alloc: Global, texts: &Payloads, first: i64, last: i64) -> Result<Vec<Reply>, Memory>
     ensures { IfOk result (λ replies. map wire replies.items ≡ map bulk (range_of first last texts.now)) }
 {
     let count = texts.len();

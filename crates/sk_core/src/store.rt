@@ -59,7 +59,7 @@ impl Core {
                 range(self.alloc, &self.queues, &queue, first, last)
             }
             Command::LMove(source, destination) => {
-                move_text(self.alloc, &mut self.queues, &source, destination)
+                move_text(self.alloc, &mut self.queues, &source, &destination)
             }
         }
     }
