@@ -11,8 +11,8 @@ ghost use Rattle.sk_model.specs.Outcome.{Comes};
 ghost use Rattle.sk_core.specs.Queues.{name_cmp, texts_of, world_of};
 
 use crate::args::{queue, three, whole};
-use crate::queues::Queues;
 use crate::payloads::Payloads;
+use crate::queues::Queues;
 use sk_model::Command;
 use sk_resp::{Memory, Name, Replies, Reply, Say, Word};
 use std::alloc::Global;

@@ -1,6 +1,6 @@
 -- The changes of each command are good.
-use Rattle.std.proofs.Common.{◌≡◌, ℕ, List, [], ◌∷◌, refl, sym, ap, subst, ◌∙◌, ◌⊎◌, inl, inr, arith, Bool, true, false}
-use Rattle.std.specs.Prelude.{Option, Some, None, Result, Ok, Err, filter}
+use Rattle.std.proofs.Common.{◌≡◌, List, [], ◌∷◌, refl, sym, subst, ◌⊎◌, inl, inr, arith, Bool, true}
+use Rattle.std.specs.Prelude.{Option, Some, None, Ok, Err, filter}
 use Rattle.std.specs.List.{list_any, last_or}
 use Rattle.sk_resp.specs.Spelling.{Bytes}
 use Rattle.sk_resp.specs.Request.{Command as Words}
@@ -11,7 +11,7 @@ use Rattle.sk_model.specs.declared.command.Command.{Command}
 use Rattle.sk_model.specs.declared.command.Command.TheVariants as command
 use Rattle.sk_model.specs.Rows.{End, Left, Right, is_at, is_same, rows_at}
 use Rattle.sk_model.specs.World.{World}
-use Rattle.sk_model.specs.Change.{Add, Moves, changed, perform}
+use Rattle.sk_model.specs.Change.{Add, Moves, changed}
 use Rattle.sk_model.specs.Lists.{row_at, pushes, move_row}
 use Rattle.sk_model.specs.Outcome.{Outcome}
 use Rattle.sk_model.specs.Reading.{Read}

@@ -1,12 +1,12 @@
 -- What the changes of every command owe to the laws. Proved for each kind of change, and for one list of changes after another.
-use Rattle.std.proofs.Common.{◌≡◌, ℕ, ◌+◌, List, [], ◌∷◌, ◌++◌, refl, sym, ap, subst, ◌∙◌, arith, Bool, true, false, cond}
+use Rattle.std.proofs.Common.{◌≡◌, ◌+◌, List, [], ◌∷◌, ◌++◌, refl, sym, ap, ◌∙◌, arith, true}
 use Rattle.std.specs.List.{list_any}
 use Rattle.sk_resp.specs.Spelling.{Bytes}
 use Rattle.sk_model.specs.declared.row.Place.{Place}
 use Rattle.sk_model.specs.declared.row.Row.{Row}
 use Rattle.sk_model.specs.Rows.{End, is_same, take_row}
 use Rattle.sk_model.specs.World.{World}
-use Rattle.sk_model.specs.Change.{Move, Add, Carry, Change, Moves, carried, changed, perform}
+use Rattle.sk_model.specs.Change.{Add, Carry, Change, Moves, carried, changed, perform}
 use Rattle.sk_model.specs.Laws.{copies, pushed}
 use Rattle.sk_model.specs.Life.{Life, Live, stands, life_after, life_through}
 use Rattle.sk_model.proofs.Copies.{copies-put_row, copies-take_row}

@@ -5,7 +5,7 @@ use Rattle.sk_resp.specs.Spelling.{Bytes}
 use Rattle.sk_resp.specs.Request.{Command as Words}
 use Rattle.sk_model.specs.declared.row.Row.{Row}
 use Rattle.sk_model.specs.World.{World, first}
-use Rattle.sk_model.specs.Change.{Move, Add, Carry, Change, Moves, perform}
+use Rattle.sk_model.specs.Change.{Add, Carry, Change, Moves, perform}
 use Rattle.sk_model.specs.Outcome.{Outcome}
 use Rattle.sk_model.specs.Run.{Run}
 use Rattle.sk_model.specs.Life.{Life, Unborn, Kept, life_through}

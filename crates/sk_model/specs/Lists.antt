@@ -2,7 +2,6 @@
 use Rattle.std.specs.Prelude.{ℕ, ℤ, pos, negsuc, ◌+◌, ◌-◌, List, [], ◌∷◌, Option, Some, None, length, take, drop, map}
 use Rattle.std.specs.List.{last_or}
 use Rattle.sk_resp.specs.Spelling.{Bytes, bulk}
-use Rattle.sk_resp.specs.declared.reply.Reply.{Reply}
 use Rattle.sk_resp.specs.declared.reply.Reply.TheVariants as reply
 use Rattle.sk_model.specs.declared.row.Place.{Place}
 use Rattle.sk_model.specs.declared.row.Row.{Row}

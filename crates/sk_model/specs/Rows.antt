@@ -1,5 +1,5 @@
 -- The rows of the store: one list, in the order of their places, and at each place from left to right.
-use Rattle.std.specs.Prelude.{◌≡◌, List, [], ◌∷◌, Bool, true, false, cond, ◌&&◌, filter, map}
+use Rattle.std.specs.Prelude.{List, [], ◌∷◌, Bool, cond, ◌&&◌, filter, map}
 use Rattle.std.specs.List.{list_any}
 use Rattle.std.specs.Ordering.{nat_cmp, is_eq, is_lt, is_le}
 use Rattle.std.specs.Str.{bytes_eq}

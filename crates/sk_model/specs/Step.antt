@@ -1,5 +1,5 @@
 -- One command: from the world, to a reply and changes.
-use Rattle.std.specs.Prelude.{◌≡◌, ◌⊎◌, Result, Ok, Err}
+use Rattle.std.specs.Prelude.{◌≡◌, ◌⊎◌, Ok, Err}
 use Rattle.sk_resp.specs.Request.{Command as Words}
 use Rattle.sk_resp.specs.declared.reply.Reply.TheVariants as reply
 use Rattle.sk_resp.specs.declared.say.Say.TheVariants as say

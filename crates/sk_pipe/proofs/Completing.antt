@@ -1,5 +1,5 @@
 -- A pipe whose input is commands end to end, and whose source and sink don't fail, reads them all.
-use Rattle.std.proofs.Common.{◌≡◌, ◌≢◌, ◌⊎◌, ◌<◌, ◌≤◌, ◌^◌, ℕ, List, [], ◌++◌, Option, Some, None, refl, sym, ap, ◌∙◌, subst, arith, append-nil, length, length-append, inl, inr}
+use Rattle.std.proofs.Common.{◌≡◌, ◌≢◌, ◌⊎◌, ◌<◌, ◌^◌, ℕ, List, [], ◌++◌, Option, Some, None, refl, sym, ap, ◌∙◌, subst, arith, append-nil, length, length-append, inl, inr}
 use Rattle.std.specs.Prelude.{IfSome}
 use Rattle.sk_base.specs.Outside.{Gives}
 use Rattle.sk_resp.specs.Spelling.{Bytes}

@@ -1,17 +1,17 @@
 -- What comes of pieces of a stream, one after another.
-use Rattle.std.proofs.Common.{◌≡◌, ◌≢◌, ◌+◌, ◌<◌, ◌≤◌, ◌^◌, ℕ, List, [], ◌∷◌, ◌++◌, Option, None, refl, sym, ap, ◌∙◌, subst, append_assoc, append-nil, take, zero, suc, length, get_or, inl, inr, Result, Ok, Err, Some}
+use Rattle.std.proofs.Common.{◌≡◌, ℕ, List, [], ◌∷◌, ◌++◌, Option, None, refl, sym, ap, ◌∙◌, subst, append_assoc, append-nil, take, length, inl, inr, Result, Ok, Err}
 use Rattle.std.specs.Prelude.{OnOk, IfErr}
 use Rattle.std.proofs.lemmas.List.{map-append}
 use Rattle.std.proofs.Math.Seq.{take-append_seam}
 use Rattle.std.specs.Prelude.{map}
-use Rattle.sk_base.specs.Outside.{Takes, TakesFront, IsFront}
-use Rattle.sk_base.proofs.OutsideLaws.{takes_more, takes_nothing}
+use Rattle.sk_base.specs.Outside.{Takes, IsFront}
+use Rattle.sk_base.proofs.OutsideLaws.{takes_more}
 use Rattle.sk_resp.specs.Spelling.{Bytes, joined}
 use Rattle.sk_resp.specs.Request.{Command}
-use Rattle.sk_resp.specs.Stream.{Opens, Reads, Faulty, Stops}
+use Rattle.sk_resp.specs.Stream.{Opens, Reads, Stops}
 use Rattle.sk_resp.specs.Reply.{wire}
 use Rattle.sk_resp.specs.declared.wire_fault.WireFault.{WireFault}
-use Rattle.sk_resp.proofs.Readings.{reads_on, faulty_on, faulty_stays}
+use Rattle.sk_resp.proofs.Readings.{faulty_on}
 use Rattle.sk_resp.proofs.Fewer.{opens_on, opens_fewer}
 use Rattle.sk_pipe.specs.declared.pipe_end.PipeEnd.{PipeEnd}
 use Rattle.sk_pipe.specs.declared.pipe_end.PipeEnd.TheVariants.{Done, Wire, Cut, ReadFault, WriteFault, Memory, Budget}
@@ -21,7 +21,7 @@ use Rattle.sk_model.specs.Run.{Answers}
 use Rattle.sk_model.proofs.Running.{answers_nothing, answers_on}
 use Rattle.sk_model.proofs.Runs.{answers_conserve}
 use Rattle.sk_pipe.specs.Pipe.{Serves, Refuses, Due, DueFront, Ends, refusal}
-use Rattle.sk_pipe.specs.Driving.{IsWriteStop, IsStop, EndsAt, ServesFront, Sends, Stopped}
+use Rattle.sk_pipe.specs.Driving.{IsWriteStop, IsStop, EndsAt, ServesFront, Stopped}
 
 -- ## Served
 
