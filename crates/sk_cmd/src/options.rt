@@ -57,31 +57,55 @@ fn has_expire(expire: Expire) -> bool
 fn set_step(word: &[u8], before: SetSoFar) -> Result<SetSoFar, CmdFault>
     ensures { IsSetStep word.now before result }
 {
-    let SetSoFar { only_new, expire, next } = before;
+    let SetSoFar {
+        only_new,
+        expire,
+        next,
+    } = before;
     match next {
         SetNext::Seconds => {
             let n = read_whole(word)?;
-            Ok(SetSoFar { only_new, expire: Expire::Seconds(n), next: SetNext::Word })
+            Ok(SetSoFar {
+                only_new,
+                expire: Expire::Seconds(n),
+                next: SetNext::Word,
+            })
         }
         SetNext::Millis => {
             let n = read_whole(word)?;
-            Ok(SetSoFar { only_new, expire: Expire::Millis(n), next: SetNext::Word })
+            Ok(SetSoFar {
+                only_new,
+                expire: Expire::Millis(n),
+                next: SetNext::Word,
+            })
         }
         SetNext::Word => {
             if says(word, b"NX") {
                 if only_new {
                     return Err(CmdFault::Syntax);
                 }
-                return Ok(SetSoFar { only_new: true, expire, next: SetNext::Word });
+                return Ok(SetSoFar {
+                    only_new: true,
+                    expire,
+                    next: SetNext::Word,
+                });
             }
             if has_expire(expire) {
                 return Err(CmdFault::Syntax);
             }
             if says(word, b"EX") {
-                return Ok(SetSoFar { only_new, expire, next: SetNext::Seconds });
+                return Ok(SetSoFar {
+                    only_new,
+                    expire,
+                    next: SetNext::Seconds,
+                });
             }
             if says(word, b"PX") {
-                return Ok(SetSoFar { only_new, expire, next: SetNext::Millis });
+                return Ok(SetSoFar {
+                    only_new,
+                    expire,
+                    next: SetNext::Millis,
+                });
             }
             Err(CmdFault::Syntax)
         }
@@ -92,7 +116,10 @@ fn set_end(before: SetSoFar) -> Result<SetOptions, CmdFault>
     ensures { IsSetEnd before result }
 {
     match before.next {
-        SetNext::Word => Ok(SetOptions { only_new: before.only_new, expire: before.expire }),
+        SetNext::Word => Ok(SetOptions {
+            only_new: before.only_new,
+            expire: before.expire,
+        }),
         SetNext::Seconds => Err(CmdFault::Syntax),
         SetNext::Millis => Err(CmdFault::Syntax),
     }
@@ -112,35 +139,59 @@ fn set_rest(words: &[Word], before: SetSoFar) -> Result<SetOptions, CmdFault>
 pub fn set_options(words: &[Word]) -> Result<SetOptions, CmdFault>
     ensures { IsSetOptions words.now no_set_options result }
 {
-    let before = SetSoFar { only_new: false, expire: Expire::Never, next: SetNext::Word };
+    let before = SetSoFar {
+        only_new: false,
+        expire: Expire::Never,
+        next: SetNext::Word,
+    };
     set_rest(words, before)
 }
 
 fn range_step(word: &[u8], before: RangeSoFar) -> Result<RangeSoFar, CmdFault>
     ensures { IsRangeStep word.now before result }
 {
-    let RangeSoFar { with_scores, limit, next } = before;
+    let RangeSoFar {
+        with_scores,
+        limit,
+        next,
+    } = before;
     match next {
         RangeNext::Skip => {
             let skip = read_whole(word)?;
-            Ok(RangeSoFar { with_scores, limit, next: RangeNext::Count(skip) })
+            Ok(RangeSoFar {
+                with_scores,
+                limit,
+                next: RangeNext::Count(skip),
+            })
         }
         RangeNext::Count(skip) => {
             let count = read_whole(word)?;
-            Ok(RangeSoFar { with_scores, limit: Some((skip, count)), next: RangeNext::Word })
+            Ok(RangeSoFar {
+                with_scores,
+                limit: Some((skip, count)),
+                next: RangeNext::Word,
+            })
         }
         RangeNext::Word => {
             if says(word, b"WITHSCORES") {
                 if with_scores {
                     return Err(CmdFault::Syntax);
                 }
-                return Ok(RangeSoFar { with_scores: true, limit, next: RangeNext::Word });
+                return Ok(RangeSoFar {
+                    with_scores: true,
+                    limit,
+                    next: RangeNext::Word,
+                });
             }
             if says(word, b"LIMIT") {
                 if limit.is_some() {
                     return Err(CmdFault::Syntax);
                 }
-                return Ok(RangeSoFar { with_scores, limit, next: RangeNext::Skip });
+                return Ok(RangeSoFar {
+                    with_scores,
+                    limit,
+                    next: RangeNext::Skip,
+                });
             }
             Err(CmdFault::Syntax)
         }
@@ -151,7 +202,10 @@ fn range_end(before: RangeSoFar) -> Result<RangeOptions, CmdFault>
     ensures { IsRangeEnd before result }
 {
     match before.next {
-        RangeNext::Word => Ok(RangeOptions { with_scores: before.with_scores, limit: before.limit }),
+        RangeNext::Word => Ok(RangeOptions {
+            with_scores: before.with_scores,
+            limit: before.limit,
+        }),
         RangeNext::Skip => Err(CmdFault::Syntax),
         RangeNext::Count(_) => Err(CmdFault::Syntax),
     }
@@ -171,7 +225,11 @@ fn range_rest(words: &[Word], before: RangeSoFar) -> Result<RangeOptions, CmdFau
 pub fn range_options(words: &[Word]) -> Result<RangeOptions, CmdFault>
     ensures { IsRangeOptions words.now no_range_options result }
 {
-    let before = RangeSoFar { with_scores: false, limit: None, next: RangeNext::Word };
+    let before = RangeSoFar {
+        with_scores: false,
+        limit: None,
+        next: RangeNext::Word,
+    };
     range_rest(words, before)
 }
 

@@ -277,10 +277,12 @@ replace_put queue text other rows queues s e =
     let a = around queue queues s in
     let rest = texts_at (Queue queue) rows in
     let texts : texts_of queue queues ≡ other ∷ rest = sym (texts_are queue queues s) ∙ ap (texts_at (Queue queue)) e ∙ texts_put queue other rows in
-    let now : rows_of queues ≡ a.before ++ (row_at (Queue queue) other ∷ own queue rest ++ a.after) = a.now ∙ ap (λ texts. a.before ++ own queue texts ++ a.after) texts ∙ append_assoc a.before (own queue (other ∷ rest)) a.after in
-    (rest, texts,
+    let now : rows_of queues ≡ a.before ++ (row_at (Queue queue) other ∷ own queue rest ++ a.after) = a.now ∙ ap (λ texts. a.before ++ own queue texts ++ a.after) texts ∙ append_assoc a.before (own queue (other ∷ rest)) a.after in (
+      rest,
+      texts,
       a.put_is (text ∷ rest) ∙ append_assoc a.before (own queue (text ∷ rest)) a.after ∙ sym (replaced_behind queue text other a.before (own queue rest ++ a.after) a.below)
-      ∙ ap (replaced queue text) (sym now ∙ e) ∙ replaced_put queue text other rows)
+          ∙ ap (replaced queue text) (sym now ∙ e) ∙ replaced_put queue text other rows,
+    )
 
 text_in : Option Row → Bytes
 text_in None = []

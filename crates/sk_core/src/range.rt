@@ -8,8 +8,8 @@ ghost use Rattle.sk_model.specs.declared.row.Place.TheVariants.{Queue};
 ghost use Rattle.sk_model.specs.Outcome.{Comes};
 ghost use Rattle.sk_core.specs.Queues.{name_cmp, texts_of, world_of};
 
-use crate::queues::Queues;
 use crate::payloads::Payloads;
+use crate::queues::Queues;
 use sk_resp::{Memory, Replies, Reply, Word};
 use std::alloc::Global;
 

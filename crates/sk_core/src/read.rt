@@ -6,7 +6,7 @@ ghost use Rattle.sk_resp.specs.declared.name.Name.{Name};
 ghost use Rattle.sk_resp.specs.declared.say.Say.{Say};
 ghost use Rattle.sk_model.specs.Reading.{IsBuilt, IsPlain, IsRead, is_own};
 
-use crate::args::queue;
+use crate::queue_key::queue;
 use sk_cmd::{PlainCommand, Side, read_command};
 use sk_model::Command;
 use sk_resp::{Name, Say, Words};

@@ -1,11 +1,11 @@
 -- Which jobs stand after a move.
-use Rattle.std.proofs.Common.{◌≡◌, List, [], ◌∷◌, refl, sym, ap, ◌∙◌, arith, Bool, true, false, cond, not, ◌||◌}
+use Rattle.std.proofs.Common.{◌≡◌, List, [], ◌∷◌, refl, ◌∙◌, arith, Bool, true, false, cond, not, ◌||◌}
 use Rattle.std.specs.List.{list_any}
 use Rattle.sk_resp.specs.Spelling.{Bytes}
 use Rattle.sk_payload.specs.Head.{names}
 use Rattle.sk_model.specs.declared.row.Place.{Place}
 use Rattle.sk_model.specs.declared.row.Row.{Row}
-use Rattle.sk_model.specs.Rows.{End, Left, Right, is_same, insert_after, put_row, without_first, without_last, take_row}
+use Rattle.sk_model.specs.Rows.{End, Left, Right, is_same, insert_after, without_first, without_last, take_row}
 use Rattle.sk_model.specs.World.{World}
 use Rattle.sk_model.specs.Change.{Add, Carry, Moves, carried, moved}
 use Rattle.sk_model.specs.Life.{Life, Live, stands, life_after, pushed_again}

@@ -2,7 +2,7 @@ use Rattle.std.proofs.Common.{◌≡◌, ◌++◌, length, take, drop, subst, sy
 use Rattle.std.specs.Prelude.{codes}
 use Rattle.sk_base.specs.Name.{IsName}
 use Rattle.sk_core.proofs.Parts.{stripped}
-use Rattle.sk_core.proofs.args.queue.Goals as goal
+use Rattle.sk_core.proofs.queue_key.queue.Goals as goal
 
 pub returns : goal.returns
 returns c =
