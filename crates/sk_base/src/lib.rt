@@ -1,18 +1,22 @@
-//! The outside as the rest of the system sees it: where bytes come from and where they go, each with a count of its faults, and what a name is.
+//! The outside as the rest of the system sees it: where bytes come from and where they go, each with a count of its faults, and what a name and a score are.
 #![tactic(auto)]
 
+mod bound;
 mod failed;
 mod feed;
 mod name;
+mod score;
 mod sink;
 mod source;
 mod std_sink;
 mod std_source;
 mod tray;
 
+pub use bound::Bound;
 pub use failed::Failed;
 pub use feed::{Feed, SteadyFeed};
 pub use name::is_name;
+pub use score::{Score, ScoreFault};
 pub use sink::{Sink, write_all};
 pub use source::Source;
 pub use std_sink::StdSink;

@@ -229,38 +229,83 @@ cut_put source text destination other before after texts below above = by_order 
       cut_of source text _ _ _ _ (put_behind source destination other before after (texts ++ text ∷ []) l below) (put_behind source destination other before after texts l below)
       (cut_own source text before (put_row Left (row_at (Queue destination) other) after) texts (all_insert _ _ _ after (ap is_eq l) (above_none source after above)))
 
--- the index after a text is put into the destination, and one taken from the source
+-- the index after a text is put into the destination
 abbrev put_first : Bytes → Bytes → Queues → Queues
 put_first destination text queues = put destination (text ∷ texts_of destination queues) queues
 
-cut_moved : (source destination text : Bytes) (rest : List Bytes) (queues : Queues) → Sorted queues → texts_of source queues ≡ rest ++ text ∷ []
-    → Cut source text (rows_of (put_first destination text queues)) (put_row Left (row_at (Queue destination) text) (rows_of (keep source rest queues)))
-cut_moved source destination text rest queues s e =
+cut_moved : (source destination text other : Bytes) (rest : List Bytes) (queues : Queues) → Sorted queues → texts_of source queues ≡ rest ++ text ∷ []
+    → Cut source text (rows_of (put_first destination other queues)) (put_row Left (row_at (Queue destination) other) (rows_of (keep source rest queues)))
+cut_moved source destination text other rest queues s e =
     let a = around source queues s in
-    let new = row_at (Queue destination) text in
-    let put_is : rows_of (put_first destination text queues) ≡ put_row Left new (rows_of queues) = ap (λ (w : World). w.rows) (pushed_world destination (text ∷ []) queues s) in
-    cut_of source text _ _ _ _ (put_is ∙ ap (put_row Left new) (a.now ∙ ap (λ texts. a.before ++ own source texts ++ a.after) e)) (ap (put_row Left new) (keep_rows source rest queues a)) (cut_put source text destination text a.before a.after rest a.below a.above)
+    let new = row_at (Queue destination) other in
+    let put_is : rows_of (put_first destination other queues) ≡ put_row Left new (rows_of queues) = ap (λ (w : World). w.rows) (pushed_world destination (other ∷ []) queues s) in
+    cut_of source text _ _ _ _ (put_is ∙ ap (put_row Left new) (a.now ∙ ap (λ texts. a.before ++ own source texts ++ a.after) e)) (ap (put_row Left new) (keep_rows source rest queues a)) (cut_put source text destination other a.before a.after rest a.below a.above)
 
 -- what is taken from the source, after a text is put into the destination
-pub none_left : (source destination text : Bytes) (rest : List Bytes) (queues : Queues) → Sorted queues → Sorted (put_first destination text queues) → texts_of source queues ≡ rest ++ text ∷ [] → texts_of source (put_first destination text queues) ≡ [] → ⊥
-none_left source destination text rest queues s s' e none = cc (sym (cut_last source text _ _ (cut_moved source destination text rest queues s e)) ∙ last_none source (put_first destination text queues) s' none)
+pub none_left : (source destination text other : Bytes) (rest : List Bytes) (queues : Queues) → Sorted queues → Sorted (put_first destination other queues) → texts_of source queues ≡ rest ++ text ∷ [] → texts_of source (put_first destination other queues) ≡ [] → ⊥
+none_left source destination text other rest queues s s' e none = cc (sym (cut_last source text _ _ (cut_moved source destination text other rest queues s e)) ∙ last_none source (put_first destination other queues) s' none)
+
+-- ### The leftmost row of a queue, with another text
+
+replaced : Bytes → Bytes → List Row → List Row
+replaced queue text [] = []
+replaced queue text (row ∷ rows) = cond (is_at (Queue queue) row) (row_at (Queue queue) text ∷ rows) (row ∷ replaced queue text rows)
+
+lower_not_at : (queue : Bytes) (place : Place) → is_lt (place_cmp place (Queue queue)) ≡ true → is_eq (place_cmp (Queue queue) place) ≡ false
+lower_not_at queue place l = grind (arith, flipped place (Queue queue))
+
+replaced_put : (queue text other : Bytes) (rows : List Row) → replaced queue text (put_row Left (row_at (Queue queue) other) rows) ≡ put_row Left (row_at (Queue queue) text) rows
+unfolding replaced
+replaced_put queue text other [] = grind (arith, at_place (row_at (Queue queue) other))
+replaced_put queue text other (row ∷ rows) = grind (arith, at_place (row_at (Queue queue) other), lower_not_at queue row.place, replaced_put queue text other rows)
+
+replaced_behind : (queue text other : Bytes) (front rows : List Row) → AllByRecursion (IsBelow queue) front → replaced queue text (front ++ row_at (Queue queue) other ∷ rows) ≡ front ++ row_at (Queue queue) text ∷ rows
+unfolding replaced
+replaced_behind queue text other [] rows below = grind (arith, at_place (row_at (Queue queue) other))
+replaced_behind queue text other (row ∷ front) rows below = grind (arith, ap is_eq (flipped row.place (Queue queue) below.0), replaced_behind queue text other front rows below.1)
+
+texts_put : (queue text : Bytes) (rows : List Row) → texts_at (Queue queue) (put_row Left (row_at (Queue queue) text) rows) ≡ text ∷ texts_at (Queue queue) rows
+texts_put queue text [] = grind (arith, at_place (row_at (Queue queue) text))
+texts_put queue text (row ∷ rows) = grind (arith, at_place (row_at (Queue queue) text), lower_not_at queue row.place, texts_put queue text rows)
+
+-- an index whose leftmost text of a queue is replaced
+abbrev Replaced : Bytes → Bytes → Bytes → List Row → Queues → Type 0
+Replaced queue text other rows queues = (rest : List Bytes) × (texts_of queue queues ≡ other ∷ rest) × (rows_of (put queue (text ∷ rest) queues) ≡ put_row Left (row_at (Queue queue) text) rows)
+
+replace_put : (queue text other : Bytes) (rows : List Row) (queues : Queues) → Sorted queues → rows_of queues ≡ put_row Left (row_at (Queue queue) other) rows → Replaced queue text other rows queues
+replace_put queue text other rows queues s e =
+    let a = around queue queues s in
+    let rest = texts_at (Queue queue) rows in
+    let texts : texts_of queue queues ≡ other ∷ rest = sym (texts_are queue queues s) ∙ ap (texts_at (Queue queue)) e ∙ texts_put queue other rows in
+    let now : rows_of queues ≡ a.before ++ (row_at (Queue queue) other ∷ own queue rest ++ a.after) = a.now ∙ ap (λ texts. a.before ++ own queue texts ++ a.after) texts ∙ append_assoc a.before (own queue (other ∷ rest)) a.after in (
+      rest,
+      texts,
+      a.put_is (text ∷ rest) ∙ append_assoc a.before (own queue (text ∷ rest)) a.after ∙ sym (replaced_behind queue text other a.before (own queue rest ++ a.after) a.below)
+          ∙ ap (replaced queue text) (sym now ∙ e) ∙ replaced_put queue text other rows,
+    )
 
 text_in : Option Row → Bytes
 text_in None = []
 text_in (Some row) = row.text
 
-pub move_comes : (source destination text taken : Bytes) (rest left : List Bytes) (queues new : Queues) → Sorted queues → Sorted (put_first destination text queues)
-    → texts_of source queues ≡ rest ++ text ∷ [] → texts_of source (put_first destination text queues) ≡ left ++ taken ∷ [] → new ≡ keep source left (put_first destination text queues)
-    → Comes (world_of queues) (move (world_of queues) (Queue source) (Queue destination)) (reply.Bulk taken) (world_of new)
+-- What is taken from the source comes into the place that was kept for it.
+pub move_comes : (source destination text taken other : Bytes) (rest left : List Bytes) (queues mid new : Queues) → Sorted queues → Sorted (put_first destination other queues) → Sorted mid
+    → texts_of source queues ≡ rest ++ text ∷ [] → texts_of source (put_first destination other queues) ≡ left ++ taken ∷ [] → mid ≡ keep source left (put_first destination other queues)
+    → ((first : Bytes) (behind : List Bytes) → texts_of destination mid ≡ first ∷ behind → new ≡ put destination (taken ∷ behind) mid)
+    → Comes (world_of queues) (move (world_of queues) (Queue source) (Queue destination)) (reply.Bulk text) (world_of new)
 unfolding text_in
-move_comes source destination text taken rest left queues new s s' e e' f =
+move_comes source destination text taken other rest left queues mid new s s' s'' e e' f replaces =
     let old_cut = cut_index source text rest queues s e in
-    let both = cut_moved source destination text rest queues s e in
-    let mid_cut = cut_index source taken left (put_first destination text queues) s' e' in
+    let both = cut_moved source destination text other rest queues s e in
+    let mid_cut = cut_index source taken left (put_first destination other queues) s' e' in
     let row = row_at (Queue source) text in
     let same : taken ≡ text = ap text_in (sym (cut_last source taken _ _ mid_cut) ∙ cut_last source text _ _ both) in
     let found : last_or None (rows_at (Queue source) (rows_of queues)) ≡ Some row = cut_last source text _ _ old_cut in
-    let rows : rows_of new ≡ put_row Left (row_at (Queue destination) text) (take_row Right row (rows_of queues)) =
-    ap rows_of f ∙ sym (cut_take source taken _ _ mid_cut) ∙ ap (λ t. take_row Right (row_at (Queue source) t) (rows_of (put_first destination text queues))) same ∙ cut_take source text _ _ both
-    ∙ ap (put_row Left (row_at (Queue destination) text)) (sym (cut_take source text _ _ old_cut)) in
-    subst (λ found. Comes (world_of queues) (move_row found (Queue destination)) (reply.Bulk taken) (world_of new)) (sym found) (record { reply_is = ap reply.Bulk same; new_is = ap with_rows rows })
+    let left_rows = take_row Right row (rows_of queues) in
+    let mid_rows : rows_of mid ≡ put_row Left (row_at (Queue destination) other) left_rows =
+    ap rows_of f ∙ sym (cut_take source taken _ _ mid_cut) ∙ ap (λ t. take_row Right (row_at (Queue source) t) (rows_of (put_first destination other queues))) same ∙ cut_take source text _ _ both
+    ∙ ap (put_row Left (row_at (Queue destination) other)) (sym (cut_take source text _ _ old_cut)) in
+    let at = replace_put destination taken other left_rows mid s'' mid_rows in
+    let rows : rows_of new ≡ put_row Left (row_at (Queue destination) text) left_rows =
+    ap rows_of (replaces other at.0 at.1) ∙ at.2 ∙ ap (λ t. put_row Left (row_at (Queue destination) t) left_rows) same in
+    subst (λ found. Comes (world_of queues) (move_row found (Queue destination)) (reply.Bulk text) (world_of new)) (sym found) (record { reply_is = refl; new_is = ap with_rows rows })

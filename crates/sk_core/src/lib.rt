@@ -1,14 +1,14 @@
 //! The store: it does what the abstract store does, over an index of its queues.
 #![tactic(auto)]
 
-mod args;
 mod move_text;
+mod payloads;
 mod push;
+mod queue_key;
 mod queues;
 mod range;
 mod read;
 mod store;
-mod texts;
 
 pub use store::Core;
 

@@ -1,35 +1,35 @@
 // LPUSH key text .. (Redis, "LPUSH")
 ghost use Rattle.std.specs.Prelude.{◌≡◌, ◌<◌, ◌^◌, IfOk, OnErr, pos};
 ghost use Rattle.std.specs.BTreeMap.{IsOrdered};
-ghost use Rattle.sk_resp.specs.declared.name.Name.{Name};
 ghost use Rattle.sk_resp.specs.declared.reply.Reply.{Reply};
-ghost use Rattle.sk_model.specs.Reading.{Reads};
 ghost use Rattle.sk_model.specs.declared.row.Place.TheVariants.{Queue};
 ghost use Rattle.sk_model.specs.Lists.{push};
 ghost use Rattle.sk_model.specs.Outcome.{Comes};
 ghost use Rattle.sk_model.specs.Rows.{Left};
 ghost use Rattle.sk_core.specs.Queues.{name_cmp, world_of};
 
-use crate::args::{one_and_some, queue};
 use crate::queues::{Queues, push_all};
-use sk_model::Command;
-use sk_resp::{Memory, Name, Reply, Say, Word, Words};
+use sk_payload::Payload;
+use sk_resp::{Memory, Reply, Word, Words};
 use std::alloc::Global;
-
-/// Reads the words behind the command's name.
-pub fn read(words: Vec<Word>) -> Result<Command, Say>
-    ensures { Reads Name.Lpush words.items result }
-{
-    let (key, texts) = one_and_some(Name::Lpush, words)?;
-    let queue = queue(key)?;
-    Ok(Command::LPush(queue, texts))
-}
 
 fn length_reply(count: usize) -> Reply
     requires { count < 2 ^ 63 }
     ensures { result ≡ Reply.Int (pos count) }
 {
     Reply::Int(count as i64)
+}
+
+// The texts as payloads. Each text is parsed here, once.
+fn payloads_of(alloc: Global, texts: Vec<Word>) -> Result<Vec<Payload>, Memory>
+    ensures { IfOk result (λ payloads. payloads.items ≡ texts.items) }
+{
+    let mut payloads = Vec::new(alloc);
+    payloads.reserve(texts.len())?;
+    for text in texts {
+        payloads.push(Payload::of(alloc, text)?)?;
+    }
+    Ok(payloads)
 }
 
 /// Puts each text in turn at the left end of the queue, and answers the new length.
@@ -39,6 +39,7 @@ pub fn push(alloc: Global, queues: &mut Queues, queue: Word, texts: Words) -> Re
     ensures ordered { IsOrdered name_cmp queues.new }
     ensures err { OnErr result (queues.new.entries ≡ queues.old.entries) }
 {
-    let count = push_all(alloc, queues, queue, texts.into_list())?;
+    let payloads = payloads_of(alloc, texts.into_list())?;
+    let count = push_all(alloc, queues, queue, payloads)?;
     Ok(length_reply(count))
 }

@@ -3,30 +3,15 @@ ghost use Rattle.std.specs.Prelude.{◌≡◌, ◌≤◌, IfOk, length, map, min
 ghost use Rattle.std.specs.BTreeMap.{IsOrdered};
 ghost use Rattle.sk_resp.specs.Reply.{wire};
 ghost use Rattle.sk_resp.specs.Spelling.{bulk};
-ghost use Rattle.sk_resp.specs.declared.name.Name.{Name};
 ghost use Rattle.sk_model.specs.Lists.{end_index, first_index, range, range_of};
-ghost use Rattle.sk_model.specs.Reading.{Reads};
 ghost use Rattle.sk_model.specs.declared.row.Place.TheVariants.{Queue};
 ghost use Rattle.sk_model.specs.Outcome.{Comes};
 ghost use Rattle.sk_core.specs.Queues.{name_cmp, texts_of, world_of};
 
-use crate::args::{queue, three, whole};
+use crate::payloads::Payloads;
 use crate::queues::Queues;
-use crate::texts::Texts;
-use sk_model::Command;
-use sk_resp::{Memory, Name, Replies, Reply, Say, Word};
+use sk_resp::{Memory, Replies, Reply, Word};
 use std::alloc::Global;
-
-/// Reads the words behind the command's name.
-pub fn read(words: Vec<Word>) -> Result<Command, Say>
-    ensures { Reads Name.Lrange words.items result }
-{
-    let (key, first, last) = three(Name::Lrange, words)?;
-    let first = whole(&first)?;
-    let last = whole(&last)?;
-    let queue = queue(key)?;
-    Ok(Command::LRange(queue, first, last))
-}
 
 // The index with which a range begins.
 fn start_of(first: i64, count: usize) -> usize
@@ -51,7 +36,7 @@ fn end_of(last: i64, count: usize) -> usize
 }
 
 // The elements of a range, as replies.
-fn range_in(alloc: Global, texts: &Texts, first: i64, last: i64) -> Result<Vec<Reply>, Memory>
+fn range_in(alloc: Global, texts: &Payloads, first: i64, last: i64) -> Result<Vec<Reply>, Memory>
     ensures { IfOk result (λ replies. map wire replies.items ≡ map bulk (range_of first last texts.now)) }
 {
     let count = texts.len();

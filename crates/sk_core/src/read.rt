@@ -1,14 +1,16 @@
-// A command from its words.
-ghost use Rattle.std.specs.Prelude.{◌≡◌, IfSome};
+// What the store does with the words of a command: one of the commands that are built, or a refusal.
+ghost use Rattle.std.specs.Prelude.{◌≡◌, ◌⊎◌, Err};
 ghost use Rattle.std.specs.Str.{str_eq_ignore_ascii_case};
 ghost use Rattle.sk_resp.specs.Name.{spelling};
 ghost use Rattle.sk_resp.specs.declared.name.Name.{Name};
-ghost use Rattle.sk_model.specs.Reading.{IsRead, Names, Reads};
+ghost use Rattle.sk_resp.specs.declared.say.Say.{Say};
+ghost use Rattle.sk_model.specs.Reading.{IsBuilt, IsPlain, IsRead, is_own};
 
-use crate::args::shift;
-use crate::{move_text, push, range};
+use crate::queue_key::queue;
+use sk_cmd::{PlainCommand, Side, read_command};
 use sk_model::Command;
-use sk_resp::{Name, Say, Word, Words};
+use sk_resp::{Name, Say, Words};
+use std::alloc::Global;
 
 fn is(word: &[u8], name: Name) -> bool
     ensures { result ≡ str_eq_ignore_ascii_case word.now (spelling name) }
@@ -16,58 +18,57 @@ fn is(word: &[u8], name: Name) -> bool
     word.eq_ignore_ascii_case(name.spelling())
 }
 
-// The name of a command, in upper or lower case.
-fn name_of(word: &[u8]) -> Option<Name>
-    ensures { Names word.now result }
+// The word is one of the pipe's own.
+fn is_pipes_own(word: &[u8]) -> bool
+    ensures { result ≡ is_own word.now }
 {
-    if is(word, Name::Lmove) {
-        return Some(Name::Lmove);
-    }
-    if is(word, Name::Lpush) {
-        return Some(Name::Lpush);
-    }
-    if is(word, Name::Lrange) {
-        return Some(Name::Lrange);
-    }
-    if is(word, Name::Ping) {
-        return Some(Name::Ping);
-    }
-    None
+    is(word, Name::As) || is(word, Name::Now) || is(word, Name::Cut)
 }
 
-// PING, with no more words.
-fn read_ping(words: Vec<Word>) -> Result<Command, Say>
-    ensures { Reads Name.Ping words.items result }
+// The command, where its form is built.
+fn plain(command: PlainCommand) -> Result<Command, Say>
+    ensures { IsPlain command result }
 {
-    match words.len() {
-        0 => Ok(Command::Ping),
-        1 => Err(Say::NotBuilt),
-        _ => Err(Say::Arity(Name::Ping)),
-    }
-}
-
-fn read_as(name: Name, words: Vec<Word>) -> Result<Command, Say>
-    ensures { Reads name words.items result }
-{
-    match name {
-        Name::Ping => read_ping(words),
-        Name::Lpush => push::read(words),
-        Name::Lrange => range::read(words),
-        Name::Lmove => move_text::read(words),
+    match command {
+        PlainCommand::Ping(None) => Ok(Command::Ping),
+        PlainCommand::Lpush(key, texts) => {
+            let queue = queue(key)?;
+            Ok(Command::LPush(queue, texts))
+        }
+        PlainCommand::Lrange(key, first, last) => {
+            let queue = queue(key)?;
+            Ok(Command::LRange(queue, first, last))
+        }
+        PlainCommand::Lmove(source, destination, Side::Right, Side::Left) => {
+            let source = queue(source)?;
+            let destination = queue(destination)?;
+            Ok(Command::LMove(source, destination))
+        }
+        _ => Err(Say::NotBuilt),
     }
 }
 
-/// The command, with its arguments read, or the text that refuses it. Takes no memory.
-pub fn read(words: Words) -> Result<Command, Say>
-    ensures { IsRead words result }
+fn built(command: sk_cmd::Command) -> Result<Command, Say>
+    ensures { IsBuilt command result }
 {
-    let mut words = words.into_list();
-    if words.is_empty() {
-        return Err(Say::NotBuilt);
+    match command {
+        sk_cmd::Command::Plain(command) => plain(command),
+        sk_cmd::Command::Script(_) => Err(Say::NotBuilt),
     }
-    let word = shift(&mut words);
-    let Some(name) = name_of(word.bytes()) else {
+}
+
+/// The command, with its arguments read, or the text that refuses it.
+pub fn read(alloc: Global, words: Words) -> Result<Command, Say>
+    ensures { (result ≡ Err Say.Oom) ⊎ IsRead words result }
+{
+    let [word, ..] = words.list() else {
         return Err(Say::NotBuilt);
     };
-    read_as(name, words)
+    if is_pipes_own(word.bytes()) {
+        return Err(Say::NotBuilt);
+    }
+    match read_command(alloc, words) {
+        Ok(command) => built(command),
+        Err(fault) => Err(fault.say()),
+    }
 }

@@ -59,7 +59,7 @@ impl Core {
                 range(self.alloc, &self.queues, &queue, first, last)
             }
             Command::LMove(source, destination) => {
-                move_text(self.alloc, &mut self.queues, &source, destination)
+                move_text(self.alloc, &mut self.queues, &source, &destination)
             }
         }
     }
@@ -69,7 +69,7 @@ impl Core {
     pub fn step(&mut self, words: Words) -> Reply
         ensures { (o : Outcome) × Steps self.old words o × Comes self.old o result self.new }
     {
-        match read(words) {
+        match read(self.alloc, words) {
             Err(say) => Reply::Say(say),
             Ok(command) => match self.act(command) {
                 Ok(reply) => reply,

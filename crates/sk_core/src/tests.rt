@@ -21,7 +21,8 @@ fn asked(alloc: Global, core: &mut Core, line: &[&str]) -> Result<Vec<u8>, Fail>
 fn texts_are_pushed_shown_and_moved(rt: HostRuntime) -> Result<(), Fail> {
     let alloc = rt.alloc();
     let mut core = Core::new(alloc);
-    let rows: [(&[&str], &str); 7] = [
+    let job = r#"{"jid":"j","class":"C","queue":"q","args":[]}"#;
+    let rows: [(&[&str], &str); 9] = [
         (&["LPUSH", "queue:q", "a", "b"], ":2\r\n"),
         (
             &["LRANGE", "queue:q", "0", "-1"],
@@ -41,6 +42,11 @@ fn texts_are_pushed_shown_and_moved(rt: HostRuntime) -> Result<(), Fail> {
         ),
         (&["LMOVE", "queue:q", "queue:r", "RIGHT", "LEFT"], "$-1\r\n"),
         (&["lrange", "queue:r", "-1", "9"], "*1\r\n$1\r\na\r\n"),
+        (&["LPUSH", "queue:s", job], ":1\r\n"),
+        (
+            &["LMOVE", "queue:s", "queue:q", "RIGHT", "LEFT"],
+            "$45\r\n{\"jid\":\"j\",\"class\":\"C\",\"queue\":\"q\",\"args\":[]}\r\n",
+        ),
     ];
     for (line, want) in rows {
         assert_eq!(rt; asked(alloc, &mut core, line)?.as_slice(), want.as_bytes());

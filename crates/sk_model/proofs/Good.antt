@@ -1,5 +1,5 @@
 -- What the changes of every command owe to the laws. Proved for each kind of change, and for one list of changes after another.
-use Rattle.std.proofs.Common.{◌≡◌, ◌+◌, List, [], ◌∷◌, ◌++◌, refl, ap, arith, true}
+use Rattle.std.proofs.Common.{◌≡◌, ◌+◌, List, [], ◌∷◌, ◌++◌, refl, sym, ap, ◌∙◌, arith, true}
 use Rattle.std.specs.List.{list_any}
 use Rattle.sk_resp.specs.Spelling.{Bytes}
 use Rattle.sk_model.specs.declared.row.Place.{Place}
@@ -8,9 +8,13 @@ use Rattle.sk_model.specs.Rows.{End, is_same, take_row}
 use Rattle.sk_model.specs.World.{World}
 use Rattle.sk_model.specs.Change.{Add, Carry, Change, Moves, carried, changed, perform}
 use Rattle.sk_model.specs.Laws.{copies, pushed}
+use Rattle.sk_model.specs.Life.{Life, Live, stands, life_after, life_through}
 use Rattle.sk_model.proofs.Copies.{copies-put_row, copies-take_row}
+use Rattle.sk_model.proofs.Standing.{stands-add, stands-carry}
 
 pub record Good (w : World) (changes : List Change) : Type 0 where
+  -- a job that is live afterwards stands, where it stood if it was live before
+  pub lives : (jid : Bytes) (life : Life) → (life ≡ Live → stands w jid ≡ true) → life_through w jid life changes ≡ Live → stands (perform w changes) jid ≡ true
   -- a text stands as often as before, and once more for each push of it
   pub counts : (text : Bytes) → copies text (perform w changes) ≡ pushed text changes + copies text w
 
@@ -22,15 +26,26 @@ pushed-append : (text : Bytes) (a b : List Change) → pushed text (a ++ b) ≡ 
 pushed-append text [] b = omega arith
 pushed-append text (change ∷ a) b = omega (arith, pushed-append text a b)
 
+life_through-append : (w : World) (jid : Bytes) (was : Life) (a b : List Change) → life_through w jid was (a ++ b) ≡ life_through (perform w a) jid (life_through w jid was a) b
+life_through-append w jid was [] b = refl
+life_through-append w jid was (change ∷ a) b = life_through-append (changed w change) jid (life_after w jid was change) a b
+
 pub good_nothing : (w : World) → Good w []
-good_nothing w = record { counts = λ text. omega arith }
+good_nothing w = record { lives = λ jid life stood live. stood live; counts = λ text. omega arith }
 
 pub good_append : (w : World) (a b : List Change) → Good w a → Good (perform w a) b → Good w (a ++ b)
-good_append w a b first then_ = record { counts = λ text. omega (arith, ap (copies text) (perform-append w a b), pushed-append text a b, first.counts text, then_.counts text) }
+good_append w a b first then_ = record {
+  lives = λ jid life stood live. ap (λ v. stands v jid) (perform-append w a b)
+      ∙ then_.lives jid (life_through w jid life a) (first.lives jid life stood) (sym (life_through-append w jid life a b) ∙ live);
+  counts = λ text. omega (arith, ap (copies text) (perform-append w a b), pushed-append text a b, first.counts text, then_.counts text);
+}
 
 pub good_add : (w : World) (row : Row) (end : End) → Good w (Moves (Add row end) ∷ [])
-good_add w row end = record { counts = λ text. omega (arith, copies-put_row text end row w.rows) }
+good_add w row end = record { lives = λ jid life stood live. stands-add w row end jid life stood live; counts = λ text. omega (arith, copies-put_row text end row w.rows) }
 
 -- a row that is there may go to another place
 pub good_carry : (w : World) (row : Row) (from : End) (to : Place) (end : End) → list_any (is_same row) w.rows ≡ true → Good w (Moves (Carry row from to end) ∷ [])
-good_carry w row from to end there = record { counts = λ text. omega (arith, copies-put_row text end (carried row to) (take_row from row w.rows), copies-take_row text from row w.rows there) }
+good_carry w row from to end there = record {
+  lives = λ jid life stood live. stands-carry w row from to end jid (stood live);
+  counts = λ text. omega (arith, copies-put_row text end (carried row to) (take_row from row w.rows), copies-take_row text from row w.rows there);
+}

@@ -1,5 +1,6 @@
 pub mod Texts
 pub mod Copies
+pub mod Standing
 pub mod Good
 pub mod Commands
 pub mod Runs

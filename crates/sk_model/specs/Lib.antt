@@ -6,4 +6,5 @@ pub mod Outcome
 pub mod Lists
 pub mod Step
 pub mod Run
+pub mod Life
 pub mod Laws

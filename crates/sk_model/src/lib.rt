@@ -6,5 +6,5 @@ mod laws;
 mod row;
 
 pub use command::Command;
-pub use laws::{nothing_is_lost, words_have_one_reading};
+pub use laws::{live_jobs_stand, nothing_is_lost, words_have_one_reading};
 pub use row::{Place, Row};

@@ -1,5 +1,5 @@
 // A job's text, kept with its head.
-ghost use Rattle.std.specs.Prelude.{◌≡◌, IfOk, option_map};
+ghost use Rattle.std.specs.Prelude.{◌≡◌, [], IfOk, option_map};
 ghost use Rattle.sk_payload.specs.Head.{head as head_of};
 
 use crate::Memory;
@@ -34,6 +34,16 @@ impl Payload {
     {
         let head = read_head(alloc, text.bytes())?;
         Ok(Payload { text, head })
+    }
+
+    /// The empty text. It has no head. Takes no memory.
+    pub fn empty(alloc: Global) -> Payload
+        ensures { result ≡ [] }
+    {
+        Payload {
+            text: Word::new(Vec::new(alloc)),
+            head: None,
+        }
     }
 
     pub fn text(&self) -> &Word

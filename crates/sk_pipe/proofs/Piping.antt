@@ -19,6 +19,7 @@ use Rattle.sk_resp.specs.declared.reply.Reply.{Reply}
 use Rattle.sk_model.specs.World.{World}
 use Rattle.sk_model.specs.Run.{Answers}
 use Rattle.sk_model.proofs.Running.{answers_nothing, answers_on}
+use Rattle.sk_model.proofs.Runs.{answers_conserve}
 use Rattle.sk_pipe.specs.Pipe.{Serves, Refuses, Due, DueFront, Ends, refusal}
 use Rattle.sk_pipe.specs.Driving.{IsWriteStop, IsStop, EndsAt, ServesFront, Stopped}
 
@@ -28,18 +29,19 @@ joined-append : (xs ys : List Bytes) → joined (xs ++ ys) ≡ joined xs ++ join
 joined-append [] ys = refl
 joined-append (x ∷ xs) ys = ap (λ z. x ++ z) (joined-append xs ys) ∙ sym (append_assoc x (joined xs) (joined ys))
 
+serves_text : (old new : World) (commands : List Command) (replies : List Reply) (written : Bytes) → Answers old commands replies new → written ≡ joined (map wire replies) → Serves old commands new written
+serves_text old new commands replies written answers text = record { replies = replies; answers = answers; live_jobs_stand = answers_conserve old new commands replies answers; text = text }
+
 pub serves_nothing : (w : World) → Serves w [] w []
-serves_nothing w = record { replies = []; answers = answers_nothing w; text = refl }
+serves_nothing w = serves_text w w [] [] [] (answers_nothing w) refl
 
 pub serves_on : (old mid new : World) (commands others : List Command) (written more : Bytes) → Serves old commands mid written → Serves mid others new more → Serves old (commands ++ others) new (written ++ more)
-serves_on old mid new commands others written more s t = record {
-  replies = s.replies ++ t.replies;
-  answers = answers_on old mid new commands others s.replies t.replies s.answers t.answers;
-  text = ap (λ z. z ++ more) s.text ∙ ap (λ z. joined (map wire s.replies) ++ z) t.text ∙ sym (joined-append (map wire s.replies) (map wire t.replies)) ∙ ap joined (sym (map-append wire s.replies t.replies));
-}
+serves_on old mid new commands others written more s t =
+    serves_text old new (commands ++ others) (s.replies ++ t.replies) (written ++ more) (answers_on old mid new commands others s.replies t.replies s.answers t.answers)
+    (ap (λ z. z ++ more) s.text ∙ ap (λ z. joined (map wire s.replies) ++ z) t.text ∙ sym (joined-append (map wire s.replies) (map wire t.replies)) ∙ ap joined (sym (map-append wire s.replies t.replies)))
 
 serves_one : (old new : World) (words : Command) (reply : Reply) → Answers old (words ∷ []) (reply ∷ []) new → Serves old (words ∷ []) new (wire reply)
-serves_one old new words reply answers = record { replies = reply ∷ []; answers = answers; text = sym (append-nil (wire reply)) }
+serves_one old new words reply answers = serves_text old new (words ∷ []) (reply ∷ []) (wire reply) answers (sym (append-nil (wire reply)))
 
 -- one more command
 pub serves_more : (old mid new : World) (commands : List Command) (written : Bytes) (words : Command) (reply : Reply) → Serves old commands mid written → Answers mid (words ∷ []) (reply ∷ []) new

@@ -9,15 +9,18 @@ use Rattle.sk_resp.specs.declared.wire_fault.WireFault.{WireFault}
 use Rattle.sk_resp.specs.declared.say.Say.TheVariants as say
 use Rattle.sk_resp.specs.declared.reply.Reply.{Reply}
 use Rattle.sk_resp.specs.declared.reply.Reply.TheVariants as reply
-use Rattle.sk_model.specs.World.{World}
+use Rattle.sk_model.specs.World.{World, first}
 use Rattle.sk_model.specs.Run.{Answers}
+use Rattle.sk_model.specs.Laws.{LiveJobsStand}
 use Rattle.sk_pipe.specs.declared.pipe_end.PipeEnd.{PipeEnd}
 use Rattle.sk_pipe.specs.declared.pipe_end.PipeEnd.TheVariants.{Done, Wire, Cut, ReadFault, WriteFault, Memory, Budget}
 
--- These are the replies of one run of the commands, in order. The run leads from the old world to the new one.
+-- These are the replies of one run of the commands, in order. The run leads from the old world to the new one. Where it begins at the first
+-- world, every live job stands after each command.
 pub record Serves (old : World) (commands : List Command) (new : World) (written : Bytes) : Type 0 where
   pub replies : List Reply
   pub answers : Answers old commands replies new
+  pub live_jobs_stand : old ≡ first → LiveJobsStand answers.outcomes
   pub text : written ≡ joined (map wire replies)
 
 -- the reply to a fault of the stream

@@ -29,8 +29,12 @@ fault_text fault.Memory = codes "-OOM want of memory"
 abbrev pub say_text : Say → Bytes
 say_text say.Pong = codes "+PONG"
 say_text say.NotBuilt = codes "-SK not built"
+say_text say.Unknown = codes "-ERR unknown command"
 say_text (say.Arity name) = codes "-ERR wrong number of arguments for '" ++ spelling name ++ codes "' command"
 say_text say.NotInt = codes "-ERR value is not an integer or out of range"
+say_text say.NotScore = codes "-ERR value is not a valid float"
+say_text say.BadBound = codes "-ERR min or max is not a float"
+say_text say.Syntax = codes "-ERR syntax error"
 say_text say.Oom = codes "-OOM want of memory"
 say_text (say.Protocol fault) = fault_text fault
 

@@ -11,10 +11,18 @@ pub enum Say {
     Pong,
     /// `-SK not built`: the command, or this form of it, is not built yet.
     NotBuilt,
+    /// `-ERR unknown command`
+    Unknown,
     /// `-ERR wrong number of arguments for 'ping' command`, with the command's name
     Arity(Name),
     /// `-ERR value is not an integer or out of range`
     NotInt,
+    /// `-ERR value is not a valid float`
+    NotScore,
+    /// `-ERR min or max is not a float`
+    BadBound,
+    /// `-ERR syntax error`
+    Syntax,
     /// `-OOM want of memory`: the command changed nothing.
     Oom,
     /// `-ERR Protocol error: ..`, as the stream's fault says
@@ -76,11 +84,15 @@ pub fn write_say(say: Say, out: &mut Vec<u8>) -> Result<(), Memory>
     match say {
         Say::Pong => out.extend_from_slice(b"+PONG"),
         Say::NotBuilt => out.extend_from_slice(b"-SK not built"),
+        Say::Unknown => out.extend_from_slice(b"-ERR unknown command"),
         Say::Arity(name) => {
             let front = b"-ERR wrong number of arguments for '";
             write_quoting(front, name.spelling(), b"' command", out)
         }
         Say::NotInt => out.extend_from_slice(b"-ERR value is not an integer or out of range"),
+        Say::NotScore => out.extend_from_slice(b"-ERR value is not a valid float"),
+        Say::BadBound => out.extend_from_slice(b"-ERR min or max is not a float"),
+        Say::Syntax => out.extend_from_slice(b"-ERR syntax error"),
         Say::Oom => out.extend_from_slice(b"-OOM want of memory"),
         Say::Protocol(fault) => write_fault(fault, out),
     }

@@ -1,5 +1,5 @@
-use Rattle.sk_model.proofs.Runs.{conserve}
+use Rattle.sk_model.proofs.Runs.{copies_kept}
 use Rattle.sk_model.proofs.laws.nothing_is_lost.Goals as goal
 
 pub returns : goal.returns
-returns c = conserve
+returns c = copies_kept

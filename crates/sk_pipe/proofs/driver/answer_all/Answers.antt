@@ -1,9 +1,15 @@
 use Rattle.std.proofs.Common.{◌≡◌, ◌++◌, ◌∷◌, [], ◌∙◌, ap, sym, append_assoc, length, arith}
 use Rattle.std.specs.Vec.Iter.{into_iter_items}
-use Rattle.sk_base.proofs.OutsideLaws.{takes_more}
+use Rattle.sk_base.proofs.OutsideLaws.{takes_more, takes_nothing}
 use Rattle.sk_resp.specs.Reply.{wire}
-use Rattle.sk_pipe.proofs.Piping.{serves_more, front_of_all}
+use Rattle.sk_pipe.proofs.Piping.{serves_nothing, serves_more, front_of_all}
 use Rattle.sk_pipe.proofs.driver.answer_all.Goals as goal
+
+pub loop-words-init : goal.loop-words-init
+loop-words-init g c = record {
+  served = ([], ([], sym c.into_iter-words-iterator.ensures.into_iter_gives.0, serves_nothing c.args.store.now, takes_nothing (g.K.Sink.taken c.args.sink.now)));
+  later = omega arith;
+}
 
 pub returns-in-Err-clause-err : goal.returns-in-Err-clause-err
 returns-in-Err-clause-err g c =

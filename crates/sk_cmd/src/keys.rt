@@ -1,0 +1,112 @@
+// The commands of the connection and of single keys: how their arguments are read.
+ghost use Rattle.std.specs.Prelude.{◌≡◌};
+ghost use Rattle.sk_resp.specs.declared.name.Name.TheVariants as Name;
+ghost use Rattle.sk_cmd.specs.Table.{Reads};
+
+use crate::counts::{is_from, one, some, two_and, zero};
+use crate::forms::{key_whole, plain};
+use crate::options::set_options;
+use crate::{CmdFault, Command, PlainCommand};
+use sk_resp::{Name, Word};
+
+/// `PING [text]`
+pub fn ping(words: Vec<Word>) -> Result<Command, CmdFault>
+    ensures { Reads Name.Ping words.items result }
+{
+    if words.is_empty() {
+        return plain(PlainCommand::Ping(None));
+    }
+    plain(PlainCommand::Ping(Some(one(Name::Ping, words)?)))
+}
+
+/// `ECHO text`
+pub fn echo(words: Vec<Word>) -> Result<Command, CmdFault>
+    ensures { Reads Name.Echo words.items result }
+{
+    plain(PlainCommand::Echo(one(Name::Echo, words)?))
+}
+
+/// `QUIT`
+pub fn quit(words: Vec<Word>) -> Result<Command, CmdFault>
+    ensures { Reads Name.Quit words.items result }
+{
+    zero(Name::Quit, words)?;
+    plain(PlainCommand::Quit)
+}
+
+/// `SHUTDOWN`
+pub fn shutdown(words: Vec<Word>) -> Result<Command, CmdFault>
+    ensures { Reads Name.Shutdown words.items result }
+{
+    zero(Name::Shutdown, words)?;
+    plain(PlainCommand::Shutdown)
+}
+
+/// `FLUSHALL`
+pub fn flushall(words: Vec<Word>) -> Result<Command, CmdFault>
+    ensures { Reads Name.Flushall words.items result }
+{
+    zero(Name::Flushall, words)?;
+    plain(PlainCommand::Flushall)
+}
+
+/// `GET key`
+pub fn get(words: Vec<Word>) -> Result<Command, CmdFault>
+    ensures { Reads Name.Get words.items result }
+{
+    plain(PlainCommand::Get(one(Name::Get, words)?))
+}
+
+/// `SET key value [NX] [EX seconds | PX milliseconds]`
+pub fn set(words: Vec<Word>) -> Result<Command, CmdFault>
+    ensures { Reads Name.Set words.items result }
+{
+    let fits = is_from(2, 5, words.len());
+    let (key, value, options) = two_and(Name::Set, fits, words)?;
+    let options = set_options(options.list())?;
+    plain(PlainCommand::Set(key, value, options))
+}
+
+/// `DEL key ..`
+pub fn del(words: Vec<Word>) -> Result<Command, CmdFault>
+    ensures { Reads Name.Del words.items result }
+{
+    plain(PlainCommand::Del(some(Name::Del, words)?))
+}
+
+/// `EXISTS key ..`
+pub fn exists(words: Vec<Word>) -> Result<Command, CmdFault>
+    ensures { Reads Name.Exists words.items result }
+{
+    plain(PlainCommand::Exists(some(Name::Exists, words)?))
+}
+
+/// `TYPE key`
+pub fn kind_of(words: Vec<Word>) -> Result<Command, CmdFault>
+    ensures { Reads Name.KindOf words.items result }
+{
+    plain(PlainCommand::KindOf(one(Name::KindOf, words)?))
+}
+
+/// `INCRBY key n`
+pub fn incrby(words: Vec<Word>) -> Result<Command, CmdFault>
+    ensures { Reads Name.Incrby words.items result }
+{
+    let (key, n) = key_whole(Name::Incrby, words)?;
+    plain(PlainCommand::Incrby(key, n))
+}
+
+/// `PEXPIRE key milliseconds`
+pub fn pexpire(words: Vec<Word>) -> Result<Command, CmdFault>
+    ensures { Reads Name.Pexpire words.items result }
+{
+    let (key, n) = key_whole(Name::Pexpire, words)?;
+    plain(PlainCommand::Pexpire(key, n))
+}
+
+/// `PTTL key`
+pub fn pttl(words: Vec<Word>) -> Result<Command, CmdFault>
+    ensures { Reads Name.Pttl words.items result }
+{
+    plain(PlainCommand::Pttl(one(Name::Pttl, words)?))
+}

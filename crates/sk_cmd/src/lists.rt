@@ -1,0 +1,60 @@
+// The commands of lists: how their arguments are read.
+ghost use Rattle.std.specs.Prelude.{◌≡◌};
+ghost use Rattle.sk_resp.specs.declared.name.Name.TheVariants as Name;
+ghost use Rattle.sk_cmd.specs.Table.{Reads};
+
+use crate::argument::{read_side, read_whole};
+use crate::counts::{four, one, three};
+use crate::forms::{key_range, key_texts, plain};
+use crate::{CmdFault, Command, PlainCommand};
+use sk_resp::{Name, Word};
+
+/// `LPUSH key element ..`
+pub fn lpush(words: Vec<Word>) -> Result<Command, CmdFault>
+    ensures { Reads Name.Lpush words.items result }
+{
+    let (key, texts) = key_texts(Name::Lpush, words)?;
+    plain(PlainCommand::Lpush(key, texts))
+}
+
+/// `RPUSH key element ..`
+pub fn rpush(words: Vec<Word>) -> Result<Command, CmdFault>
+    ensures { Reads Name.Rpush words.items result }
+{
+    let (key, texts) = key_texts(Name::Rpush, words)?;
+    plain(PlainCommand::Rpush(key, texts))
+}
+
+/// `LRANGE key first last`
+pub fn lrange(words: Vec<Word>) -> Result<Command, CmdFault>
+    ensures { Reads Name.Lrange words.items result }
+{
+    let (key, first, last) = key_range(Name::Lrange, words)?;
+    plain(PlainCommand::Lrange(key, first, last))
+}
+
+/// `LLEN key`
+pub fn llen(words: Vec<Word>) -> Result<Command, CmdFault>
+    ensures { Reads Name.Llen words.items result }
+{
+    plain(PlainCommand::Llen(one(Name::Llen, words)?))
+}
+
+/// `LREM key count element`
+pub fn lrem(words: Vec<Word>) -> Result<Command, CmdFault>
+    ensures { Reads Name.Lrem words.items result }
+{
+    let (key, count, element) = three(Name::Lrem, words)?;
+    let count = read_whole(count.bytes())?;
+    plain(PlainCommand::Lrem(key, count, element))
+}
+
+/// `LMOVE source destination LEFT|RIGHT LEFT|RIGHT`
+pub fn lmove(words: Vec<Word>) -> Result<Command, CmdFault>
+    ensures { Reads Name.Lmove words.items result }
+{
+    let (source, destination, from, to) = four(Name::Lmove, words)?;
+    let from = read_side(from.bytes())?;
+    let to = read_side(to.bytes())?;
+    plain(PlainCommand::Lmove(source, destination, from, to))
+}
