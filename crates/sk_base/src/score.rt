@@ -19,7 +19,6 @@ pub struct Score(i64);
 
 impl Model for Score {
     ghost use Rattle.std.specs.Prelude.{ℤ, unsigned_abs, ◌≤◌};
-
     ghost use Rattle.sk_base.specs.Score.{greatest};
 
     ghost Value = { ℤ };

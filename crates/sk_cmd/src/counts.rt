@@ -113,7 +113,11 @@ pub fn two_and(name: Name, fits: bool, words: Vec<Word>) -> Result<(Word, Word, 
 }
 
 /// Three words and the rest, where there are three and the number fits
-pub fn three_and(name: Name, fits: bool, words: Vec<Word>) -> Result<(Word, Word, Word, Words), CmdFault>
+pub fn three_and(
+    name: Name,
+    fits: bool,
+    words: Vec<Word>,
+) -> Result<(Word, Word, Word, Words), CmdFault>
     ensures { IsThreeAnd name fits words.items result }
 {
     let mut words = words;
@@ -130,7 +134,10 @@ pub fn three_and(name: Name, fits: bool, words: Vec<Word>) -> Result<(Word, Word
 }
 
 /// Five words and the rest, where there are five
-pub fn five_and(name: Name, words: Vec<Word>) -> Result<(Word, Word, Word, Word, Word, Words), CmdFault>
+pub fn five_and(
+    name: Name,
+    words: Vec<Word>,
+) -> Result<(Word, Word, Word, Word, Word, Words), CmdFault>
     ensures { IsFiveAnd name words.items result }
 {
     let mut words = words;

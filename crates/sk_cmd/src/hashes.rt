@@ -5,7 +5,7 @@ ghost use Rattle.sk_cmd.specs.Table.{Reads};
 
 use crate::counts::{one, one_and, two};
 use crate::forms::{key_texts, plain};
-use crate::pairs::{read_pairs};
+use crate::pairs::read_pairs;
 use crate::{CmdFault, Command, PlainCommand};
 use sk_resp::{Name, Word};
 use std::alloc::Global;

@@ -5,7 +5,7 @@ ghost use Rattle.sk_cmd.specs.Table.{Reads};
 
 use crate::counts::{is_from, one, some, two_and, zero};
 use crate::forms::{key_whole, plain};
-use crate::options::{set_options};
+use crate::options::set_options;
 use crate::{CmdFault, Command, PlainCommand};
 use sk_resp::{Name, Word};
 

@@ -4,8 +4,7 @@ ghost use Rattle.sk_cmd.specs.Table.{IsRead, Reads};
 
 use crate::counts::shift;
 use crate::name_of::name_of;
-use crate::{CmdFault, Command};
-use crate::{hashes, keys, lists, scripts, sets, sorted_sets};
+use crate::{CmdFault, Command, hashes, keys, lists, scripts, sets, sorted_sets};
 use sk_resp::{Name, Word, Words};
 use std::alloc::Global;
 

@@ -6,7 +6,7 @@ ghost use Rattle.sk_cmd.specs.Table.{Reads};
 use crate::argument::{read_due_set, read_limit, read_scored, read_slot};
 use crate::counts::{five_and, four, is_from, one, one_and, two, zero};
 use crate::forms::{key_texts, script};
-use crate::scores::{score_option};
+use crate::scores::score_option;
 use crate::{CmdFault, Command, ScriptCommand};
 use sk_resp::{Name, Word};
 
