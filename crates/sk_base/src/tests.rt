@@ -57,3 +57,47 @@ fn names_are_text_without_control_characters(rt: HostRuntime) {
         assert_eq!(rt; is_name(text, most), want);
     }
 }
+
+#[test]
+fn a_score_is_read_and_written_as_its_shortest_text(rt: HostRuntime) -> Result<(), Fail> {
+    let alloc = rt.alloc();
+    let rows: [(&str, &str); 9] = [
+        ("0", "0"),
+        ("-0.0", "0"),
+        ("007", "7"),
+        ("1.50", "1.5"),
+        ("-0.000001", "-0.000001"),
+        ("-1.0000019", "-1.000001"),
+        ("9223372036854.7758079", "9223372036854.775807"),
+        ("-9223372036854.775807", "-9223372036854.775807"),
+        ("00000000000000000000000000000001.05", "1.05"),
+    ];
+    for (text, want) in rows {
+        let Ok(score) = Score::read(text.as_bytes()) else {
+            return Err(Fail::new("no score"));
+        };
+        let mut written = Vec::new(alloc);
+        score.write(alloc, &mut written)?;
+        assert_eq!(rt; written.as_slice(), want.as_bytes());
+    }
+    Ok(())
+}
+
+#[test]
+fn another_text_is_no_score(rt: HostRuntime) -> Result<(), Fail> {
+    let decimal: [&str; 12] = [
+        "", "-", "+1", ".5", "5.", "-.5", "1e9", "1.5.2", " 1", "1 ", "inf", "0x10",
+    ];
+    for text in decimal {
+        assert_eq!(rt; Score::read(text.as_bytes()), Err(ScoreFault::NotDecimal));
+    }
+    let range: [&str; 3] = [
+        "9223372036854.775808",
+        "-9223372036854.775808",
+        "99999999999999999999",
+    ];
+    for text in range {
+        assert_eq!(rt; Score::read(text.as_bytes()), Err(ScoreFault::Range));
+    }
+    Ok(())
+}

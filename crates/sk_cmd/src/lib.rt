@@ -25,3 +25,6 @@ pub use command::{Command, PlainCommand, ScriptCommand};
 pub use laws::one_command;
 pub use pairs::{Pairs, Scores};
 pub use read::read_command;
+
+#[cfg(test)]
+mod tests;

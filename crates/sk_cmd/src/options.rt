@@ -1,6 +1,8 @@
 // Options: in any order, each at most once, read word by word from left to right.
 ghost use Rattle.std.specs.Prelude.{◌≡◌};
-ghost use Rattle.sk_cmd.specs.Options.{IsRangeEnd, IsRangeOptions, IsRangeStep, IsSetEnd, IsSetOptions, IsSetStep, IsWithScores, expires, no_range_options, no_set_options};
+ghost use Rattle.sk_cmd.specs.declared.options.RangeNext.TheVariants as RangeNext;
+ghost use Rattle.sk_cmd.specs.declared.options.SetNext.TheVariants as SetNext;
+ghost use Rattle.sk_cmd.specs.Options.{IsRangeEnd, IsRangeOptions, IsRangeStep, IsRangeWord, IsSetEnd, IsSetOptions, IsSetStep, IsSetWord, IsWithScores, expires, no_range_options, no_set_options};
 
 use crate::argument::{read_whole, says};
 use crate::{CmdFault, Expire, RangeOptions, SetOptions};
@@ -54,61 +56,53 @@ fn has_expire(expire: Expire) -> bool
     }
 }
 
+impl SetSoFar {
+    fn new(only_new: bool, expire: Expire, next: SetNext) -> SetSoFar
+        ensures { result ≡ record { only_new = only_new; expire = expire; next = next } }
+    {
+        SetSoFar {
+            only_new,
+            expire,
+            next,
+        }
+    }
+}
+
+// A word where an option may stand.
+fn set_option(word: &[u8], before: SetSoFar) -> Result<SetSoFar, CmdFault>
+    ensures { IsSetWord SetNext.Word word.now before result }
+{
+    if says(word, b"NX") {
+        if before.only_new {
+            return Err(CmdFault::Syntax);
+        }
+        return Ok(SetSoFar::new(true, before.expire, SetNext::Word));
+    }
+    if has_expire(before.expire) {
+        return Err(CmdFault::Syntax);
+    }
+    if says(word, b"EX") {
+        return Ok(SetSoFar::new(before.only_new, before.expire, SetNext::Seconds));
+    }
+    if says(word, b"PX") {
+        return Ok(SetSoFar::new(before.only_new, before.expire, SetNext::Millis));
+    }
+    Err(CmdFault::Syntax)
+}
+
 fn set_step(word: &[u8], before: SetSoFar) -> Result<SetSoFar, CmdFault>
     ensures { IsSetStep word.now before result }
 {
-    let SetSoFar {
-        only_new,
-        expire,
-        next,
-    } = before;
-    match next {
+    match before.next {
         SetNext::Seconds => {
             let n = read_whole(word)?;
-            Ok(SetSoFar {
-                only_new,
-                expire: Expire::Seconds(n),
-                next: SetNext::Word,
-            })
+            Ok(SetSoFar::new(before.only_new, Expire::Seconds(n), SetNext::Word))
         }
         SetNext::Millis => {
             let n = read_whole(word)?;
-            Ok(SetSoFar {
-                only_new,
-                expire: Expire::Millis(n),
-                next: SetNext::Word,
-            })
+            Ok(SetSoFar::new(before.only_new, Expire::Millis(n), SetNext::Word))
         }
-        SetNext::Word => {
-            if says(word, b"NX") {
-                if only_new {
-                    return Err(CmdFault::Syntax);
-                }
-                return Ok(SetSoFar {
-                    only_new: true,
-                    expire,
-                    next: SetNext::Word,
-                });
-            }
-            if has_expire(expire) {
-                return Err(CmdFault::Syntax);
-            }
-            if says(word, b"EX") {
-                return Ok(SetSoFar {
-                    only_new,
-                    expire,
-                    next: SetNext::Seconds,
-                });
-            }
-            if says(word, b"PX") {
-                return Ok(SetSoFar {
-                    only_new,
-                    expire,
-                    next: SetNext::Millis,
-                });
-            }
-            Err(CmdFault::Syntax)
-        }
+        SetNext::Word => set_option(word, before),
     }
 }
 
@@ -139,62 +133,54 @@ fn set_rest(words: &[Word], before: SetSoFar) -> Result<SetOptions, CmdFault>
 pub fn set_options(words: &[Word]) -> Result<SetOptions, CmdFault>
     ensures { IsSetOptions words.now no_set_options result }
 {
-    let before = SetSoFar {
-        only_new: false,
-        expire: Expire::Never,
-        next: SetNext::Word,
-    };
+    let before = SetSoFar::new(false, Expire::Never, SetNext::Word);
     set_rest(words, before)
+}
+
+impl RangeSoFar {
+    fn new(with_scores: bool, limit: Option<(i64, i64)>, next: RangeNext) -> RangeSoFar
+        ensures { result ≡ record { with_scores = with_scores; limit = limit; next = next } }
+    {
+        RangeSoFar {
+            with_scores,
+            limit,
+            next,
+        }
+    }
+}
+
+// A word where an option may stand.
+fn range_option(word: &[u8], before: RangeSoFar) -> Result<RangeSoFar, CmdFault>
+    ensures { IsRangeWord RangeNext.Word word.now before result }
+{
+    if says(word, b"WITHSCORES") {
+        if before.with_scores {
+            return Err(CmdFault::Syntax);
+        }
+        return Ok(RangeSoFar::new(true, before.limit, RangeNext::Word));
+    }
+    if says(word, b"LIMIT") {
+        if before.limit.is_some() {
+            return Err(CmdFault::Syntax);
+        }
+        return Ok(RangeSoFar::new(before.with_scores, before.limit, RangeNext::Skip));
+    }
+    Err(CmdFault::Syntax)
 }
 
 fn range_step(word: &[u8], before: RangeSoFar) -> Result<RangeSoFar, CmdFault>
     ensures { IsRangeStep word.now before result }
 {
-    let RangeSoFar {
-        with_scores,
-        limit,
-        next,
-    } = before;
-    match next {
+    match before.next {
         RangeNext::Skip => {
             let skip = read_whole(word)?;
-            Ok(RangeSoFar {
-                with_scores,
-                limit,
-                next: RangeNext::Count(skip),
-            })
+            Ok(RangeSoFar::new(before.with_scores, before.limit, RangeNext::Count(skip)))
         }
         RangeNext::Count(skip) => {
             let count = read_whole(word)?;
-            Ok(RangeSoFar {
-                with_scores,
-                limit: Some((skip, count)),
-                next: RangeNext::Word,
-            })
+            Ok(RangeSoFar::new(before.with_scores, Some((skip, count)), RangeNext::Word))
         }
-        RangeNext::Word => {
-            if says(word, b"WITHSCORES") {
-                if with_scores {
-                    return Err(CmdFault::Syntax);
-                }
-                return Ok(RangeSoFar {
-                    with_scores: true,
-                    limit,
-                    next: RangeNext::Word,
-                });
-            }
-            if says(word, b"LIMIT") {
-                if limit.is_some() {
-                    return Err(CmdFault::Syntax);
-                }
-                return Ok(RangeSoFar {
-                    with_scores,
-                    limit,
-                    next: RangeNext::Skip,
-                });
-            }
-            Err(CmdFault::Syntax)
-        }
+        RangeNext::Word => range_option(word, before),
     }
 }
 
@@ -225,11 +211,7 @@ fn range_rest(words: &[Word], before: RangeSoFar) -> Result<RangeOptions, CmdFau
 pub fn range_options(words: &[Word]) -> Result<RangeOptions, CmdFault>
     ensures { IsRangeOptions words.now no_range_options result }
 {
-    let before = RangeSoFar {
-        with_scores: false,
-        limit: None,
-        next: RangeNext::Word,
-    };
+    let before = RangeSoFar::new(false, None, RangeNext::Word);
     range_rest(words, before)
 }
 
