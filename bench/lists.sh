@@ -1,23 +1,27 @@
 #!/usr/bin/env bash
-# 100,000 rounds of LPUSH (a job of 118 bytes), LMOVE and PING from a file: `sidekiq pipe` to the null device beside `redis-cli --pipe`
-# into a Redis on the same machine, in one run.
+# 100,000 rounds of LPUSH, LMOVE and PING from a file: `sidekiq pipe` to the null device beside `redis-cli --pipe` into a Redis on the same
+# machine, in one run. Once with 118 bytes that are no job, which the store keeps as bytes; once with a job of 118 bytes, whose head is read
+# at its push, which Redis doesn't do.
 set -eu
 . "$(dirname "$0")/common.sh"
-python3 - "$folder/rounds" <<'PY'
+python3 - "$folder" <<'PY'
 import sys
 job = b'{"args":[1],"class":"Note","created_at":1700000000000,"jid":"%024d","queue":"default","retry":true}'
 
 def command(*words):
     return b'*%d\r\n' % len(words) + b''.join(b'$%d\r\n%s\r\n' % (len(word), word) for word in words)
 
-with open(sys.argv[1], 'wb') as out:
-    for n in range(100_000):
-        out.write(command(b'LPUSH', b'queue:default', job % n))
-        out.write(command(b'LMOVE', b'queue:default', b'queue:low', b'RIGHT', b'LEFT'))
-        out.write(command(b'PING'))
+for name, text in (('bytes', b'x' + job[1:]), ('jobs', job)):
+    with open(sys.argv[1] + '/' + name, 'wb') as out:
+        for n in range(100_000):
+            out.write(command(b'LPUSH', b'queue:default', text % n))
+            out.write(command(b'LMOVE', b'queue:default', b'queue:low', b'RIGHT', b'LEFT'))
+            out.write(command(b'PING'))
 PY
 "$top/bin/sidekiq" pipe <"$top/crates/sidekiq/stdin" >/dev/null      # builds it, where it is stale
 start_redis
-echo "100,000 rounds of LPUSH, LMOVE, PING, the median of five runs, in seconds"
-echo "sidekiq pipe      $(seconds "'$top/bin/sidekiq' pipe <'$folder/rounds' >/dev/null")"
-echo "redis-cli --pipe  $(seconds "redis-cli -s '$folder/redis' --pipe <'$folder/rounds'; redis-cli -s '$folder/redis' flushall")"
+for name in bytes jobs; do
+    echo "100,000 rounds of LPUSH, LMOVE, PING ($name), the median of five runs, in seconds"
+    echo "sidekiq pipe      $(seconds "'$top/bin/sidekiq' pipe <'$folder/$name' >/dev/null")"
+    echo "redis-cli --pipe  $(seconds "redis-cli -s '$folder/redis' --pipe <'$folder/$name'; redis-cli -s '$folder/redis' flushall")"
+done
