@@ -75,7 +75,7 @@ fn inputs_have_their_replies_and_statuses(rt: HostRuntime) -> Result<(), Fail> {
         ),
         (
             b"*1\r\n$0\r\n\r\nNOP\r\n",
-            b"-SK not built\r\n-SK not built\r\n",
+            b"-ERR unknown command\r\n-ERR unknown command\r\n",
             0,
         ),
     ];
