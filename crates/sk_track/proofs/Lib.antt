@@ -1,0 +1,4 @@
+pub mod Descents
+pub mod Edits
+pub mod Ranges
+pub mod Sides

@@ -1,0 +1,236 @@
+// A sorted set over a tracked list of pairs, in order. A member is looked for in one place (`find`); ranks and bounds of scores are found by place.
+ghost use Rattle.std.specs.Prelude.{◌≡◌, ◌-◌, ◌<◌, ◌≤◌, ◌^◌, ℕ, ℤ, nat_lt, true, not, cond, List, [], ◌∷◌, drop, filter, length, option_map, slice_get, take, None, Some, IfOk, IsSome, OnErr, OnOk};
+ghost use Rattle.std.specs.List.{count_by};
+ghost use Rattle.sk_track.specs.Steps.{begun, closed, committed, edited, undone};
+ghost use Rattle.sk_zset.specs.Bounds.{is_below, is_between};
+ghost use Rattle.sk_zset.specs.Order.{InOrder};
+ghost use Rattle.sk_zset.specs.Pairs.{added, first_due, has, lowest_above, pair_of, part, rank, score_of, trimmed, without, without_ranks};
+
+use crate::Memory;
+use crate::bounds::{compare, count_below, range_of};
+use crate::copies::copy_part;
+use crate::edits::{add_pair, drop_member, take_member, take_part};
+use crate::find::place_of;
+use sk_base::{Bound, Score};
+use sk_resp::Word;
+use sk_track::Tracked;
+use std::alloc::Global;
+use std::marker::Model;
+
+/// Pairs of a score and a member, by score and then by the members' bytes, each member once. Contracts see the list of the pairs: what stands
+/// now, and what stood at the begin of an open step. A rank is a pair's place in that list, from 0.
+#[derive(Drop)]
+pub struct ZSet {
+    pairs: Tracked<Score, Word>,
+}
+
+impl Model for ZSet {
+    ghost use Rattle.std.specs.Prelude.{List};
+    ghost use Rattle.sk_track.specs.Steps.{Steps};
+    ghost use Rattle.sk_zset.specs.Pair.{Pair};
+
+    ghost Value = { Steps (List Pair) };
+
+    ghost use Rattle.sk_zset.specs.Order.{InOrder};
+
+    ghost view = { λ z. z.pairs.list };
+
+    ghost invariant = { λ z. InOrder z.pairs.list };
+}
+
+impl ZSet {
+    /// Takes no memory.
+    pub fn new(alloc: Global) -> ZSet
+        ensures { result ≡ closed [] }
+    {
+        ZSet {
+            pairs: Tracked::new(alloc),
+        }
+    }
+
+    /// How many pairs there are (`ZCARD`).
+    pub fn len(&self) -> u64
+        ensures is { result ≡ length self.now.stands }
+        ensures small { result < 2 ^ 63 }
+        ensures order { InOrder self.now }
+    {
+        self.pairs.len() as u64
+    }
+
+    /// Adds a pair, and answers whether its member is new (`ZADD`). A member that was there gets the new score.
+    #[tactic(auto, using(crate::proofs::Order::ordered_added))]
+    pub fn add(&mut self, score: Score, member: Word) -> Result<bool, Memory>
+        ensures answer { IfOk result (λ new. new ≡ not (has member self.old.stands)) }
+        ensures ok { OnOk result (self.new ≡ edited (added (score, member) self.old.stands) self.old) }
+        ensures err { OnErr result (self.new ≡ self.old) }
+    {
+        self.pairs.reserve(2)?;
+        Ok(add_pair(&mut self.pairs, score, member))
+    }
+
+    /// Takes the member's pair out and gives it to the caller. Takes no memory.
+    #[tactic(auto, using(crate::proofs::Order::ordered_without))]
+    pub fn take(&mut self, member: &[u8]) -> Option<(Score, Word)>
+        requires { self.old.stood ≡ None }
+        ensures pair { result ≡ pair_of member.now self.old.stands }
+        ensures rest { self.new ≡ edited (without member.now self.old.stands) self.old }
+    {
+        take_member(&mut self.pairs, member)
+    }
+
+    /// Takes the member's pair out, and answers whether there was one. An open step keeps the pair until it is closed.
+    #[tactic(auto, using(crate::proofs::Order::ordered_without))]
+    pub fn drop_out(&mut self, member: &[u8]) -> Result<bool, Memory>
+        ensures answer { IfOk result (λ was. was ≡ has member.now self.old.stands) }
+        ensures ok { OnOk result (self.new ≡ edited (without member.now self.old.stands) self.old) }
+        ensures err { OnErr result (self.new ≡ self.old) }
+    {
+        self.pairs.reserve(1)?;
+        Ok(drop_member(&mut self.pairs, member))
+    }
+
+    /// The member's score (`ZSCORE`).
+    pub fn score(&self, member: &[u8]) -> Option<Score>
+        ensures { result ≡ score_of member.now self.now.stands }
+    {
+        let at = place_of(&self.pairs, member);
+        if at < self.pairs.len() {
+            Some(self.pairs.get(at).0)
+        } else {
+            None
+        }
+    }
+
+    /// How many pairs stand before the member's.
+    pub fn rank(&self, member: &[u8]) -> Option<u64>
+        ensures { result ≡ rank member.now self.now.stands }
+    {
+        let at = place_of(&self.pairs, member);
+        if at < self.pairs.len() {
+            Some(at as u64)
+        } else {
+            None
+        }
+    }
+
+    /// The pair at a rank.
+    pub fn get(&self, at: u64) -> Option<(Score, &Word)>
+        ensures { option_map (λ p. (p.0, p.1.now)) result ≡ slice_get self.now.stands at }
+    {
+        if at < self.pairs.len() as u64 {
+            let (score, member) = self.pairs.get(at as usize);
+            Some((*score, member))
+        } else {
+            None
+        }
+    }
+
+    /// Copies of at most `count` pairs from the rank `first` on (`ZRANGE`).
+    #[tactic(auto, using(crate::proofs::Windows::take_all))]
+    pub fn range(&self, alloc: Global, first: u64, count: u64) -> Result<Vec<(Score, Word)>, Memory>
+        ensures { IfOk result (λ copies. copies.items ≡ take count (drop first self.now.stands)) }
+    {
+        copy_part(alloc, &self.pairs, 0, self.pairs.len(), first, count)
+    }
+
+    /// How many pairs are below a range of scores that begins at the bound.
+    pub fn count_below(&self, low: Bound) -> u64
+        ensures { result ≡ count_by (λ p. is_below low p.0) self.now.stands }
+    {
+        count_below(&self.pairs, low) as u64
+    }
+
+    /// Copies of the pairs with a score within the bounds: at most `count` of them, behind the first `skip` (`ZRANGEBYSCORE`).
+    pub fn by_score(
+        &self,
+        alloc: Global,
+        low: Bound,
+        high: Bound,
+        skip: u64,
+        count: u64,
+    ) -> Result<Vec<(Score, Word)>, Memory>
+        ensures { IfOk result (λ copies. copies.items ≡ take count (drop skip (filter (is_between low high) self.now.stands))) }
+    {
+        let (first, end) = range_of(&self.pairs, low, high);
+        copy_part(alloc, &self.pairs, first, end, skip, count)
+    }
+
+    /// Takes out at most `count` pairs from the rank `first` on, and answers how many they were (`ZREMRANGEBYRANK`). Takes no memory.
+    #[tactic(auto, using(crate::proofs::Order::ordered_without_ranks))]
+    pub fn remove_ranks(&mut self, first: u64, count: u64) -> u64
+        requires { self.old.stood ≡ None }
+        ensures count { result ≡ length (part first count self.old.stands) }
+        ensures rest { self.new ≡ edited (without_ranks first count self.old.stands) self.old }
+    {
+        let len = self.pairs.len();
+        let from = len.min(first as usize);
+        let size = (len - from).min(count as usize);
+        take_part(&mut self.pairs, from, size);
+        size as u64
+    }
+
+    /// Takes out the pairs with a score within the bounds, and answers how many they were (`ZREMRANGEBYSCORE`). Takes no memory.
+    #[tactic(auto, using(crate::proofs::Order::ordered_without_ranks))]
+    pub fn remove_scores(&mut self, low: Bound, high: Bound) -> u64
+        requires { self.old.stood ≡ None }
+        ensures count { result ≡ count_by (is_between low high) self.old.stands }
+        ensures rest { self.new ≡ edited (filter (λ p. not (is_between low high p)) self.old.stands) self.old }
+    {
+        let (first, end) = range_of(&self.pairs, low, high);
+        take_part(&mut self.pairs, first, end - first);
+        (end - first) as u64
+    }
+
+    /// Takes the first pair out and gives it to the caller, where there are more than `keep`. Takes no memory.
+    #[tactic(auto, using(crate::proofs::Order::ordered_remove))]
+    pub fn trim_low(&mut self, keep: u64) -> Option<(Score, Word)>
+        requires { self.old.stood ≡ None }
+        ensures pair { result ≡ lowest_above keep self.old.stands }
+        ensures rest { self.new ≡ edited (trimmed keep self.old.stands) self.old }
+    {
+        if keep < self.pairs.len() as u64 {
+            Some(self.pairs.take(0))
+        } else {
+            None
+        }
+    }
+
+    /// The first member, where its score is at most `now`.
+    pub fn first_due(&self, now: Score) -> Option<&[u8]>
+        ensures { option_map (λ member. member.now) result ≡ first_due now self.now.stands }
+    {
+        if self.pairs.len() == 0 {
+            return None;
+        }
+        let pair = self.pairs.get(0);
+        if compare(pair.0, now).is_le() {
+            Some(pair.1.bytes())
+        } else {
+            None
+        }
+    }
+
+    /// Opens a step. Takes no memory.
+    pub fn begin(&mut self)
+        requires { self.old.stood ≡ None }
+        ensures { self.new ≡ begun self.old }
+    {
+        self.pairs.begin();
+    }
+
+    /// Closes the step, and what stood at its begin stands again. Takes no memory.
+    pub fn undo(&mut self)
+        requires { IsSome self.old.stood }
+        ensures { self.new ≡ undone self.old }
+    {
+        self.pairs.undo();
+    }
+
+    /// Closes the step, and what stands now stays. Takes no memory.
+    pub fn commit(&mut self)
+        requires { IsSome self.old.stood }
+        ensures { self.new ≡ committed self.old }
+    {
+        self.pairs.commit();
+    }
+}
