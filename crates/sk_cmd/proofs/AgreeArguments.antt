@@ -20,7 +20,7 @@ use Rattle.sk_cmd.specs.Arguments.{IsSide, IsDueSet, IsScored, IsWhole, IsSlot, 
 use Rattle.sk_cmd.specs.Options.{expires, IsSetWord, IsSetLast, IsSetOptions, IsRangeWord, IsRangeLast, IsRangeOptions, IsWithScores}
 use Rattle.sk_cmd.proofs.Agree.{Agree, is_agrees, bool_agrees, then_agrees, follows_agrees, option_agrees, result_agrees}
 
-int_same : (text : Bytes) (m n : Option ℤ) → IsInt text m → IsInt text n → m ≡ n
+pub int_same : (text : Bytes) (m n : Option ℤ) → IsInt text m → IsInt text n → m ≡ n
 int_same text None None p q = refl
 int_same text None (Some z) p (fits, e) = absurd (p z fits e)
 int_same text (Some z) None (fits, e) q = absurd (q z fits e)

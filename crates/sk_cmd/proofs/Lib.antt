@@ -1,4 +1,4 @@
 mod Agree
 mod AgreeCounts
-mod AgreeArguments
+pub mod AgreeArguments
 pub mod AgreeTable

@@ -1,5 +1,11 @@
+pub mod Lists
 pub mod Puts
-pub mod Parts
 pub mod Around
-pub mod Cuts
+pub mod Ends
+pub mod Removing
 pub mod Worlds
+pub mod Comes
+pub mod Naming
+pub mod OnKeys
+pub mod Deleting
+pub mod Classes

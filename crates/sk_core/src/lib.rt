@@ -1,13 +1,18 @@
-//! The store: it does what the abstract store does, over an index of its queues.
+//! The store: it does what the abstract store does, over an index of its queues and the plain keys.
 #![tactic(auto)]
 
-mod move_text;
+mod built;
+mod deletes;
+mod edits;
+mod key_class;
+mod looks;
+mod moves;
+mod names;
 mod payloads;
-mod push;
-mod queue_key;
+mod plain;
+mod pushes;
 mod queues;
-mod range;
-mod read;
+mod removals;
 mod store;
 
 pub use store::Core;

@@ -1,25 +1,37 @@
-// The store.
-ghost use Rattle.std.specs.Prelude.{◌≡◌, IfOk, OnErr};
+// The store: an index of the queues, the plain keys, and the greatest moment that it was handed.
+ghost use Rattle.std.specs.Prelude.{◌≡◌, ◌⊎◌, IfOk, OnErr};
+ghost use Rattle.sk_model.specs.Change.{passed};
 ghost use Rattle.sk_model.specs.Outcome.{Comes, Outcome};
-ghost use Rattle.sk_model.specs.Step.{Steps, act};
+ghost use Rattle.sk_model.specs.Step.{Steps, act, plain_outcome, starves};
 ghost use Rattle.sk_model.specs.World.{first};
 
-use crate::move_text::move_text;
-use crate::push::push;
+use crate::built::is_built;
+use crate::deletes::{delete, flush};
+use crate::edits::edit;
+use crate::looks::{exists, look};
+use crate::moves::move_text;
+use crate::plain::{expire, set};
 use crate::queues::Queues;
-use crate::range::range;
-use crate::read::read;
-use sk_model::Command;
-use sk_resp::{Memory, Reply, Say, Words};
+use sk_cmd::Command;
+use sk_keys::Keys;
+use sk_model::Limits;
+use sk_resp::{Memory, Reply, Say};
+use sk_value::{Action, action_of};
 use std::alloc::Global;
 use std::collections::BTreeMap;
 use std::marker::Model;
+
+/// The last millisecond of the year 9998. A greater moment is taken for it.
+const LAST_MOMENT: u64 = 253_370_764_799_999;
 
 /// All that the store keeps. Contracts see it as the abstract store's world.
 #[derive(Drop)]
 pub struct Core {
     alloc: Global,
+    limits: Limits,
+    moment: u64,
     queues: Queues,
+    keys: Keys,
 }
 
 impl Model for Core {
@@ -37,44 +49,73 @@ impl Model for Core {
 }
 
 impl Core {
-    /// An empty store. Takes no memory.
-    pub fn new(alloc: Global) -> Core
-        ensures { result ≡ first }
+    /// An empty store with these limits, at moment 0. Takes no memory.
+    pub fn new(alloc: Global, limits: Limits) -> Core
+        ensures { result ≡ first limits }
     {
         Core {
             alloc,
+            limits,
+            moment: 0,
             queues: BTreeMap::new(alloc),
+            keys: Keys::new(alloc),
         }
     }
 
-    // Does a command. Where memory runs out nothing has changed.
-    fn act(&mut self, command: Command) -> Result<Reply, Memory>
-        ensures ok { IfOk result (λ reply. Comes self.old (act self.old command) reply self.new) }
+    // The store is handed a moment. What is over goes.
+    fn pass(&mut self, now: u64)
+        ensures { self.new ≡ passed now self.old }
+    {
+        self.moment = self.moment.max(now.min(LAST_MOMENT));
+        self.keys.purge(self.moment);
+    }
+
+    // Does what a command does. Where memory runs out nothing has changed.
+    fn act(&mut self, action: Action) -> Result<Reply, Memory>
+        ensures ok { IfOk result (λ reply. Comes self.old (act self.old action) reply self.new) }
         ensures err { OnErr result (self.new ≡ self.old) }
     {
-        match command {
-            Command::Ping => Ok(Reply::Say(Say::Pong)),
-            Command::LPush(queue, texts) => push(self.alloc, &mut self.queues, queue, texts),
-            Command::LRange(queue, first, last) => {
-                range(self.alloc, &self.queues, &queue, first, last)
+        let (alloc, moment) = (self.alloc, self.moment);
+        let (queues, keys) = (&mut self.queues, &mut self.keys);
+        match action {
+            Action::Ping => Ok(Reply::Say(Say::Pong)),
+            Action::Echo(text) => Ok(Reply::Bulk(text)),
+            Action::Quit => Ok(Reply::Say(Say::Ok)),
+            Action::Look(key, how) => look(alloc, moment, queues, keys, key, how),
+            Action::Edit(key, how) => edit(alloc, moment, queues, keys, key, how),
+            Action::Set(key, text, options) => set(keys, moment, key, text, options),
+            Action::Expire(key, millis) => expire(keys, moment, key, millis),
+            Action::Exists(names) => Ok(exists(queues, keys, names)),
+            Action::Delete(names) => Ok(delete(queues, keys, names)),
+            Action::Move(source, destination, from, to) => {
+                move_text(alloc, moment, queues, keys, source, destination, from, to)
             }
-            Command::LMove(source, destination) => {
-                move_text(self.alloc, &mut self.queues, &source, &destination)
-            }
+            Action::Flush => Ok(flush(queues, keys)),
         }
     }
 
-    /// Does the command that the words are, as the abstract store does it, and answers its reply: a refusal where
-    /// they are none. Where memory runs out the reply says so, and nothing has changed.
-    pub fn step(&mut self, words: Words) -> Reply
-        ensures { (o : Outcome) × Steps self.old words o × Comes self.old o result self.new }
+    // Does it at a moment, where it is built.
+    fn step_plain(&mut self, now: u64, action: Action) -> Reply
+        ensures { (o : Outcome) × ((o ≡ plain_outcome self.old now action) ⊎ (o ≡ starves now)) × Comes self.old o result self.new }
     {
-        match read(self.alloc, words) {
-            Err(say) => Reply::Say(say),
-            Ok(command) => match self.act(command) {
-                Ok(reply) => reply,
-                Err(_) => Reply::Say(Say::Oom),
-            },
+        if !is_built(&action) {
+            return Reply::Say(Say::NotBuilt);
+        }
+        self.pass(now);
+        match self.act(action) {
+            Ok(reply) => reply,
+            Err(_) => Reply::Say(Say::Oom),
+        }
+    }
+
+    /// Does a command at the moment `now`, in milliseconds since 1970, as the abstract store does it, and answers its reply. The greatest moment
+    /// that the store was handed counts. Where memory runs out the reply says so, and time alone has gone on.
+    pub fn step(&mut self, now: u64, command: Command) -> Reply
+        ensures { (o : Outcome) × Steps self.old now command o × Comes self.old o result self.new }
+    {
+        match command {
+            Command::Plain(command) => self.step_plain(now, action_of(command)),
+            Command::Script(_) => Reply::Say(Say::NotBuilt),
         }
     }
 }

@@ -1,55 +1,109 @@
-// What no clause says: that with memory at hand the store does its commands.
+// What no clause says: that with memory at hand every command is done, each at its moment.
 
 use super::*;
+use sk_cmd::{Command, read_command};
+use sk_model::Limits;
 use sk_resp::{Word, Words, write_reply};
 use std::alloc::Global;
+use std::process::Abort;
 use std::test::Fail;
 
-// The text of the reply to a command with these words.
-fn asked(alloc: Global, core: &mut Core, line: &[&str]) -> Result<Vec<u8>, Fail> {
+static MANAGED: &str = "-SK managed key\r\n";
+
+static NOT_BUILT: &str = "-SK not built\r\n";
+
+static LIMITS: Limits = Limits {
+    rows: 1000,
+    bytes: 1 << 20,
+    batches: 100,
+};
+
+static WRONG_TYPE: &str = "-WRONGTYPE Operation against a key holding the wrong kind of value\r\n";
+
+fn command(alloc: Global, line: &str) -> Result<Command, Fail> {
     let mut words = Vec::new(alloc);
-    for word in line {
-        words.push(Word::new(word.as_bytes().to_vec(alloc)?))?;
+    for text in line.split(' ') {
+        words.push(Word::new(text.as_bytes().to_vec(alloc)?))?;
     }
-    let reply = core.step(Words::new(words));
-    let mut text = Vec::new(alloc);
-    write_reply(alloc, &reply, &mut text)?;
-    Ok(text)
+    if words.is_empty() {
+        return Err(Fail::new("no words"));
+    }
+    match read_command(alloc, Words::new(words)) {
+        Ok(command) => Ok(command),
+        Err(_) => Err(Fail::new("no command")),
+    }
+}
+
+fn check_all(rt: &impl Abort, alloc: Global, rows: &[(u64, &str, &str)]) -> Result<(), Fail> {
+    let mut core = Core::new(alloc, LIMITS);
+    for (now, line, want) in rows {
+        let reply = core.step(*now, command(alloc, line)?);
+        let mut text = Vec::new(alloc);
+        write_reply(alloc, &reply, &mut text)?;
+        assert_eq!(rt; text.as_slice(), want.as_bytes());
+    }
+    Ok(())
 }
 
 #[test]
-fn texts_are_pushed_shown_and_moved(rt: HostRuntime) -> Result<(), Fail> {
-    let alloc = rt.alloc();
-    let mut core = Core::new(alloc);
-    let job = r#"{"jid":"j","class":"C","queue":"q","args":[]}"#;
-    let rows: [(&[&str], &str); 9] = [
-        (&["LPUSH", "queue:q", "a", "b"], ":2\r\n"),
+fn jobs_wait_in_their_queues(rt: HostRuntime) -> Result<(), Fail> {
+    let rows = [
+        (0, "LPUSH queue:a one two", ":2\r\n"),
+        (0, "RPUSH queue:a three", ":3\r\n"),
         (
-            &["LRANGE", "queue:q", "0", "-1"],
-            "*2\r\n$1\r\nb\r\n$1\r\na\r\n",
+            0,
+            "LRANGE queue:a 0 -1",
+            "*3\r\n$3\r\ntwo\r\n$3\r\none\r\n$5\r\nthree\r\n",
         ),
-        (
-            &["LMOVE", "queue:q", "queue:r", "RIGHT", "LEFT"],
-            "$1\r\na\r\n",
-        ),
-        (
-            &["LMOVE", "queue:q", "queue:q", "right", "Left"],
-            "$1\r\nb\r\n",
-        ),
-        (
-            &["LMOVE", "queue:q", "queue:r", "RIGHT", "LEFT"],
-            "$1\r\nb\r\n",
-        ),
-        (&["LMOVE", "queue:q", "queue:r", "RIGHT", "LEFT"], "$-1\r\n"),
-        (&["lrange", "queue:r", "-1", "9"], "*1\r\n$1\r\na\r\n"),
-        (&["LPUSH", "queue:s", job], ":1\r\n"),
-        (
-            &["LMOVE", "queue:s", "queue:q", "RIGHT", "LEFT"],
-            "$45\r\n{\"jid\":\"j\",\"class\":\"C\",\"queue\":\"q\",\"args\":[]}\r\n",
-        ),
+        (0, "LMOVE queue:a queue:b RIGHT LEFT", "$5\r\nthree\r\n"),
+        (0, "LMOVE queue:a queue:a LEFT RIGHT", "$3\r\ntwo\r\n"),
+        (0, "LRANGE queue:a 0 -1", "*2\r\n$3\r\none\r\n$3\r\ntwo\r\n"),
+        (0, "LREM queue:b 0 three", ":1\r\n"),
+        (0, "TYPE queue:b", "+none\r\n"),
+        (0, "SMEMBERS queues", "*2\r\n$1\r\na\r\n$1\r\nb\r\n"),
+        (0, "LMOVE queue:b queue:a LEFT LEFT", "$-1\r\n"),
+        (0, "EXISTS queue:a queue:b queue:a queues", ":3\r\n"),
+        (0, "DEL queue:a", ":1\r\n"),
+        (0, "SMEMBERS queues", "*1\r\n$1\r\nb\r\n"),
+        (0, "FLUSHALL", "+OK\r\n"),
+        (0, "EXISTS queues", ":0\r\n"),
     ];
-    for (line, want) in rows {
-        assert_eq!(rt; asked(alloc, &mut core, line)?.as_slice(), want.as_bytes());
-    }
-    Ok(())
+    check_all(&rt, rt.alloc(), &rows)
+}
+
+#[test]
+fn managed_keys_are_kept(rt: HostRuntime) -> Result<(), Fail> {
+    let rows = [
+        (0, "LPUSH queue:a one", ":1\r\n"),
+        (0, "SADD queues a b", ":1\r\n"),
+        (0, "SET queue:a text", MANAGED),
+        (0, "SADD queue:a text", MANAGED),
+        (0, "SREM queues a", MANAGED),
+        (0, "PEXPIRE queue:a 1", MANAGED),
+        (0, "LMOVE queue:a list LEFT LEFT", MANAGED),
+        (0, "SET list text", "+OK\r\n"),
+        (0, "DEL list queues", MANAGED),
+        (0, "EXISTS list queues", ":2\r\n"),
+        (0, "LPUSH queue: one", MANAGED),
+        (0, "GET queue:a", WRONG_TYPE),
+        (0, "TYPE queue:a", "+list\r\n"),
+        (0, "TYPE queues", "+set\r\n"),
+        (0, "PTTL queue:a", ":-1\r\n"),
+        (0, "ZCARD schedule", NOT_BUILT),
+        (0, "DEL list retry", NOT_BUILT),
+    ];
+    check_all(&rt, rt.alloc(), &rows)
+}
+
+#[test]
+fn the_greatest_moment_counts(rt: HostRuntime) -> Result<(), Fail> {
+    let rows = [
+        (1000, "SET k v PX 500", "+OK\r\n"),
+        (1200, "PTTL k", ":300\r\n"),
+        (1100, "PTTL k", ":300\r\n"),
+        (1900, "SK.STATUS", NOT_BUILT),
+        (1499, "GET k", "$1\r\nv\r\n"),
+        (1500, "GET k", "$-1\r\n"),
+    ];
+    check_all(&rt, rt.alloc(), &rows)
 }

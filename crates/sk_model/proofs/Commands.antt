@@ -1,52 +1,207 @@
 -- The changes of each command are good.
-use Rattle.std.proofs.Common.{◌≡◌, List, [], ◌∷◌, refl, sym, subst, ◌⊎◌, inl, inr, arith, Bool, true}
-use Rattle.std.specs.Prelude.{Option, Some, None, Ok, Err, filter}
-use Rattle.std.specs.List.{list_any, last_or}
+use Rattle.std.proofs.Common.{◌≡◌, ◌≤◌, ℕ, zero, suc, List, [], ◌∷◌, ◌++◌, refl, sym, ap, subst, ◌⊎◌, inl, inr, arith, Bool, true, false}
+use Rattle.std.specs.Prelude.{Option, Some, None, filter, cond, map}
+use Rattle.std.specs.List.{list_any, list_all, last_or}
 use Rattle.sk_resp.specs.Spelling.{Bytes}
-use Rattle.sk_resp.specs.Request.{Command as Words}
+use Rattle.sk_cmd.specs.declared.argument.Side.{Side}
+use Rattle.sk_cmd.specs.declared.argument.Side.TheVariants.{Left, Right}
+use Rattle.sk_cmd.specs.declared.command.Command.{Command}
+use Rattle.sk_cmd.specs.declared.command.Command.TheVariants as command
+use Rattle.sk_payload.specs.Member.{is_name}
+use Rattle.sk_value.specs.declared.action.Action.{Action}
+use Rattle.sk_value.specs.declared.action.Action.TheVariants as action
+use Rattle.sk_value.specs.declared.edit.Edit.{Edit}
+use Rattle.sk_value.specs.declared.edit.Edit.TheVariants as edit
+use Rattle.sk_value.specs.Action.{action_of}
+use Rattle.sk_model.specs.declared.key_class.KeyClass.{KeyClass}
+use Rattle.sk_model.specs.declared.key_class.KeyClass.TheVariants as class
 use Rattle.sk_model.specs.declared.row.Place.{Place}
 use Rattle.sk_model.specs.declared.row.Place.TheVariants.{Queue}
 use Rattle.sk_model.specs.declared.row.Row.{Row}
-use Rattle.sk_model.specs.declared.command.Command.{Command}
-use Rattle.sk_model.specs.declared.command.Command.TheVariants as command
-use Rattle.sk_model.specs.Rows.{End, Left, Right, is_at, is_same, rows_at}
+use Rattle.sk_model.specs.Rows.{is_at, is_same, rows_at, row_at, row_at_end, first_row}
 use Rattle.sk_model.specs.World.{World}
-use Rattle.sk_model.specs.Change.{Add, Moves, changed}
-use Rattle.sk_model.specs.Lists.{row_at, pushes, move_row}
+use Rattle.sk_model.specs.Change.{Add, Take, Change, Moves, Passes, Names, Unnames, Keeps, changed, perform}
+use Rattle.sk_model.specs.Class.{class_of, queue_of}
+use Rattle.sk_model.specs.Queues.{pushes, takes, copies_of, end_taken, move_row, add_names}
+use Rattle.sk_model.specs.Deletes.{take_all, delete_as, delete_each, delete, may_go, flush}
 use Rattle.sk_model.specs.Outcome.{Outcome}
-use Rattle.sk_model.specs.Reading.{Read}
-use Rattle.sk_model.specs.Step.{act, outcome, Steps}
+use Rattle.sk_model.specs.Reading.{Words, Said, Refused, Sets, Asks}
+use Rattle.sk_model.specs.Run.{State, Turn, Speaks, turn}
+use Rattle.sk_model.specs.Step.{act, edits, edit_queue, edit_names, on_plain, moves, is_built, outcome}
 use Rattle.sk_model.proofs.Texts.{same_row}
-use Rattle.sk_model.proofs.Good.{Good, good_nothing, good_append, good_add, good_carry}
+use Rattle.sk_model.proofs.Taking.{there, one_fewer, taken_at_most, first_there, rows_at-rest}
+use Rattle.sk_model.proofs.Good.{Good, good_nothing, good_append, good_add, good_carry, good_take, good_passes, good_names, good_unnames, good_keeps}
 
-pub push_good : (w : World) (end : End) (place : Place) (texts : List Bytes) → Good w (pushes end place texts)
+-- one change, and then others
+then_others : (w : World) (change : Change) (changes : List Change) → Good w (change ∷ []) → Good (changed w change) changes → Good w (change ∷ changes)
+then_others w change changes one more = good_append w (change ∷ []) changes one more
+
+-- whichever of two outcomes it is
+choice : (w : World) (b : Bool) (one other : Outcome) → (b ≡ true → Good w one.changes) → (b ≡ false → Good w other.changes) → Good w (cond b one other).changes
+choice w true one other f g = f refl
+choice w false one other f g = g refl
+
+-- ## Queues
+
+pub push_good : (w : World) (end : Side) (place : Place) (texts : List Bytes) → Good w (pushes end place texts)
 push_good w end place [] = good_nothing w
 push_good w end place (text ∷ texts) = let one = Moves (Add (row_at place text) end) in
-    good_append w (one ∷ []) (pushes end place texts) (good_add w (row_at place text) end) (push_good (changed w one) end place texts)
+    then_others w one (pushes end place texts) (good_add w (row_at place text) end) (push_good (changed w one) end place texts)
+
+pub takes_good : (w : World) (n : ℕ) (row : Row) (end : Side) → n ≤ copies_of row w.rows → Good w (takes n row end)
+takes_good w zero row end most = good_nothing w
+takes_good w (suc n) row end most = let some = there row n w.rows most in
+    then_others w (Moves (Take row end)) (takes n row end) (good_take w row end some)
+    (takes_good (changed w (Moves (Take row end))) n row end (omega (arith, most, one_fewer row end w.rows some)))
 
 -- the last of the rows that pass a test is one of the rows
 pub last_there : (test : Row → Bool) (o : Option Row) (rows : List Row) (row : Row) → last_or o (filter test rows) ≡ Some row → (o ≡ Some row) ⊎ (list_any (is_same row) rows ≡ true)
 last_there test o [] row e = inl e
 last_there test o (other ∷ rows) row e = grind (arith, last_there test o rows row, last_there test (Some other) rows row, same_row)
 
-move_row_good : (w : World) (from to : Place) (found : Option Row) → last_or None (rows_at from w.rows) ≡ found → Good w (move_row found to).changes
-move_row_good w from to None e = good_nothing w
-move_row_good w from to (Some row) e = good_carry w row Right to Left (there (last_there (is_at from) None w.rows row e)) where
-  there : (None ≡ Some row) ⊎ (list_any (is_same row) w.rows ≡ true) → list_any (is_same row) w.rows ≡ true
-  there (inl f) = cc f
-  there (inr f) = f
+first_of : (rows : List Row) (row : Row) → first_row rows ≡ Some row → (more : List Row) × (rows ≡ row ∷ more)
+first_of [] row e = absurd (cc e)
+first_of (other ∷ rows) row e = (rows, ap (λ r. r ∷ rows) (cc e))
 
-pub act_good : (w : World) (command : Command) → Good w (act w command).changes
-act_good w command.Ping = good_nothing w
-act_good w (command.LPush queue texts) = push_good w Left (Queue queue) texts
-act_good w (command.LRange queue first last) = good_nothing w
-act_good w (command.LMove source destination) = move_row_good w (Queue source) (Queue destination) _ refl
+-- the row at an end of a place is there
+pub end_there : (end : Side) (place : Place) (rows : List Row) (row : Row) → row_at_end end place rows ≡ Some row → list_any (is_same row) rows ≡ true
+end_there Left place rows row e = let f = first_of (rows_at place rows) row e in first_there (is_at place) row f.0 rows f.1
+end_there Right place rows row e = one (last_there (is_at place) None rows row e) where
+  one : (None ≡ Some row) ⊎ (list_any (is_same row) rows ≡ true) → list_any (is_same row) rows ≡ true
+  one (inl f) = absurd (cc f)
+  one (inr f) = f
 
-outcome_good : (w : World) (read : Read Command) → Good w (outcome w read).changes
-outcome_good w (Ok command) = act_good w command
-outcome_good w (Err say) = good_nothing w
+move_row_good : (w : World) (out end : Side) (from to : Place) (found : Option Row) → row_at_end out from w.rows ≡ found → Good w (move_row found out to end).changes
+move_row_good w out end from to None e = good_nothing w
+move_row_good w out end from to (Some row) e = good_carry w row out to end (end_there out from w.rows row e)
+
+names_good : (w : World) (names : List Bytes) → Good w (map Names names)
+names_good w [] = good_nothing w
+names_good w (name ∷ names) = then_others w (Names name) (map Names names) (good_names w name) (names_good (changed w (Names name)) names)
+
+add_names_good : (w : World) (names : List Bytes) → Good w (add_names w names).changes
+add_names_good w names = choice w (list_all (is_name 255) names) _ _ (λ y. names_good w names) (λ n. good_nothing w)
+
+edit_queue_good : (w : World) (queue : Bytes) (e : Edit) → Good w (edit_queue w queue e).changes
+edit_queue_good w queue (edit.Push side texts) = push_good w side (Queue queue) texts
+edit_queue_good w queue (edit.Lrem count text) = takes_good w _ (row_at (Queue queue) text) (end_taken count) (taken_at_most count (copies_of (row_at (Queue queue) text) w.rows))
+edit_queue_good w queue (edit.Incrby n) = good_nothing w
+edit_queue_good w queue (edit.Sadd members) = good_nothing w
+edit_queue_good w queue (edit.Srem members) = good_nothing w
+edit_queue_good w queue (edit.Hset pairs) = good_nothing w
+edit_queue_good w queue (edit.Hdel fields) = good_nothing w
+edit_queue_good w queue (edit.Zadd scores) = good_nothing w
+edit_queue_good w queue (edit.Zrem members) = good_nothing w
+edit_queue_good w queue (edit.Zremrangebyrank first last) = good_nothing w
+edit_queue_good w queue (edit.Zremrangebyscore least greatest) = good_nothing w
+
+edit_names_good : (w : World) (e : Edit) → Good w (edit_names w e).changes
+edit_names_good w (edit.Sadd names) = add_names_good w names
+edit_names_good w (edit.Push side texts) = good_nothing w
+edit_names_good w (edit.Lrem count text) = good_nothing w
+edit_names_good w (edit.Incrby n) = good_nothing w
+edit_names_good w (edit.Srem members) = good_nothing w
+edit_names_good w (edit.Hset pairs) = good_nothing w
+edit_names_good w (edit.Hdel fields) = good_nothing w
+edit_names_good w (edit.Zadd scores) = good_nothing w
+edit_names_good w (edit.Zrem members) = good_nothing w
+edit_names_good w (edit.Zremrangebyrank first last) = good_nothing w
+edit_names_good w (edit.Zremrangebyscore least greatest) = good_nothing w
+
+edits_good : (w : World) (key : Bytes) (e : Edit) (c : KeyClass) → Good w (edits w key e c).changes
+edits_good w key e class.Plain = good_keeps w _
+edits_good w key e class.Queue = edit_queue_good w (queue_of key) e
+edits_good w key e class.Queues = edit_names_good w e
+edits_good w key e class.NoQueue = good_nothing w
+edits_good w key e class.Later = good_nothing w
+
+on_plain_good : (w : World) (a : Action) (c : KeyClass) → Good w (on_plain w a c).changes
+on_plain_good w a class.Plain = good_keeps w _
+on_plain_good w a class.Queue = good_nothing w
+on_plain_good w a class.NoQueue = good_nothing w
+on_plain_good w a class.Queues = good_nothing w
+on_plain_good w a class.Later = good_nothing w
+
+moves_good : (w : World) (source destination : Bytes) (from to : Side) (c d : KeyClass) → Good w (moves w source destination from to c d).changes
+moves_good w source destination from to class.Plain class.Plain = good_keeps w _
+moves_good w source destination from to class.Queue class.Queue = move_row_good w from to (Queue (queue_of source)) (Queue (queue_of destination)) _ refl
+moves_good w source destination from to class.Plain class.Queue = good_nothing w
+moves_good w source destination from to class.Plain class.NoQueue = good_nothing w
+moves_good w source destination from to class.Plain class.Queues = good_nothing w
+moves_good w source destination from to class.Plain class.Later = good_nothing w
+moves_good w source destination from to class.Queue class.Plain = good_nothing w
+moves_good w source destination from to class.Queue class.NoQueue = good_nothing w
+moves_good w source destination from to class.Queue class.Queues = good_nothing w
+moves_good w source destination from to class.Queue class.Later = good_nothing w
+moves_good w source destination from to class.NoQueue d = good_nothing w
+moves_good w source destination from to class.Queues d = good_nothing w
+moves_good w source destination from to class.Later d = good_nothing w
+
+-- ## Whole keys
+
+take_all_good : (w : World) (test : Row → Bool) (rows : List Row) → filter test w.rows ≡ rows → Good w (take_all rows)
+take_all_good w test [] e = good_nothing w
+take_all_good w test (row ∷ rows) e =
+    then_others w (Moves (Take row Left)) (take_all rows) (good_take w row Left (first_there test row rows w.rows e))
+    (take_all_good (changed w (Moves (Take row Left))) test rows (rows_at-rest test row rows w.rows e))
+
+delete_as_good : (w : World) (key : Bytes) (c : KeyClass) → Good w (delete_as w key c).changes
+delete_as_good w key class.Plain = good_keeps w _
+delete_as_good w key class.Queue = let place = Queue (queue_of key) in
+    good_append w (take_all (rows_at place w.rows)) (Unnames (queue_of key) ∷ []) (take_all_good w (is_at place) (rows_at place w.rows) refl) (good_unnames _ (queue_of key))
+delete_as_good w key class.NoQueue = good_nothing w
+delete_as_good w key class.Queues = good_nothing w
+delete_as_good w key class.Later = good_nothing w
+
+delete_each_good : (w : World) (keys : List Bytes) → Good w (delete_each w keys).changes
+delete_each_good w [] = good_nothing w
+delete_each_good w (key ∷ keys) = let one = (delete_as w key (class_of key)).changes in
+    good_append w one (delete_each (perform w one) keys).changes (delete_as_good w key (class_of key)) (delete_each_good (perform w one) keys)
+
+delete_good : (w : World) (keys : List Bytes) → Good w (delete w keys).changes
+delete_good w keys = choice w (list_all (λ key. may_go (class_of key)) keys) _ _ (λ y. delete_each_good w keys) (λ n. good_nothing w)
+
+unnames_good : (w : World) (names : List Bytes) → Good w (map Unnames names)
+unnames_good w [] = good_nothing w
+unnames_good w (name ∷ names) = then_others w (Unnames name) (map Unnames names) (good_unnames w name) (unnames_good (changed w (Unnames name)) names)
+
+all_filtered : (rows : List Row) → filter (λ (row : Row). true) rows ≡ rows
+all_filtered [] = refl
+all_filtered (row ∷ rows) = ap (λ more. row ∷ more) (all_filtered rows)
+
+flush_good : (w : World) → Good w (flush w).changes
+flush_good w =
+    good_append w (take_all w.rows ++ map Unnames w.names) (Keeps [] ∷ [])
+    (good_append w (take_all w.rows) (map Unnames w.names) (take_all_good w (λ row. true) w.rows (all_filtered w.rows)) (unnames_good _ w.names))
+    (good_keeps _ [])
+
+-- ## Every command
+
+pub act_good : (w : World) (a : Action) → Good w (act w a).changes
+act_good w action.Ping = good_nothing w
+act_good w (action.Echo text) = good_nothing w
+act_good w action.Quit = good_nothing w
+act_good w (action.Look key look) = good_nothing w
+act_good w (action.Edit key e) = edits_good w key e (class_of key)
+act_good w (action.Set key text options) = on_plain_good w (action.Set key text options) (class_of key)
+act_good w (action.Expire key millis) = on_plain_good w (action.Expire key millis) (class_of key)
+act_good w (action.Exists keys) = good_nothing w
+act_good w (action.Delete keys) = delete_good w keys
+act_good w (action.Move source destination from to) = moves_good w source destination from to (class_of source) (class_of destination)
+act_good w action.Flush = flush_good w
+
+outcome_good : (w : World) (now : ℕ) (c : Command) → Good w (outcome w now c).changes
+outcome_good w now (command.Plain c) = choice w (is_built (action_of c)) _ _
+    (λ y. then_others w (Passes now) _ (good_passes w now) (act_good (changed w (Passes now)) (action_of c))) (λ n. good_nothing w)
+outcome_good w now (command.Script c) = good_nothing w
+
+turn_good : (s : State) (said : Said) → Good s.world (turn s said).changes
+turn_good s (Refused say) = good_nothing s.world
+turn_good s (Sets now) = good_nothing s.world
+turn_good s (Asks c) = outcome_good s.world s.now c
 
 -- whatever words come, and wherever memory runs out
-pub good : (w : World) (words : Words) (o : Outcome) → Steps w words o → Good w o.changes
-good w words o (inl (read, is, e)) = subst (λ (p : Outcome). Good w p.changes) (sym e) (outcome_good w read)
-good w words o (inr e) = subst (λ (p : Outcome). Good w p.changes) (sym e) (good_nothing w)
+pub good : (s : State) (words : Words) (t : Turn) → Speaks s words t → Good s.world t.changes
+good s words t (inl (said, is, e)) = subst (λ (u : Turn). Good s.world u.changes) (sym e) (turn_good s said)
+good s words t (inr (inl e)) = subst (λ (u : Turn). Good s.world u.changes) (sym e) (good_nothing s.world)
+good s words t (inr (inr e)) = subst (λ (u : Turn). Good s.world u.changes) (sym e) (good_passes s.world s.now)

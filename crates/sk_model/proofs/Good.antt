@@ -1,30 +1,36 @@
 -- What the changes of every command owe to the laws. Proved for each kind of change, and for one list of changes after another.
-use Rattle.std.proofs.Common.{◌≡◌, ◌+◌, List, [], ◌∷◌, ◌++◌, refl, sym, ap, ◌∙◌, arith, true}
+use Rattle.std.proofs.Common.{◌≡◌, ℕ, ◌+◌, List, [], ◌∷◌, ◌++◌, refl, sym, ap, ◌∙◌, arith, true}
 use Rattle.std.specs.List.{list_any}
 use Rattle.sk_resp.specs.Spelling.{Bytes}
 use Rattle.sk_model.specs.declared.row.Place.{Place}
 use Rattle.sk_model.specs.declared.row.Row.{Row}
-use Rattle.sk_model.specs.Rows.{End, is_same, take_row}
+use Rattle.sk_cmd.specs.declared.argument.Side.{Side}
+use Rattle.sk_value.specs.Keys.{Keys}
+use Rattle.sk_model.specs.Rows.{is_same, take_row}
 use Rattle.sk_model.specs.World.{World}
-use Rattle.sk_model.specs.Change.{Add, Carry, Change, Moves, carried, changed, perform}
-use Rattle.sk_model.specs.Laws.{copies, pushed}
+use Rattle.sk_model.specs.Change.{Add, Carry, Take, Change, Moves, Passes, Names, Unnames, Keeps, carried, changed, perform}
+use Rattle.sk_model.specs.Laws.{copies, pushed, taken}
 use Rattle.sk_model.specs.Life.{Life, Live, stands, life_after, life_through}
 use Rattle.sk_model.proofs.Copies.{copies-put_row, copies-take_row}
-use Rattle.sk_model.proofs.Standing.{stands-add, stands-carry}
+use Rattle.sk_model.proofs.Standing.{stands-add, stands-carry, stands-take}
 
 pub record Good (w : World) (changes : List Change) : Type 0 where
   -- a job that is live afterwards stands, where it stood if it was live before
   pub lives : (jid : Bytes) (life : Life) → (life ≡ Live → stands w jid ≡ true) → life_through w jid life changes ≡ Live → stands (perform w changes) jid ≡ true
-  -- a text stands as often as before, and once more for each push of it
-  pub counts : (text : Bytes) → copies text (perform w changes) ≡ pushed text changes + copies text w
+  -- a text stands as often as before, once more for each push of it, and once less for each row of it that is taken
+  pub counts : (text : Bytes) → copies text (perform w changes) + taken text changes ≡ pushed text changes + copies text w
 
-perform-append : (w : World) (a b : List Change) → perform w (a ++ b) ≡ perform (perform w a) b
+pub perform-append : (w : World) (a b : List Change) → perform w (a ++ b) ≡ perform (perform w a) b
 perform-append w [] b = refl
 perform-append w (change ∷ a) b = perform-append (changed w change) a b
 
 pushed-append : (text : Bytes) (a b : List Change) → pushed text (a ++ b) ≡ pushed text a + pushed text b
 pushed-append text [] b = omega arith
 pushed-append text (change ∷ a) b = omega (arith, pushed-append text a b)
+
+taken-append : (text : Bytes) (a b : List Change) → taken text (a ++ b) ≡ taken text a + taken text b
+taken-append text [] b = omega arith
+taken-append text (change ∷ a) b = omega (arith, taken-append text a b)
 
 life_through-append : (w : World) (jid : Bytes) (was : Life) (a b : List Change) → life_through w jid was (a ++ b) ≡ life_through (perform w a) jid (life_through w jid was a) b
 life_through-append w jid was [] b = refl
@@ -37,15 +43,35 @@ pub good_append : (w : World) (a b : List Change) → Good w a → Good (perform
 good_append w a b first then_ = record {
   lives = λ jid life stood live. ap (λ v. stands v jid) (perform-append w a b)
       ∙ then_.lives jid (life_through w jid life a) (first.lives jid life stood) (sym (life_through-append w jid life a b) ∙ live);
-  counts = λ text. omega (arith, ap (copies text) (perform-append w a b), pushed-append text a b, first.counts text, then_.counts text);
+  counts = λ text. omega (arith, ap (copies text) (perform-append w a b), pushed-append text a b, taken-append text a b, first.counts text, then_.counts text);
 }
 
-pub good_add : (w : World) (row : Row) (end : End) → Good w (Moves (Add row end) ∷ [])
+pub good_add : (w : World) (row : Row) (end : Side) → Good w (Moves (Add row end) ∷ [])
 good_add w row end = record { lives = λ jid life stood live. stands-add w row end jid life stood live; counts = λ text. omega (arith, copies-put_row text end row w.rows) }
 
 -- a row that is there may go to another place
-pub good_carry : (w : World) (row : Row) (from : End) (to : Place) (end : End) → list_any (is_same row) w.rows ≡ true → Good w (Moves (Carry row from to end) ∷ [])
+pub good_carry : (w : World) (row : Row) (from : Side) (to : Place) (end : Side) → list_any (is_same row) w.rows ≡ true → Good w (Moves (Carry row from to end) ∷ [])
 good_carry w row from to end there = record {
   lives = λ jid life stood live. stands-carry w row from to end jid (stood live);
   counts = λ text. omega (arith, copies-put_row text end (carried row to) (take_row from row w.rows), copies-take_row text from row w.rows there);
 }
+
+-- a row that is there may be taken away
+pub good_take : (w : World) (row : Row) (from : Side) → list_any (is_same row) w.rows ≡ true → Good w (Moves (Take row from) ∷ [])
+good_take w row from there = record {
+  lives = λ jid life stood live. stands-take w row from jid life stood live;
+  counts = λ text. omega (arith, copies-take_row text from row w.rows there);
+}
+
+-- what leaves the rows alone
+pub good_passes : (w : World) (now : ℕ) → Good w (Passes now ∷ [])
+good_passes w now = record { lives = λ jid life stood live. stood live; counts = λ text. omega arith }
+
+pub good_names : (w : World) (queue : Bytes) → Good w (Names queue ∷ [])
+good_names w queue = record { lives = λ jid life stood live. stood live; counts = λ text. omega arith }
+
+pub good_unnames : (w : World) (queue : Bytes) → Good w (Unnames queue ∷ [])
+good_unnames w queue = record { lives = λ jid life stood live. stood live; counts = λ text. omega arith }
+
+pub good_keeps : (w : World) (keys : Keys) → Good w (Keeps keys ∷ [])
+good_keeps w keys = record { lives = λ jid life stood live. stood live; counts = λ text. omega arith }

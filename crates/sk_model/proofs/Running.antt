@@ -1,38 +1,69 @@
 -- Runs, one after another.
-use Rattle.std.proofs.Common.{◌≡◌, List, [], ◌∷◌, ◌++◌, refl, sym, ap, subst, ◌∙◌}
-use Rattle.sk_resp.specs.Request.{Command as Words}
+use Rattle.std.proofs.Common.{◌≡◌, List, [], ◌∷◌, ◌++◌, refl, sym, ap, subst, ◌∙◌, arith, Bool, true, false, ◌||◌}
+use Rattle.std.specs.Bool.{MatchBool}
 use Rattle.sk_resp.specs.declared.reply.Reply.{Reply}
-use Rattle.sk_model.specs.World.{World}
-use Rattle.sk_model.specs.Change.{perform}
-use Rattle.sk_model.specs.Outcome.{Outcome, Comes}
-use Rattle.sk_model.specs.Step.{Steps}
-use Rattle.sk_model.specs.Run.{Run, world_after, replies_in, Answers}
+use Rattle.sk_model.specs.Reading.{Words}
+use Rattle.sk_model.specs.Run.{State, Turn, Run, Speaks, Answers, after, state_after, replies_in, ended}
 
-run-append : (w : World) (commands others : List Words) (outcomes more : List Outcome) → Run w commands outcomes → Run (world_after w outcomes) others more → Run w (commands ++ others) (outcomes ++ more)
-run-append w [] others [] more run then_ = then_
-run-append w (words ∷ commands) others (o ∷ outcomes) more run then_ = (run.0, run-append (perform w o.changes) commands others outcomes more run.1 then_)
-run-append w [] others (o ∷ outcomes) more run then_ = absurd run
-run-append w (words ∷ commands) others [] more run then_ = absurd run
+-- what follows a turn that doesn't end the pipe
+goes_on : (ends more : Bool) → ends || more ≡ false → (ends ≡ false) × (more ≡ false)
+goes_on true more e = absurd (cc e)
+goes_on false more e = (refl, e)
 
-world_after-append : (w : World) (outcomes more : List Outcome) → world_after w (outcomes ++ more) ≡ world_after (world_after w outcomes) more
-world_after-append w [] more = refl
-world_after-append w (o ∷ outcomes) more = world_after-append (perform w o.changes) outcomes more
+on : (P Q : Type 0) (ends : Bool) → ends ≡ false → MatchBool ends P Q → Q
+on P Q true e m = absurd (cc e)
+on P Q false e m = m
 
-replies_in-append : (outcomes more : List Outcome) → replies_in (outcomes ++ more) ≡ replies_in outcomes ++ replies_in more
+back : (P Q : Type 0) (ends : Bool) → ends ≡ false → Q → MatchBool ends P Q
+back P Q true e q = absurd (cc e)
+back P Q false e q = q
+
+run-append : (s : State) (commands others : List Words) (turns more : List Turn) → ended turns ≡ false → Run s commands turns → Run (state_after s turns) others more → Run s (commands ++ others) (turns ++ more)
+run-append s [] others [] more none run then_ = then_
+run-append s (words ∷ commands) others (t ∷ turns) more none run then_ =
+    let n = goes_on t.ends (ended turns) none in
+    (run.0, back _ _ t.ends n.0 (run-append (after s t) commands others turns more n.1 (on _ _ t.ends n.0 run.1) then_))
+run-append s [] others (t ∷ turns) more none run then_ = absurd run
+run-append s (words ∷ commands) others [] more none run then_ = absurd run
+
+state_after-append : (s : State) (turns more : List Turn) → state_after s (turns ++ more) ≡ state_after (state_after s turns) more
+state_after-append s [] more = refl
+state_after-append s (t ∷ turns) more = state_after-append (after s t) turns more
+
+replies_in-append : (turns more : List Turn) → replies_in (turns ++ more) ≡ replies_in turns ++ replies_in more
 replies_in-append [] more = refl
-replies_in-append (o ∷ outcomes) more = ap (λ replies. o.reply ∷ replies) (replies_in-append outcomes more)
+replies_in-append (t ∷ turns) more = ap (λ replies. t.reply ∷ replies) (replies_in-append turns more)
 
-pub answers_nothing : (w : World) → Answers w [] [] w
-answers_nothing w = record { outcomes = []; run = tt; replies_are = refl; new_is = refl }
+ended-append : (turns more : List Turn) → ended turns ≡ false → ended (turns ++ more) ≡ ended more
+ended-append [] more none = refl
+ended-append (t ∷ turns) more none = let n = goes_on t.ends (ended turns) none in grind (arith, n.0, ended-append turns more n.1)
 
-pub answers_on : (old mid new : World) (commands others : List Words) (replies more : List Reply) → Answers old commands replies mid → Answers mid others more new → Answers old (commands ++ others) (replies ++ more) new
-answers_on old mid new commands others replies more a b = record {
-  outcomes = a.outcomes ++ b.outcomes;
-  run = run-append old commands others a.outcomes b.outcomes a.run (subst (λ w. Run w others b.outcomes) a.new_is b.run);
-  replies_are = ap (λ z. z ++ more) a.replies_are ∙ ap (λ z. replies_in a.outcomes ++ z) b.replies_are ∙ sym (replies_in-append a.outcomes b.outcomes);
-  new_is = b.new_is ∙ ap (λ w. world_after w b.outcomes) a.new_is ∙ sym (world_after-append old a.outcomes b.outcomes);
+pub answers_nothing : (s : State) → Answers s [] [] s false
+answers_nothing s = record { turns = []; run = tt; replies_are = refl; new_is = refl; ends_is = refl }
+
+pub answers_on : (old mid new : State) (commands others : List Words) (replies more : List Reply) (ends : Bool) → Answers old commands replies mid false → Answers mid others more new ends → Answers old (commands ++ others) (replies ++ more) new ends
+answers_on old mid new commands others replies more ends a b = record {
+  turns = a.turns ++ b.turns;
+  run = run-append old commands others a.turns b.turns a.ends_is a.run (subst (λ s. Run s others b.turns) a.new_is b.run);
+  replies_are = ap (λ z. z ++ more) a.replies_are ∙ ap (λ z. replies_in a.turns ++ z) b.replies_are ∙ sym (replies_in-append a.turns b.turns);
+  new_is = b.new_is ∙ ap (λ s. state_after s b.turns) a.new_is ∙ sym (state_after-append old a.turns b.turns);
+  ends_is = ended-append a.turns b.turns a.ends_is ∙ b.ends_is;
 }
 
+no_words : List Words
+no_words = []
+
+no_turns : List Turn
+no_turns = []
+
 -- one command
-pub answers_one : (old new : World) (words : Words) (o : Outcome) (reply : Reply) → Steps old words o → Comes old o reply new → Answers old (words ∷ []) (reply ∷ []) new
-answers_one old new words o reply steps comes = record { outcomes = o ∷ []; run = (steps, tt); replies_are = ap (λ r. r ∷ []) comes.reply_is; new_is = comes.new_is }
+pub answers_one : (old : State) (words : Words) (t : Turn) → Speaks old words t → Answers old (words ∷ []) (t.reply ∷ []) (after old t) t.ends
+unfolding no_words no_turns
+answers_one old words t speaks = record { turns = t ∷ []; run = (speaks, alone t.ends); replies_are = refl; new_is = refl; ends_is = only t.ends } where
+  alone : (ends : Bool) → MatchBool ends ((no_words ≡ []) × (no_turns ≡ [])) (Unit {0})
+  alone true = (refl, refl)
+  alone false = tt
+
+  only : (ends : Bool) → ends || false ≡ ends
+  only true = refl
+  only false = refl

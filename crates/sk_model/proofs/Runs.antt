@@ -1,38 +1,46 @@
 -- The laws, by induction over runs.
-use Rattle.std.proofs.Common.{◌≡◌, ℕ, ◌+◌, List, [], ◌∷◌, refl, ap, subst, ◌∙◌}
+use Rattle.std.proofs.Common.{◌≡◌, ℕ, ◌+◌, List, [], ◌∷◌, refl, subst, sym, arith, Bool, true, false}
+use Rattle.std.specs.Bool.{MatchBool}
 use Rattle.sk_resp.specs.Spelling.{Bytes}
-use Rattle.sk_resp.specs.Request.{Command as Words}
-use Rattle.sk_model.specs.World.{World, first}
-use Rattle.sk_model.specs.Change.{perform}
-use Rattle.sk_model.specs.Outcome.{Outcome}
 use Rattle.sk_resp.specs.declared.reply.Reply.{Reply}
-use Rattle.sk_model.specs.Run.{Run, Answers}
+use Rattle.sk_model.specs.declared.limits.Limits.{Limits}
+use Rattle.sk_model.specs.Change.{perform}
+use Rattle.sk_model.specs.Reading.{Words}
+use Rattle.sk_model.specs.Run.{State, Turn, Run, Answers, first, after}
 use Rattle.sk_model.specs.Life.{Life, Unborn, Kept, life_through}
-use Rattle.sk_model.specs.Laws.{copies, pushed, ConserveFrom, LiveJobsStand, Conserve, CopiesKeptFrom, CopiesKept}
+use Rattle.sk_model.specs.Laws.{copies, pushed, taken, ConserveFrom, LiveJobsStand, Conserve, CopiesKeptFrom, CopiesKept}
 use Rattle.sk_model.proofs.Commands.{good}
 
-conserve_from : (w : World) (lives : Bytes → Life) (commands : List Words) (outcomes : List Outcome) → Kept w lives → Run w commands outcomes → ConserveFrom w lives outcomes
-conserve_from w lives [] [] kept run = tt
-conserve_from w lives (words ∷ commands) (o ∷ outcomes) kept run =
-    let now : Kept (perform w o.changes) (λ jid. life_through w jid (lives jid) o.changes) = λ jid. (good w words o run.0).lives jid (lives jid) (kept jid) in
-    (now, conserve_from (perform w o.changes) (λ jid. life_through w jid (lives jid) o.changes) commands outcomes now run.1)
-conserve_from w lives [] (o ∷ outcomes) kept run = absurd run
-conserve_from w lives (words ∷ commands) [] kept run = absurd run
+-- the runs that follow a command: none, where it ends the pipe
+rest_of : (P : List Turn → Type 0) (ends : Bool) (s : State) (commands : List Words) (turns : List Turn) → P [] → (Run s commands turns → P turns) → MatchBool ends ((commands ≡ []) × (turns ≡ [])) (Run s commands turns) → P turns
+rest_of P true s commands turns none some is = subst P (sym is.1) none
+rest_of P false s commands turns none some is = some is
+
+conserve_from : (s : State) (lives : Bytes → Life) (commands : List Words) (turns : List Turn) → Kept s.world lives → Run s commands turns → ConserveFrom s.world lives turns
+conserve_from s lives [] [] kept run = tt
+conserve_from s lives (words ∷ commands) (t ∷ turns) kept run =
+    let lives' : Bytes → Life = λ jid. life_through s.world jid (lives jid) t.changes in
+    let now : Kept (perform s.world t.changes) lives' = λ jid. (good s words t run.0).lives jid (lives jid) (kept jid) in
+    (now, rest_of (λ more. ConserveFrom (perform s.world t.changes) lives' more) t.ends (after s t) commands turns tt (conserve_from (after s t) lives' commands turns now) run.1)
+conserve_from s lives [] (t ∷ turns) kept run = absurd run
+conserve_from s lives (words ∷ commands) [] kept run = absurd run
 
 pub conserve : Conserve
-conserve commands outcomes run = conserve_from first (λ jid. Unborn) commands outcomes (λ jid live. cc live) run
+conserve limits commands turns run = conserve_from (first limits) (λ jid. Unborn) commands turns (λ jid live. cc live) run
 
--- a run that gave these replies, from the first world
-pub answers_conserve : (old new : World) (commands : List Words) (replies : List Reply) (answers : Answers old commands replies new) → old ≡ first → LiveJobsStand answers.outcomes
-answers_conserve old new commands replies answers is = conserve commands answers.outcomes (subst (λ w. Run w commands answers.outcomes) is answers.run)
+-- a run that gave these replies, from the first state
+pub answers_conserve : (limits : Limits) (old new : State) (commands : List Words) (replies : List Reply) (ends : Bool) (answers : Answers old commands replies new ends) → old ≡ first limits → LiveJobsStand limits answers.turns
+answers_conserve limits old new commands replies ends answers is = conserve limits commands answers.turns (subst (λ s. Run s commands answers.turns) is answers.run)
 
-copies_from : (w : World) (before : Bytes → ℕ) (commands : List Words) (outcomes : List Outcome) → ((text : Bytes) → copies text w ≡ before text) → Run w commands outcomes → CopiesKeptFrom w before outcomes
-copies_from w before [] [] so_far run = tt
-copies_from w before (words ∷ commands) (o ∷ outcomes) so_far run =
-    let now : (text : Bytes) → copies text (perform w o.changes) ≡ pushed text o.changes + before text = λ text. (good w words o run.0).counts text ∙ ap (λ n. pushed text o.changes + n) (so_far text) in
-    (now, copies_from (perform w o.changes) (λ text. pushed text o.changes + before text) commands outcomes now run.1)
-copies_from w before [] (o ∷ outcomes) so_far run = absurd run
-copies_from w before (words ∷ commands) [] so_far run = absurd run
+copies_from : (s : State) (before gone : Bytes → ℕ) (commands : List Words) (turns : List Turn) → ((text : Bytes) → copies text s.world + gone text ≡ before text) → Run s commands turns → CopiesKeptFrom s.world before gone turns
+copies_from s before gone [] [] so_far run = tt
+copies_from s before gone (words ∷ commands) (t ∷ turns) so_far run =
+    let all : Bytes → ℕ = λ text. pushed text t.changes + before text in
+    let lost : Bytes → ℕ = λ text. taken text t.changes + gone text in
+    let now : (text : Bytes) → copies text (perform s.world t.changes) + lost text ≡ all text = λ text. omega (arith, (good s words t run.0).counts text, so_far text) in
+    (now, rest_of (λ more. CopiesKeptFrom (perform s.world t.changes) all lost more) t.ends (after s t) commands turns tt (copies_from (after s t) all lost commands turns now) run.1)
+copies_from s before gone [] (t ∷ turns) so_far run = absurd run
+copies_from s before gone (words ∷ commands) [] so_far run = absurd run
 
 pub copies_kept : CopiesKept
-copies_kept commands outcomes run = copies_from first (λ text. 0) commands outcomes (λ text. refl) run
+copies_kept limits commands turns run = copies_from (first limits) (λ text. 0) (λ text. 0) commands turns (λ text. refl) run

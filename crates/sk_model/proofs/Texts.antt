@@ -1,5 +1,5 @@
 -- Tests of texts and places.
-use Rattle.std.proofs.Common.{◌≡◌, ◌≢◌, refl, ◌∙◌, ◌⊎◌, inl, inr, arith, Bool, true, false}
+use Rattle.std.proofs.Common.{◌≡◌, ◌≢◌, refl, sym, ap, ◌∙◌, ◌⊎◌, inl, inr, arith, Bool, true, false}
 use Rattle.std.specs.Ordering.{is_eq}
 use Rattle.std.specs.Str.{bytes_eq}
 use Rattle.std.proofs.lemmas.Slice.Eq.{bytes_eq-Decides}
@@ -34,3 +34,14 @@ same_row row = grind (arith, at_place row, same_bytes row.text)
 -- rows that are the same have one text
 pub same_text : (row other : Row) → is_same row other ≡ true → row.text ≡ other.text
 same_text row other same = grind (arith, bytes_tell)
+
+same_place_is : (a b : Place) → is_eq (place_cmp a b) ≡ true → a ≡ b
+same_place_is (Queue a) (Queue b) e = ap Queue ((bytes_eq-Decides a b).0 (sym (is_eq-slice_cmp a b) ∙ e))
+
+-- and they are one row
+pub same_is : (row other : Row) → is_same row other ≡ true → row ≡ other
+same_is row other same =
+    let place : row.place ≡ other.place = same_place_is row.place other.place (grind arith) in
+    ap (λ (p : Place). as_row p row.text) place ∙ ap (λ t. as_row other.place t) (same_text row other same) where
+      as_row : Place → Bytes → Row
+      as_row p t = record { place = p; text = t }

@@ -1,10 +1,13 @@
 pub mod Rows
 pub mod World
 pub mod Change
-pub mod Reading
 pub mod Outcome
-pub mod Lists
+pub mod Class
+pub mod Held
+pub mod Queues
+pub mod Deletes
 pub mod Step
+pub mod Reading
 pub mod Run
 pub mod Life
 pub mod Laws

@@ -4,7 +4,7 @@ use Rattle.std.specs.List.{list_any}
 use Rattle.sk_resp.specs.Spelling.{Bytes}
 use Rattle.sk_payload.specs.Head.{names}
 use Rattle.sk_model.specs.World.{World}
-use Rattle.sk_model.specs.Change.{Add, Carry, Change, Moves, changed}
+use Rattle.sk_model.specs.Change.{Add, Carry, Take, Change, Moves, Passes, Names, Unnames, Keeps, changed}
 
 -- some row names the job
 abbrev pub stands : World → Bytes → Bool
@@ -17,21 +17,35 @@ fresh w jid = not (stands w jid)
 pub data Life : Type 0 where
   -- no push of it was fresh yet
   Unborn : Life
-  -- It was freshly pushed, and since then not pushed again under its own id.
+  -- It was freshly pushed, and since then neither deleted nor pushed again under its own id.
   Live : Life
   -- It was pushed again while it was live.
   Muddled : Life
+  -- A client's command removed a row of it while it was live.
+  Deleted : Life
 
 -- A push that isn't fresh is no life of its own.
 abbrev pub pushed_again : Life → Life
 pushed_again Unborn = Unborn
 pushed_again Live = Muddled
 pushed_again Muddled = Muddled
+pushed_again Deleted = Deleted
+
+abbrev pub deleted : Life → Life
+deleted Unborn = Unborn
+deleted Live = Deleted
+deleted Muddled = Muddled
+deleted Deleted = Deleted
 
 -- the life of the job after a change of this world
 abbrev pub life_after : World → Bytes → Life → Change → Life
 life_after w jid life (Moves (Add row end)) = cond (names row.text jid) (cond (fresh w jid) Live (pushed_again life)) life
+life_after w jid life (Moves (Take row from)) = cond (names row.text jid) (deleted life) life
 life_after w jid life (Moves (Carry row from to end)) = life
+life_after w jid life (Passes now) = life
+life_after w jid life (Names queue) = life
+life_after w jid life (Unnames queue) = life
+life_after w jid life (Keeps keys) = life
 
 -- its life after changes, in order
 abbrev pub life_through : World → Bytes → Life → List Change → Life

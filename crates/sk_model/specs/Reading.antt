@@ -1,58 +1,62 @@
--- What the store does with the words of a command: one of the commands that are built, or the text that refuses it.
-use Rattle.std.specs.Prelude.{◌≡◌, ◌≢◌, ◌||◌, [], ◌∷◌, ◌++◌, None, Result, Ok, Err, MatchResult, Bool, codes}
+-- What the words of a command are to a pipe: a command for the store, a word of the pipe's own, or neither.
+use Rattle.std.specs.Prelude.{◌≡◌, ◌≢◌, ◌||◌, ℕ, ℤ, pos, negsuc, [], ◌∷◌, Option, Some, None, Result, Ok, Err, Bool}
 use Rattle.std.specs.Bool.{MatchBool}
 use Rattle.std.specs.Str.{str_eq_ignore_ascii_case}
-use Rattle.sk_base.specs.Name.{IsName}
 use Rattle.sk_resp.specs.Spelling.{Bytes}
+use Rattle.sk_resp.specs.Number.{IsInt}
 use Rattle.sk_resp.specs.Name.{spelling}
 pub use Rattle.sk_resp.specs.Request.{Command as Words}
+use Rattle.sk_resp.specs.declared.name.Name.{Name}
 use Rattle.sk_resp.specs.declared.name.Name.TheVariants.{As, Now, Cut}
 use Rattle.sk_resp.specs.declared.say.Say.{Say}
-use Rattle.sk_resp.specs.declared.say.Say.TheVariants.{NotBuilt}
-use Rattle.sk_cmd.specs.declared.argument.Side.TheVariants.{Left, Right}
+use Rattle.sk_resp.specs.declared.say.Say.TheVariants as say
 use Rattle.sk_cmd.specs.declared.cmd_fault.CmdFault.{CmdFault}
 use Rattle.sk_cmd.specs.declared.cmd_fault.CmdFault.TheVariants.{Memory}
-use Rattle.sk_cmd.specs.declared.command.Command.{Command as AnyCommand}
-use Rattle.sk_cmd.specs.declared.command.Command.TheVariants.{Plain, Script}
-use Rattle.sk_cmd.specs.declared.command.PlainCommand.{PlainCommand}
-use Rattle.sk_cmd.specs.declared.command.PlainCommand.TheVariants as plain
+use Rattle.sk_cmd.specs.declared.command.Command.{Command}
 use Rattle.sk_cmd.specs.Fault.{fault_say}
-use Rattle.sk_cmd.specs.Table.{IsRead as IsCommand}
-use Rattle.sk_model.specs.declared.command.Command.{Command}
-use Rattle.sk_model.specs.declared.command.Command.TheVariants as command
+use Rattle.sk_cmd.specs.Table.{IsRead}
 
--- what was read, or the refusal
-abbrev pub Read : Type 0 → Type 0
-Read A = Result A Say
+pub data Said : Type 0 where
+  -- a refusal that comes from the words alone
+  Refused : (say : Say) → Said
+  -- `SK.NOW`: the moment that the store is handed from now on
+  Sets : (now : ℕ) → Said
+  -- a command for the store
+  Asks : (command : Command) → Said
 
--- What is read first, and what follows from it. Of several refusals the first is the answer.
-abbrev pub Then : {A B : Type 0} → (Read A → Type 0) → Read B → (A → Type 0) → Type 0
-Then {A} IsFirst out next = (r : Read A) × IsFirst r × MatchResult r next (λ say. out ≡ Err say)
+abbrev pub is_word : Name → Bytes → Bool
+is_word name word = str_eq_ignore_ascii_case word (spelling name)
 
--- `queue:` and a name of at most 255 bytes
-abbrev pub IsQueue : Bytes → Read Bytes → Type 0
-IsQueue key (Ok name) = IsName 255 name × (key ≡ codes "queue:" ++ name)
-IsQueue key (Err say) = (say ≡ NotBuilt) × ((name : Bytes) → IsName 255 name → key ≡ codes "queue:" ++ name → ⊥)
+-- ## SK.NOW milliseconds
 
--- ## The forms that are built
+-- a moment is a number that isn't below zero
+abbrev pub moment_said : Option ℤ → Said
+moment_said (Some (pos n)) = Sets n
+moment_said (Some (negsuc n)) = Refused say.NotInt
+moment_said None = Refused say.NotInt
 
-abbrev pub IsPlain : PlainCommand → Read Command → Type 0
-IsPlain (plain.Ping None) out = out ≡ Ok command.Ping
-IsPlain (plain.Lpush key texts) out = Then (IsQueue key) out (λ queue. out ≡ Ok (command.LPush queue texts))
-IsPlain (plain.Lrange key first last) out = Then (IsQueue key) out (λ queue. out ≡ Ok (command.LRange queue first last))
-IsPlain (plain.Lmove source destination Right Left) out = Then (IsQueue source) out (λ from. Then (IsQueue destination) out (λ to. out ≡ Ok (command.LMove from to)))
-IsPlain other out = out ≡ Err NotBuilt
+abbrev pub IsMoment : Words → Said → Type 0
+IsMoment [] said = said ≡ Refused (say.Arity Now)
+IsMoment (text ∷ []) said = (n : Option ℤ) × IsInt text n × (said ≡ moment_said n)
+IsMoment (text ∷ more ∷ words) said = said ≡ Refused (say.Arity Now)
 
-abbrev pub IsBuilt : AnyCommand → Read Command → Type 0
-IsBuilt (Plain plain) out = IsPlain plain out
-IsBuilt (Script script) out = out ≡ Err NotBuilt
+-- ## Commands for the store
 
--- the word is one of the pipe's own
-abbrev pub is_own : Bytes → Bool
-is_own word = str_eq_ignore_ascii_case word (spelling As) || (str_eq_ignore_ascii_case word (spelling Now) || str_eq_ignore_ascii_case word (spelling Cut))
+abbrev pub told : Result Command CmdFault → Said
+told (Ok c) = Asks c
+told (Err fault) = Refused (fault_say fault)
 
--- What the words are read as. A fault of their form comes before the form is found not to be built; want of memory is no reading.
-abbrev pub IsRead : Words → Read Command → Type 0
-IsRead [] out = out ≡ Err NotBuilt
-IsRead (word ∷ words) out = MatchBool (is_own word) (out ≡ Err NotBuilt)
-    ((r : Result AnyCommand CmdFault) × IsCommand (word ∷ words) r × (r ≢ Err Memory) × MatchResult r (λ c. IsBuilt c out) (λ fault. out ≡ Err (fault_say fault)))
+-- what the table of commands reads; want of memory is no reading
+abbrev pub IsAsked : Words → Said → Type 0
+IsAsked words said = (r : Result Command CmdFault) × IsRead words r × (r ≢ Err Memory) × (said ≡ told r)
+
+-- ## All words
+
+-- The other two words of a pipe aren't built yet, whatever follows them.
+abbrev pub is_later_word : Bytes → Bool
+is_later_word word = is_word As word || is_word Cut word
+
+abbrev pub IsSaid : Words → Said → Type 0
+IsSaid [] said = IsAsked [] said
+IsSaid (word ∷ words) said = MatchBool (is_word Now word) (IsMoment words said)
+    (MatchBool (is_later_word word) (said ≡ Refused say.NotBuilt) (IsAsked (word ∷ words) said))

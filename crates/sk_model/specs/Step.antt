@@ -1,33 +1,130 @@
--- One command: from the world, to a reply and changes.
-use Rattle.std.specs.Prelude.{◌≡◌, ◌⊎◌, Ok, Err}
-use Rattle.sk_resp.specs.Request.{Command as Words}
+-- One command for the store: from the world, to a reply and changes.
+use Rattle.std.specs.Prelude.{◌≡◌, ◌⊎◌, ℕ, [], ◌∷◌, List, Bool, true, false, cond, not}
+use Rattle.std.specs.List.{list_all}
+use Rattle.sk_resp.specs.Spelling.{Bytes}
 use Rattle.sk_resp.specs.declared.reply.Reply.TheVariants as reply
 use Rattle.sk_resp.specs.declared.say.Say.TheVariants as say
+use Rattle.sk_resp.specs.declared.refusal.Refusal.TheVariants.{ManagedKey}
+use Rattle.sk_cmd.specs.declared.argument.Side.{Side}
+use Rattle.sk_cmd.specs.declared.command.Command.{Command}
+use Rattle.sk_cmd.specs.declared.command.Command.TheVariants as command
+use Rattle.sk_value.specs.declared.action.Action.{Action}
+use Rattle.sk_value.specs.declared.action.Action.TheVariants as action
+use Rattle.sk_value.specs.declared.edit.Edit.{Edit}
+use Rattle.sk_value.specs.declared.edit.Edit.TheVariants as edit
+use Rattle.sk_value.specs.Answer.{counted}
+use Rattle.sk_value.specs.Action.{action_of}
+use Rattle.sk_value.specs.Keys.{how_many}
+use Rattle.sk_value.specs.Values.{look_at}
+use Rattle.sk_value.specs.Apply.{applied, Applied}
+use Rattle.sk_model.specs.declared.key_class.KeyClass.{KeyClass}
+use Rattle.sk_model.specs.declared.key_class.KeyClass.TheVariants as class
 use Rattle.sk_model.specs.declared.row.Place.TheVariants.{Queue}
-use Rattle.sk_model.specs.declared.command.Command.{Command}
-use Rattle.sk_model.specs.declared.command.Command.TheVariants as command
 use Rattle.sk_model.specs.World.{World}
-use Rattle.sk_model.specs.Rows.{Left}
-use Rattle.sk_model.specs.Outcome.{Outcome, says}
-use Rattle.sk_model.specs.Lists.{push, range, move}
-use Rattle.sk_model.specs.Reading.{Read, IsRead}
+use Rattle.sk_model.specs.Change.{Passes, Keeps, changed}
+use Rattle.sk_model.specs.Class.{class_of, queue_of}
+use Rattle.sk_model.specs.Held.{held}
+use Rattle.sk_model.specs.Outcome.{Outcome, says, tells, refuses, reply_of}
+use Rattle.sk_model.specs.Queues.{push, remove, move, add_names}
+use Rattle.sk_model.specs.Deletes.{delete, flush}
 
--- what each command comes to
-abbrev pub act : World → Command → Outcome
-act w command.Ping = says (reply.Say say.Pong)
-act w (command.LPush queue texts) = push w Left (Queue queue) texts
-act w (command.LRange queue first last) = range w (Queue queue) first last
-act w (command.LMove source destination) = move w (Queue source) (Queue destination)
+-- ## Which commands are built
 
--- a refusal changes nothing
-abbrev pub outcome : World → Read Command → Outcome
-outcome w (Ok command) = act w command
-outcome w (Err say) = says (reply.Say say)
+abbrev pub names_later : KeyClass → Bool
+names_later class.Later = true
+names_later class.Plain = false
+names_later class.Queue = false
+names_later class.NoQueue = false
+names_later class.Queues = false
 
--- there is no memory for it
-abbrev pub starves : Outcome
-starves = says (reply.Say say.Oom)
+-- the keys that an action names
+abbrev pub keys_of : Action → List Bytes
+keys_of action.Ping = []
+keys_of (action.Echo text) = []
+keys_of action.Quit = []
+keys_of (action.Look key look) = key ∷ []
+keys_of (action.Edit key edit) = key ∷ []
+keys_of (action.Set key text options) = key ∷ []
+keys_of (action.Expire key millis) = key ∷ []
+keys_of (action.Exists keys) = keys
+keys_of (action.Delete keys) = keys
+keys_of (action.Move source destination from to) = source ∷ destination ∷ []
+keys_of action.Flush = []
 
--- From the world, the words come to this outcome. A command may starve: then nothing changes.
-abbrev pub Steps : World → Words → Outcome → Type 0
-Steps w words o = ((read : Read Command) × IsRead words read × (o ≡ outcome w read)) ⊎ (o ≡ starves)
+-- A command is built unless it names a key that isn't built yet.
+unfoldable pub is_built : Action → Bool
+is_built a = list_all (λ key. not (names_later (class_of key))) (keys_of a)
+
+-- ## Keys of the clients' own
+
+-- the action is done to the plain keys
+abbrev pub on_keys : World → Action → Outcome
+on_keys w a = let done : Applied = applied w.moment a w.keys in record { reply = reply_of done.answer; changes = Keeps done.keys ∷ [] }
+
+-- A write on a managed key that isn't listed here is refused.
+abbrev pub on_plain : World → Action → KeyClass → Outcome
+on_plain w a class.Plain = on_keys w a
+on_plain w a other = refuses ManagedKey
+
+-- ## Edits
+
+-- what may be written on a queue
+abbrev pub edit_queue : World → Bytes → Edit → Outcome
+edit_queue w queue (edit.Push side texts) = push w side (Queue queue) texts
+edit_queue w queue (edit.Lrem count text) = remove w (Queue queue) count text
+edit_queue w queue other = refuses ManagedKey
+
+-- what may be written on the set of the queues' names
+abbrev pub edit_names : World → Edit → Outcome
+edit_names w (edit.Sadd names) = add_names w names
+edit_names w other = refuses ManagedKey
+
+abbrev pub edits : World → Bytes → Edit → KeyClass → Outcome
+edits w key e class.Plain = on_keys w (action.Edit key e)
+edits w key e class.Queue = edit_queue w (queue_of key) e
+edits w key e class.Queues = edit_names w e
+edits w key e class.NoQueue = refuses ManagedKey
+edits w key e class.Later = refuses ManagedKey
+
+-- LMOVE goes between two queues, or between two plain keys.
+abbrev pub moves : World → Bytes → Bytes → Side → Side → KeyClass → KeyClass → Outcome
+moves w source destination from to class.Plain class.Plain = on_keys w (action.Move source destination from to)
+moves w source destination from to class.Queue class.Queue = move w (Queue (queue_of source)) (Queue (queue_of destination)) from to
+moves w source destination from to _ _ = refuses ManagedKey
+
+-- ## Every action
+
+abbrev pub act : World → Action → Outcome
+act w action.Ping = tells say.Pong
+act w (action.Echo text) = says (reply.Bulk text)
+act w action.Quit = tells say.Ok
+act w (action.Look key look) = says (reply_of (look_at w.moment look (held w key)))
+act w (action.Edit key edit) = edits w key edit (class_of key)
+act w (action.Set key text options) = on_plain w (action.Set key text options) (class_of key)
+act w (action.Expire key millis) = on_plain w (action.Expire key millis) (class_of key)
+act w (action.Exists keys) = says (counted (how_many (held w) keys))
+act w (action.Delete keys) = delete w keys
+act w (action.Move source destination from to) = moves w source destination from to (class_of source) (class_of destination)
+act w action.Flush = flush w
+
+-- ## The step
+
+-- what is done at a moment
+abbrev pub at_moment : ℕ → Outcome → Outcome
+at_moment now o = record o { changes = Passes now ∷ o.changes }
+
+abbrev pub plain_outcome : World → ℕ → Action → Outcome
+plain_outcome w now a = cond (is_built a) (at_moment now (act (changed w (Passes now)) a)) (tells say.NotBuilt)
+
+-- What the store makes of a command that it is handed at a moment. A form that isn't built leaves the world as it is.
+abbrev pub outcome : World → ℕ → Command → Outcome
+outcome w now (command.Plain c) = plain_outcome w now (action_of c)
+outcome w now (command.Script c) = tells say.NotBuilt
+
+-- there is no memory for it: time goes on, and nothing else changes
+abbrev pub starves : ℕ → Outcome
+starves now = record { reply = reply.Say say.Oom; changes = Passes now ∷ [] }
+
+-- From the world, the command comes to this outcome. It may starve.
+abbrev pub Steps : World → ℕ → Command → Outcome → Type 0
+Steps w now c o = (o ≡ outcome w now c) ⊎ (o ≡ starves now)

@@ -1,11 +1,22 @@
 -- The world: all that the store keeps.
-use Rattle.std.specs.Prelude.{List, []}
+use Rattle.std.specs.Prelude.{ℕ, List, []}
+use Rattle.sk_resp.specs.Spelling.{Bytes}
+use Rattle.sk_value.specs.Keys.{Keys}
+use Rattle.sk_model.specs.declared.limits.Limits.{Limits}
 use Rattle.sk_model.specs.declared.row.Row.{Row}
 
 pub record World : Type 0 where
+  -- what the store was made with
+  pub limits : Limits
+  -- the greatest moment that it was handed, in milliseconds since 1970
+  pub moment : ℕ
   -- in the order of places, and at each place from left to right
   pub rows : List Row
+  -- the names in `queues`, in the order of their bytes
+  pub names : List Bytes
+  -- the plain keys, in the order of their names' bytes
+  pub keys : Keys
 
 -- the world before the first command
-abbrev pub first : World
-first = record { rows = [] }
+abbrev pub first : Limits → World
+first limits = record { limits = limits; moment = 0; rows = []; names = []; keys = [] }

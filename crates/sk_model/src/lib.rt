@@ -1,10 +1,12 @@
 //! The abstract store: what it keeps, what each command does to it, what runs of commands are, and what holds of every run.
 #![tactic(auto)]
 
-mod command;
+mod key_class;
 mod laws;
+mod limits;
 mod row;
 
-pub use command::Command;
+pub use key_class::KeyClass;
 pub use laws::{live_jobs_stand, nothing_is_lost, words_have_one_reading};
+pub use limits::Limits;
 pub use row::{Place, Row};

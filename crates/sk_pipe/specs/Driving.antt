@@ -1,5 +1,5 @@
 -- What the parts of the pipe do to the sink. No public contract speaks of it.
-use Rattle.std.specs.Prelude.{◌≡◌, ◌≢◌, ◌⊎◌, [], ◌∷◌, List, Option, Result, OnOk, IfErr}
+use Rattle.std.specs.Prelude.{◌≡◌, ◌≢◌, ◌⊎◌, [], ◌∷◌, List, Option, Result, OnOk, IfErr, Bool, true, false}
 use Rattle.sk_base.specs.Outside.{Takes, TakesFront, IsFront}
 use Rattle.sk_resp.specs.Spelling.{Bytes}
 use Rattle.sk_resp.specs.Request.{Command}
@@ -10,21 +10,52 @@ use Rattle.sk_pipe.specs.declared.pipe_end.PipeEnd.TheVariants.{Done, Wire, Cut,
 use Rattle.sk_pipe.specs.Pipe.{Serves, refusal}
 use Rattle.sk_resp.specs.Reply.{wire}
 use Rattle.sk_resp.specs.declared.reply.Reply.{Reply}
-use Rattle.sk_model.specs.World.{World}
-use Rattle.sk_model.specs.Run.{Answers}
+use Rattle.sk_model.specs.Run.{State, Answers}
 
--- an end that a reply can bring
+-- ## A reply
+
+-- an end that a failed reply brings
 abbrev pub IsWriteStop : PipeEnd → Type 0
 IsWriteStop WriteFault = Unit {0}
 IsWriteStop Memory = Unit {0}
 IsWriteStop _ = ⊥
 
+-- The pipe ends so at a command: its reply was sent whole, and it ends the pipe; or the reply failed, and some of it was sent.
+abbrev pub StopsReply : PipeEnd → Bool → Bytes → Bytes → Type 0
+StopsReply Done ends text sent = (ends ≡ true) × (sent ≡ text)
+StopsReply WriteFault ends text sent = IsFront sent text
+StopsReply Memory ends text sent = IsFront sent text
+StopsReply _ ends text sent = ⊥
+
+-- The command was done, and its reply was sent, or some of it.
+pub record Answered (old : State) (words : Command) (new : State) (result : Result (Unit {0}) PipeEnd) (before after : Option Bytes) : Type 0 where
+  pub reply : Reply
+  pub ends : Bool
+  pub answers : Answers old (words ∷ []) (reply ∷ []) new ends
+  pub sent : OnOk result ((ends ≡ false) × Takes before (wire reply) after)
+  pub stopped : IfErr result (λ end. (text : Bytes) × StopsReply end ends (wire reply) text × Takes before text after)
+
+-- ## Commands
+
+-- some of the replies to the commands, from their front
+abbrev pub ServesFront : State → List Command → State → Bytes → Type 0
+ServesFront old commands new written = (ends : Bool) × ((whole : Bytes) × Serves ends old commands new whole × IsFront written whole)
+
+-- The pipe ends so at the last of the commands: it ends the pipe, or its reply failed.
+abbrev pub StopsAt : PipeEnd → State → List Command → State → Bytes → Type 0
+StopsAt Done old commands new written = Serves true old commands new written
+StopsAt WriteFault old commands new written = ServesFront old commands new written
+StopsAt Memory old commands new written = ServesFront old commands new written
+StopsAt _ old commands new written = ⊥
+
+-- ## A piece, and the end of input
+
 -- an end that a piece of the stream can bring
 abbrev pub IsStop : PipeEnd → Type 0
+IsStop Done = Unit {0}
 IsStop Wire = Unit {0}
 IsStop WriteFault = Unit {0}
 IsStop Memory = Unit {0}
-IsStop Done = ⊥
 IsStop Cut = ⊥
 IsStop ReadFault = ⊥
 IsStop Budget = ⊥
@@ -39,16 +70,7 @@ EndsAt WriteFault rest = ⊥
 EndsAt Memory rest = ⊥
 EndsAt Budget rest = ⊥
 
--- some of the replies to the commands, from their front
-abbrev pub ServesFront : World → List Command → World → Bytes → Type 0
-ServesFront old commands new written = (whole : Bytes) × Serves old commands new whole × IsFront written whole
-
--- The command was done, and its reply was sent, or some of it.
-pub record Answered (old : World) (words : Command) (new : World) (result : Result (Unit {0}) PipeEnd) (before after : Option Bytes) : Type 0 where
-  pub reply : Reply
-  pub answers : Answers old (words ∷ []) (reply ∷ []) new
-  pub sent : OnOk result (Takes before (wire reply) after)
-  pub stopped : IfErr result (λ end. IsWriteStop end × TakesFront before (wire reply) after)
+-- ## A fault of the reader
 
 -- The sink took the text, and the pipe ends at the fault; or some of the text, and it ends where that failed.
 abbrev pub Sends : PipeEnd → Bytes → Option Bytes → Option Bytes → Type 0

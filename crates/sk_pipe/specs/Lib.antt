@@ -1,3 +1,5 @@
+pub mod Said
+pub mod Session
 pub mod Pipe
 pub mod Driving
 pub mod Run

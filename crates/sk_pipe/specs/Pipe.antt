@@ -1,5 +1,5 @@
 -- What a pipe has written when it ends, of the bytes that it took.
-use Rattle.std.specs.Prelude.{◌≡◌, ◌≢◌, ◌⊎◌, ◌≤◌, ◌^◌, ◌++◌, List, [], length, map, Option}
+use Rattle.std.specs.Prelude.{◌≡◌, ◌≢◌, ◌⊎◌, ◌≤◌, ◌^◌, ◌++◌, List, [], length, map, Option, IfSome, Bool, true, false}
 use Rattle.sk_base.specs.Outside.{Gives, Takes, IsFront}
 use Rattle.sk_resp.specs.Spelling.{Bytes, joined}
 use Rattle.sk_resp.specs.Request.{Command}
@@ -9,45 +9,62 @@ use Rattle.sk_resp.specs.declared.wire_fault.WireFault.{WireFault}
 use Rattle.sk_resp.specs.declared.say.Say.TheVariants as say
 use Rattle.sk_resp.specs.declared.reply.Reply.{Reply}
 use Rattle.sk_resp.specs.declared.reply.Reply.TheVariants as reply
-use Rattle.sk_model.specs.World.{World, first}
-use Rattle.sk_model.specs.Run.{Answers}
+use Rattle.sk_model.specs.declared.limits.Limits.{Limits}
+use Rattle.sk_model.specs.Run.{State, Answers, first}
 use Rattle.sk_model.specs.Laws.{LiveJobsStand}
 use Rattle.sk_pipe.specs.declared.pipe_end.PipeEnd.{PipeEnd}
 use Rattle.sk_pipe.specs.declared.pipe_end.PipeEnd.TheVariants.{Done, Wire, Cut, ReadFault, WriteFault, Memory, Budget}
 
--- These are the replies of one run of the commands, in order. The run leads from the old world to the new one. Where it begins at the first
--- world, every live job stands after each command.
-pub record Serves (old : World) (commands : List Command) (new : World) (written : Bytes) : Type 0 where
+-- ## Replies
+
+-- These are the replies of one run of the commands, in order, from the old state to the new one. Either the last command, an accepted QUIT or SHUTDOWN,
+-- ends the pipe, or none does. Where the run begins at a first state, every live job stands after each command.
+pub record Serves (ends : Bool) (old : State) (commands : List Command) (new : State) (written : Bytes) : Type 0 where
   pub replies : List Reply
-  pub answers : Answers old commands replies new
-  pub live_jobs_stand : old ≡ first → LiveJobsStand answers.outcomes
+  pub answers : Answers old commands replies new ends
+  pub live_jobs_stand : (limits : Limits) → old ≡ first limits → LiveJobsStand limits answers.turns
   pub text : written ≡ joined (map wire replies)
 
 -- the reply to a fault of the stream
 abbrev pub refusal : WireFault → Bytes
 refusal fault = wire (reply.Say (say.Protocol fault))
 
--- These are the replies to the commands, and then that to the fault.
-abbrev pub Refuses : World → List Command → WireFault → World → Bytes → Type 0
-Refuses old commands fault new written = (served : Bytes) × Serves old commands new served × (written ≡ served ++ refusal fault)
+-- These are the replies to the commands, none of which ends the pipe, and then that to the fault.
+abbrev pub Refuses : State → List Command → WireFault → State → Bytes → Type 0
+Refuses old commands fault new written = (served : Bytes) × Serves false old commands new served × (written ≡ served ++ refusal fault)
 
--- What is due for the first commands of the bytes, or for all of them and the fault behind them.
-abbrev pub Due : World → Bytes → World → Bytes → Type 0
-Due old bytes new whole = ((commands : List Command) × ((rest : Bytes) × Opens bytes commands rest × Serves old commands new whole))
+-- What is due for the first commands of the bytes, the last of which may end the pipe, or for all of them and the fault behind them.
+abbrev pub Due : State → Bytes → State → Bytes → Type 0
+Due old bytes new whole = ((commands : List Command) × ((rest : Bytes) × ((ends : Bool) × Opens bytes commands rest × Serves ends old commands new whole)))
     ⊎ ((commands : List Command) × ((fault : WireFault) × Faulty bytes commands fault × Refuses old commands fault new whole))
 
-abbrev pub DueFront : World → Bytes → World → Bytes → Type 0
+abbrev pub DueFront : State → Bytes → State → Bytes → Type 0
 DueFront old bytes new written = (whole : Bytes) × Due old bytes new whole × IsFront written whole
 
--- The pipe began at the old world, took these bytes and wrote these, and ended so, at the new world.
-abbrev pub Ends : World → PipeEnd → Bytes → World → Bytes → Type 0
-Ends old Done bytes new written = (commands : List Command) × Reads bytes commands [] × Serves old commands new written
-Ends old Cut bytes new written = (commands : List Command) × ((rest : Bytes) × (rest ≢ []) × Reads bytes commands rest × Serves old commands new written)
-Ends old Wire bytes new written = (commands : List Command) × ((fault : WireFault) × Faulty bytes commands fault × Refuses old commands fault new written)
-Ends old ReadFault bytes new written = (commands : List Command) × ((rest : Bytes) × Reads bytes commands rest × Serves old commands new written)
-Ends old Budget bytes new written = (commands : List Command) × ((rest : Bytes) × Reads bytes commands rest × Serves old commands new written × (2 ^ 40 ≤ length bytes))
-Ends old WriteFault bytes new written = DueFront old bytes new written
-Ends old Memory bytes new written = DueFront old bytes new written
+-- ## Ends
+
+-- The source has nothing left, where it tells what it has.
+abbrev pub IsAtEnd : Option Bytes → Type 0
+IsAtEnd left = IfSome left (λ bytes. bytes ≡ [])
+
+-- The bytes are commands end to end, none of which ends the pipe, and with them the input ends.
+abbrev pub Finishes : State → Bytes → Option Bytes → State → Bytes → Type 0
+Finishes old bytes left new written = (commands : List Command) × Reads bytes commands [] × Serves false old commands new written × IsAtEnd left
+
+-- The bytes begin with commands, the last of which ends the pipe, whatever follows it.
+abbrev pub Quits : State → Bytes → State → Bytes → Type 0
+Quits old bytes new written = (commands : List Command) × ((rest : Bytes) × Opens bytes commands rest × Serves true old commands new written)
+
+-- The pipe began at the old state, took these bytes, wrote these, and ended so, at the new state; this is what the source had left then. Only at Done has an
+-- accepted QUIT or SHUTDOWN ended the pipe. At WriteFault and Memory the last command that was done may be one, whose reply failed.
+abbrev pub Ends : State → PipeEnd → Bytes → Option Bytes → State → Bytes → Type 0
+Ends old Done bytes left new written = Finishes old bytes left new written ⊎ Quits old bytes new written
+Ends old Cut bytes left new written = (commands : List Command) × ((rest : Bytes) × (rest ≢ []) × Reads bytes commands rest × Serves false old commands new written × IsAtEnd left)
+Ends old Wire bytes left new written = (commands : List Command) × ((fault : WireFault) × Faulty bytes commands fault × Refuses old commands fault new written)
+Ends old ReadFault bytes left new written = (commands : List Command) × ((rest : Bytes) × Reads bytes commands rest × Serves false old commands new written)
+Ends old Budget bytes left new written = (commands : List Command) × ((rest : Bytes) × Reads bytes commands rest × Serves false old commands new written × (2 ^ 40 ≤ length bytes))
+Ends old WriteFault bytes left new written = DueFront old bytes new written
+Ends old Memory bytes left new written = DueFront old bytes new written
 
 -- The source gave these bytes, and the sink took these.
 pub record Moves (left left' taken taken' : Option Bytes) (bytes written : Bytes) : Type 0 where

@@ -1,18 +1,18 @@
 // The pipe: it reads a piece of the stream, does the commands that are whole, and writes each one's reply in one write before the next
-// command is done.
-ghost use Rattle.std.specs.Prelude.{◌≡◌, ◌≤◌, ◌++◌, [], ℕ, List, take, Err, None, IfSome, IfErr, OnOk};
+// command is done. A QUIT or SHUTDOWN that is accepted is the last: what was read behind it isn't looked at.
+ghost use Rattle.std.specs.Prelude.{◌≡◌, ◌≤◌, ◌++◌, [], ℕ, List, take, Err, None, Option, IfErr, OnOk, false};
 ghost use Rattle.sk_base.specs.Outside.{Rose, Takes, TakesFront};
 ghost use Rattle.sk_resp.specs.Spelling.{Bytes};
 ghost use Rattle.sk_resp.specs.Request.{Command};
 ghost use Rattle.sk_resp.specs.Stream.{Reads};
 ghost use Rattle.sk_resp.specs.Reply.{wire};
-ghost use Rattle.sk_model.specs.World.{World, first};
+ghost use Rattle.sk_model.specs.Run.{State, first};
 ghost use Rattle.sk_pipe.specs.Pipe.{Serves, Ends, Moves, refusal};
-ghost use Rattle.sk_pipe.specs.Driving.{Answered, IsWriteStop, IsStop, EndsAt, ServesFront, Sends, Stopped};
+ghost use Rattle.sk_pipe.specs.Driving.{Answered, IsWriteStop, IsStop, EndsAt, Sends, Stopped, StopsAt};
 
-use crate::PipeEnd;
+use crate::session::Session;
+use crate::{Limits, PipeEnd};
 use sk_base::{Sink, Source, write_all};
-use sk_core::Core;
 use sk_resp::{Feeder, Reply, Say, WireFault, Words, write_reply};
 use std::alloc::Global;
 
@@ -44,38 +44,45 @@ fn send<K: Sink>(
     Ok(())
 }
 
-// Does a command, and writes its reply.
+// Does a command, and writes its reply. After the reply to one that ends the pipe it is done.
 fn answer<K: Sink>(
     alloc: Global,
-    store: &mut Core,
+    session: &mut Session,
     words: Words,
     text: &mut Vec<u8>,
     sink: &mut K,
 ) -> Result<(), PipeEnd>
-    ensures told { Answered store.old words store.new result (K.taken sink.old) (K.taken sink.new) }
+    ensures told { Answered session.old words session.new result (K.taken sink.old) (K.taken sink.new) }
     ensures later { K.write_faults sink.old ≤ K.write_faults sink.new }
     ensures write { result ≡ Err PipeEnd.WriteFault → Rose (K.write_faults sink.old) (K.write_faults sink.new) }
 {
-    let reply = store.step(words);
-    send(alloc, &reply, text, sink)
+    let answer = session.answer(words);
+    match send(alloc, &answer.reply, text, sink) {
+        Ok(()) => {}
+        Err(end) => return Err(end),
+    }
+    if answer.ends {
+        return Err(PipeEnd::Done);
+    }
+    Ok(())
 }
 
-// Does the commands, and writes each one's reply before the next is done.
+// Does the commands, and writes each one's reply before the next is done. None is done behind one that ends the pipe.
 fn answer_all<K: Sink>(
     alloc: Global,
-    store: &mut Core,
-    commands: Vec<Words>,
+    session: &mut Session,
+    commands: &mut Vec<Words>,
     sink: &mut K,
 ) -> Result<(), PipeEnd>
-    ensures ok { OnOk result ((written : Bytes) × Serves store.old commands.items store.new written × Takes (K.taken sink.old) written (K.taken sink.new)) }
-    ensures err { IfErr result (λ end. IsWriteStop end × ((count : ℕ) × ((written : Bytes) × ServesFront store.old (take count commands.items) store.new written
-        × Takes (K.taken sink.old) written (K.taken sink.new)))) }
+    ensures ok { OnOk result ((written : Bytes) × Serves false session.old commands.old.items session.new written × Takes (K.taken sink.old) written (K.taken sink.new)) }
+    ensures err { IfErr result (λ end. (count : ℕ) × ((written : Bytes) × StopsAt end session.old (take count commands.old.items) session.new written
+        × Takes (K.taken sink.old) written (K.taken sink.new))) }
     ensures later { K.write_faults sink.old ≤ K.write_faults sink.new }
     ensures write { result ≡ Err PipeEnd.WriteFault → Rose (K.write_faults sink.old) (K.write_faults sink.new) }
 {
     let mut text = Vec::new(alloc);
-    for words in commands {
-        match answer(alloc, store, words, &mut text, sink) {
+    for words in commands.drain(..) {
+        match answer(alloc, session, words, &mut text, sink) {
             Ok(()) => {}
             Err(end) => return Err(end),
         }
@@ -108,25 +115,27 @@ fn stop<K: Sink>(alloc: Global, fault: WireFault, sink: &mut K) -> PipeEnd
     }
 }
 
-// Takes a piece of the stream, and answers the commands that it makes whole. An error is an end of the pipe.
+// Takes a piece of the stream, and answers the commands that it makes whole. An error is an end of the pipe, whatever the source has left.
+// The vector is only kept from piece to piece, so that its memory is taken once.
 fn pass<K: Sink>(
     alloc: Global,
     feeder: &mut Feeder,
-    store: &mut Core,
+    session: &mut Session,
+    commands: &mut Vec<Words>,
     piece: &[u8],
     sink: &mut K,
 ) -> Result<(), PipeEnd>
     requires { feeder.old.fault ≡ None }
     ensures on { OnOk result ((feeder.new.fault ≡ None) × ((added : List Command) × ((written : Bytes) × Reads (feeder.old.rest ++ piece.now) added feeder.new.rest
-        × Serves store.old added store.new written × Takes (K.taken sink.old) written (K.taken sink.new)))) }
+        × Serves false session.old added session.new written × Takes (K.taken sink.old) written (K.taken sink.new)))) }
     ensures stopped { IfErr result (λ end. IsStop end × ((written : Bytes) × Takes (K.taken sink.old) written (K.taken sink.new)
-        × Ends store.old end (feeder.old.rest ++ piece.now) store.new written)) }
+        × ((left : Option Bytes) → Ends session.old end (feeder.old.rest ++ piece.now) left session.new written))) }
     ensures later { K.write_faults sink.old ≤ K.write_faults sink.new }
     ensures write { result ≡ Err PipeEnd.WriteFault → Rose (K.write_faults sink.old) (K.write_faults sink.new) }
 {
-    let mut commands = Vec::new(alloc);
-    let fed = feeder.feed(piece, &mut commands);
-    match answer_all(alloc, store, commands, sink) {
+    commands.clear();
+    let fed = feeder.feed(piece, commands);
+    match answer_all(alloc, session, commands, sink) {
         Ok(()) => {}
         Err(end) => return Err(end),
     }
@@ -148,16 +157,17 @@ fn end_of_input(feeder: &Feeder) -> PipeEnd
     }
 }
 
-/// Reads commands from the source until its end, and writes each one's reply to the sink before the next is done. The stream may come in
-/// any pieces.
-pub fn pipe<S: Source, K: Sink>(alloc: Global, source: &mut S, sink: &mut K) -> PipeEnd
+/// Reads commands from the source until its end, or until a QUIT or SHUTDOWN is accepted, and writes each one's reply to the sink before the
+/// next is done. The stream may come in any pieces. The store begins empty, with these limits, at the moment 0.
+pub fn pipe<S: Source, K: Sink>(
+    alloc: Global,
+    source: &mut S,
+    sink: &mut K,
+    limits: Limits,
+) -> PipeEnd
     // The source gave some bytes, and the sink took what these call for.
-    ensures ends { (bytes written : Bytes) × ((world : World) × Moves (S.left source.old) (S.left source.new) (K.taken sink.old) (K.taken sink.new) bytes written
-        × Ends first result bytes world written) }
-
-    // The input is read to its end, where nothing else stops the pipe.
-    ensures done { result ≡ PipeEnd.Done → IfSome (S.left source.new) (λ left. left ≡ []) }
-    ensures cut { result ≡ PipeEnd.Cut → IfSome (S.left source.new) (λ left. left ≡ []) }
+    ensures ends { (bytes written : Bytes) × ((new : State) × Moves (S.left source.old) (S.left source.new) (K.taken sink.old) (K.taken sink.new) bytes written
+        × Ends (first limits) result bytes (S.left source.new) new written) }
 
     // A fault of the outside is the end only where its count rose.
     ensures read_fault { result ≡ PipeEnd.ReadFault → Rose (S.read_faults source.old) (S.read_faults source.new) }
@@ -166,7 +176,8 @@ pub fn pipe<S: Source, K: Sink>(alloc: Global, source: &mut S, sink: &mut K) -> 
     ensures sink_count { K.write_faults sink.old ≤ K.write_faults sink.new }
 {
     let mut feeder = Feeder::new(alloc);
-    let mut store = Core::new(alloc);
+    let mut session = Session::new(alloc, limits);
+    let mut commands = Vec::new(alloc);
     let mut buf = [0u8; PIECE];
     let mut count: u64 = 0;
     while count < MOST_BYTES {
@@ -177,7 +188,8 @@ pub fn pipe<S: Source, K: Sink>(alloc: Global, source: &mut S, sink: &mut K) -> 
             return end_of_input(&feeder);
         }
         count += n as u64;
-        match pass(alloc, &mut feeder, &mut store, &buf[..n], sink) {
+        let piece = &buf[..n];
+        match pass(alloc, &mut feeder, &mut session, &mut commands, piece, sink) {
             Ok(()) => {}
             Err(end) => return end,
         }

@@ -4,10 +4,13 @@
 mod command_line;
 mod driver;
 mod pipe_end;
+mod reading;
+mod session;
 
-pub use command_line::run;
+pub use command_line::{SHIPPED_LIMITS, run};
 pub use driver::pipe;
 pub use pipe_end::PipeEnd;
+pub use sk_model::Limits;
 
 #[cfg(test)]
 mod tests;

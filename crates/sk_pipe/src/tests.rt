@@ -67,7 +67,7 @@ fn inputs_have_their_replies_and_statuses(rt: HostRuntime) -> Result<(), Fail> {
             1,
         ),
         (b"ping\r\n", b"+PONG\r\n", 0),
-        (b"PING a\r\n", b"-SK not built\r\n", 0),
+        (b"PING a\r\n", b"$1\r\na\r\n", 0),
         (
             b"PING a b\r\n",
             b"-ERR wrong number of arguments for 'ping' command\r\n",
@@ -122,14 +122,153 @@ fn other_command_lines_are_refused(rt: HostRuntime) -> Result<(), Fail> {
 }
 
 #[test]
+fn quit_and_shutdown_end_the_pipe(rt: HostRuntime) -> Result<(), Fail> {
+    let alloc = rt.alloc();
+    let rows: [(&[u8], &[u8]); 8] = [
+        (b"QUIT\r\n", b"+OK\r\n"),
+        (b"SHUTDOWN\r\n", b"+OK\r\n"),
+        (b"PING\r\n*1\r\n$4\r\nquit\r\nPING\r\n", b"+PONG\r\n+OK\r\n"),
+        (b"QUIT\r\n*x\r\n", b"+OK\r\n"),
+        (b"SHUTDOWN\r\nPING \"x\"\r\n", b"+OK\r\n"),
+        (b"QUIT\r\n*1\r\n$4\r\nPI", b"+OK\r\n"),
+        (
+            b"QUIT now\r\nPING\r\n",
+            b"-ERR wrong number of arguments for 'quit' command\r\n+PONG\r\n",
+        ),
+        (
+            b"SHUTDOWN NOSAVE\r\nPING\r\n",
+            b"-ERR wrong number of arguments for 'shutdown' command\r\n+PONG\r\n",
+        ),
+    ];
+    for (input, want) in rows {
+        for piece in [0, 1, 5] {
+            let (status, text) = ran(alloc, &["pipe"], input, piece)?;
+            assert_eq!(rt; text.as_slice(), want);
+            assert_eq!(rt; status, 0);
+        }
+    }
+    Ok(())
+}
+
+#[test]
+fn moments_are_numbers_that_are_not_below_zero(rt: HostRuntime) -> Result<(), Fail> {
+    let alloc = rt.alloc();
+    let arity = b"-ERR wrong number of arguments for 'sk.now' command\r\n".as_slice();
+    let range = b"-ERR value is not an integer or out of range\r\n".as_slice();
+    let rows: [(&[u8], &[u8]); 12] = [
+        (b"SK.NOW 0\n", b"+OK\r\n"),
+        (b"sk.Now 1700000000000\n", b"+OK\r\n"),
+        (b"SK.NOW 9223372036854775807\n", b"+OK\r\n"),
+        (b"SK.NOW\n", arity),
+        (b"SK.NOW 1 2\n", arity),
+        (b"SK.NOW -1\n", range),
+        (b"SK.NOW 9223372036854775808\n", range),
+        (b"SK.NOW 01\n", range),
+        (b"SK.NOW 1.5\n", range),
+        (b"SK.NOW x\n", range),
+        (b"SK.AS 0\n", b"-SK not built\r\n"),
+        (b"sk.cut\n", b"-SK not built\r\n"),
+    ];
+    for (input, want) in rows {
+        let (status, text) = ran(alloc, &["pipe"], input, 0)?;
+        assert_eq!(rt; text.as_slice(), want);
+        assert_eq!(rt; status, 0);
+    }
+    Ok(())
+}
+
+#[test]
+fn the_store_is_handed_the_moment(rt: HostRuntime) -> Result<(), Fail> {
+    let alloc = rt.alloc();
+    let rows: [(&[u8], &[u8]); 5] = [
+        (
+            b"SK.NOW 1700000000000\nSET k v PX 5\nPTTL k\n",
+            b"+OK\r\n+OK\r\n:5\r\n",
+        ),
+        (
+            b"SK.NOW 1700000000000\nSET k v PX 5\nSK.NOW 1700000000004\nGET k\nPTTL k\n",
+            b"+OK\r\n+OK\r\n+OK\r\n$1\r\nv\r\n:1\r\n",
+        ),
+        (
+            b"SK.NOW 1700000000000\nSET k v PX 5\nSK.NOW 1700000000005\nGET k\nPTTL k\n",
+            b"+OK\r\n+OK\r\n+OK\r\n$-1\r\n:-2\r\n",
+        ),
+        (
+            b"SK.NOW 4\nSET k v PX 5\nSK.NOW -1\nSK.NOW 8 9\nPTTL k\n",
+            b"+OK\r\n+OK\r\n-ERR value is not an integer or out of range\r\n-ERR wrong number of arguments for 'sk.now' command\r\n:5\r\n",
+        ),
+        (
+            b"SET k v PX 5\nSK.NOW 5\nPING\nSK.NOW 0\nEXISTS k\n",
+            b"+OK\r\n+OK\r\n+PONG\r\n+OK\r\n:0\r\n",
+        ),
+    ];
+    for (input, want) in rows {
+        for piece in [0, 2] {
+            let (status, text) = ran(alloc, &["pipe"], input, piece)?;
+            assert_eq!(rt; text.as_slice(), want);
+            assert_eq!(rt; status, 0);
+        }
+    }
+    Ok(())
+}
+
+#[test]
 fn queues_are_kept_from_command_to_command(rt: HostRuntime) -> Result<(), Fail> {
     let alloc = rt.alloc();
-    let input =
-        b"LPUSH queue:q a b\nLMOVE queue:q queue:r RIGHT LEFT\nLRANGE queue:r 0 -1\nLMOVE queue:s queue:r right left\nLRANGE q 0 01\nLPUSH q a\n";
-    let want =
-        b":2\r\n$1\r\na\r\n*1\r\n$1\r\na\r\n$-1\r\n-ERR value is not an integer or out of range\r\n-SK not built\r\n";
-    let (status, text) = ran(alloc, &["pipe"], input, 7)?;
-    assert_eq!(rt; text.as_slice(), want.as_slice());
-    assert_eq!(rt; status, 0);
+    let rows: [(&[u8], &[u8]); 2] = [
+        (
+            b"LPUSH queue:q a b\nLMOVE queue:q queue:r RIGHT LEFT\nLRANGE queue:r 0 -1\nLMOVE queue:s queue:r right left\nLRANGE q 0 01\nLPUSH q a\n",
+            b":2\r\n$1\r\na\r\n*1\r\n$1\r\na\r\n$-1\r\n-ERR value is not an integer or out of range\r\n:1\r\n",
+        ),
+        (
+            b"LPUSH queue:q a\nEXISTS queue:q queue:q\nSMEMBERS queues\nDEL queue:q nothing\nSCARD queues\nLMOVE queue:q k RIGHT LEFT\nSADD queues a\nFLUSHALL\nSCARD queues\nQUIT\nPING\n",
+            b":1\r\n:2\r\n*1\r\n$1\r\nq\r\n:1\r\n:0\r\n-SK managed key\r\n:1\r\n+OK\r\n:0\r\n+OK\r\n",
+        ),
+    ];
+    for (input, want) in rows {
+        for piece in [0, 7] {
+            let (status, text) = ran(alloc, &["pipe"], input, piece)?;
+            assert_eq!(rt; text.as_slice(), want);
+            assert_eq!(rt; status, 0);
+        }
+    }
+    Ok(())
+}
+
+#[test]
+fn plain_keys_hold_what_redis_has(rt: HostRuntime) -> Result<(), Fail> {
+    let alloc = rt.alloc();
+    let rows: [(&[u8], &[u8]); 10] = [
+        (
+            b"SET k v\nGET k\nDEL k\nGET k\n",
+            b"+OK\r\n$1\r\nv\r\n:1\r\n$-1\r\n",
+        ),
+        (b"INCRBY n 5\nINCRBY n -7\n", b":5\r\n:-2\r\n"),
+        (b"SET k v NX\nSET k w NX\n", b"+OK\r\n$-1\r\n"),
+        (b"RPUSH l a b\nLLEN l\nLREM l 0 a\n", b":2\r\n:2\r\n:1\r\n"),
+        (
+            b"SADD s a a b\nSISMEMBER s a\nSREM s a\n",
+            b":2\r\n:1\r\n:1\r\n",
+        ),
+        (
+            b"HSET h f v\nHGET h f\nHLEN h\n",
+            b":1\r\n$1\r\nv\r\n:1\r\n",
+        ),
+        (b"SADD s a\nTYPE s\nTYPE t\n", b":1\r\n+set\r\n+none\r\n"),
+        (
+            b"SADD s a\nGET s\n",
+            b":1\r\n-WRONGTYPE Operation against a key holding the wrong kind of value\r\n",
+        ),
+        (b"ECHO x\n", b"$1\r\nx\r\n"),
+        (
+            b"ZADD z 2 b 1 a\nZRANGE z 0 0 WITHSCORES\nZCARD schedule\n",
+            b":2\r\n*2\r\n$1\r\na\r\n$1\r\n1\r\n-SK not built\r\n",
+        ),
+    ];
+    for (input, want) in rows {
+        let (status, text) = ran(alloc, &["pipe"], input, 0)?;
+        assert_eq!(rt; text.as_slice(), want);
+        assert_eq!(rt; status, 0);
+    }
     Ok(())
 }

@@ -4,6 +4,12 @@ use Rattle.std.specs.Prelude.{codes, ◌&&◌, nat_le}
 use Rattle.std.specs.List.{AllByRecursion}
 use Rattle.sk_resp.specs.Spelling.{Bytes, cr, lf, minus, line}
 use Rattle.sk_resp.specs.Name.{spelling}
+use Rattle.sk_resp.specs.Kind.{kind_text}
+use Rattle.sk_resp.specs.Refusal.{refusal_text}
+use Rattle.sk_resp.specs.declared.kind.Kind.{Kind}
+use Rattle.sk_resp.specs.declared.kind.Kind.TheVariants as kind
+use Rattle.sk_resp.specs.declared.refusal.Refusal.{Refusal}
+use Rattle.sk_resp.specs.declared.refusal.Refusal.TheVariants as refusal
 use Rattle.sk_resp.specs.Reply.{shown, fault_text, say_text, wire}
 use Rattle.sk_resp.specs.ReplyStream.{IsLineText, IsFlat, IsNested, IsReplyText, IsWithin, IsWritable, simple_text, error_text, int_text, bulk_text, null_text, null_array_text}
 use Rattle.sk_resp.specs.declared.wire_fault.WireFault.{WireFault}
@@ -134,7 +140,32 @@ name_line name.As = fixed _ refl refl
 name_line name.Now = fixed _ refl refl
 name_line name.Cut = fixed _ refl refl
 
+kind_flat : (k : Kind) → IsFlat (line (kind_text k))
+kind_flat kind.Absent = simple_text (codes "none") (fixed _ refl refl) refl
+kind_flat kind.String = simple_text (codes "string") (fixed _ refl refl) refl
+kind_flat kind.List = simple_text (codes "list") (fixed _ refl refl) refl
+kind_flat kind.Set = simple_text (codes "set") (fixed _ refl refl) refl
+kind_flat kind.Hash = simple_text (codes "hash") (fixed _ refl refl) refl
+kind_flat kind.Sorted = simple_text (codes "zset") (fixed _ refl refl) refl
+
+refusal_flat : (r : Refusal) → IsFlat (line (refusal_text r))
+refusal_flat refusal.ManagedKey = error_line (codes "SK managed key") (fixed _ refl refl)
+refusal_flat refusal.NotWorker = error_line (codes "SK not a worker seat") (fixed _ refl refl)
+refusal_flat refusal.OutOfTurn = error_line (codes "SK out of turn") (fixed _ refl refl)
+refusal_flat refusal.NoProcess = error_line (codes "SK no such process") (fixed _ refl refl)
+refusal_flat refusal.NoBatch = error_line (codes "SK no such batch") (fixed _ refl refl)
+refusal_flat refusal.Settled = error_line (codes "SK batch settled") (fixed _ refl refl)
+refusal_flat refusal.RepeatedJid = error_line (codes "SK repeated jid") (fixed _ refl refl)
+refusal_flat refusal.BadPayload = error_line (codes "SK bad payload") (fixed _ refl refl)
+refusal_flat refusal.NotLeader = error_line (codes "SK not leader") (fixed _ refl refl)
+refusal_flat refusal.SlotDone = error_line (codes "SK slot done") (fixed _ refl refl)
+refusal_flat refusal.Full = error_line (codes "SK full") (fixed _ refl refl)
+refusal_flat refusal.RepeatedBid = error_line (codes "SK repeated bid") (fixed _ refl refl)
+refusal_flat refusal.SlotTime = error_line (codes "SK slot out of time") (fixed _ refl refl)
+
 say_flat : (s : Say) → IsFlat (line (say_text s))
+say_flat say.Ok = simple_text (codes "OK") (fixed _ refl refl) refl
+say_flat (say.Kind k) = kind_flat k
 say_flat say.Pong = simple_text (codes "PONG") (fixed _ refl refl) refl
 say_flat say.NotBuilt = error_line (codes "SK not built") (fixed _ refl refl)
 say_flat say.Unknown = error_line (codes "ERR unknown command") (fixed _ refl refl)
@@ -143,6 +174,10 @@ say_flat say.NotInt = error_line (codes "ERR value is not an integer or out of r
 say_flat say.NotScore = error_line (codes "ERR value is not a valid float") (fixed _ refl refl)
 say_flat say.BadBound = error_line (codes "ERR min or max is not a float") (fixed _ refl refl)
 say_flat say.Syntax = error_line (codes "ERR syntax error") (fixed _ refl refl)
+say_flat say.WrongType = error_line (codes "WRONGTYPE Operation against a key holding the wrong kind of value") (fixed _ refl refl)
+say_flat say.Overflow = error_line (codes "ERR increment or decrement would overflow") (fixed _ refl refl)
+say_flat say.BadExpire = error_line (codes "ERR invalid expire time") (fixed _ refl refl)
+say_flat (say.Refused r) = refusal_flat r
 say_flat say.Oom = error_line (codes "OOM want of memory") (fixed _ refl refl)
 say_flat (say.Protocol f) = fault_flat f
 

@@ -5,6 +5,8 @@ pub mod Stream
 pub mod Heard
 pub mod Reading
 pub mod Name
+pub mod Kind
+pub mod Refusal
 pub mod Reply
 pub mod ReplySize
 pub mod ReplyStream

@@ -3,6 +3,8 @@ use Rattle.std.specs.Prelude.{List, ℕ, codes, length, ◌++◌, ◌∷◌, [],
 use Rattle.std.specs.Fmt.{signed_decimal}
 use Rattle.sk_resp.specs.Spelling.{Bytes, plus, minus, colon, line, header, bulk, joined}
 use Rattle.sk_resp.specs.Name.{spelling}
+use Rattle.sk_resp.specs.Kind.{kind_text}
+use Rattle.sk_resp.specs.Refusal.{refusal_text}
 use Rattle.sk_resp.specs.declared.wire_fault.WireFault.{WireFault}
 use Rattle.sk_resp.specs.declared.wire_fault.WireFault.TheVariants as fault
 use Rattle.sk_resp.specs.declared.say.Say.{Say}
@@ -27,7 +29,9 @@ fault_text fault.Memory = codes "-OOM want of memory"
 
 -- the fixed texts, with the byte that names their kind in front
 abbrev pub say_text : Say → Bytes
+say_text say.Ok = codes "+OK"
 say_text say.Pong = codes "+PONG"
+say_text (say.Kind kind) = kind_text kind
 say_text say.NotBuilt = codes "-SK not built"
 say_text say.Unknown = codes "-ERR unknown command"
 say_text (say.Arity name) = codes "-ERR wrong number of arguments for '" ++ spelling name ++ codes "' command"
@@ -35,6 +39,10 @@ say_text say.NotInt = codes "-ERR value is not an integer or out of range"
 say_text say.NotScore = codes "-ERR value is not a valid float"
 say_text say.BadBound = codes "-ERR min or max is not a float"
 say_text say.Syntax = codes "-ERR syntax error"
+say_text say.WrongType = codes "-WRONGTYPE Operation against a key holding the wrong kind of value"
+say_text say.Overflow = codes "-ERR increment or decrement would overflow"
+say_text say.BadExpire = codes "-ERR invalid expire time"
+say_text (say.Refused refusal) = refusal_text refusal
 say_text say.Oom = codes "-OOM want of memory"
 say_text (say.Protocol fault) = fault_text fault
 

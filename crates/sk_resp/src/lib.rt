@@ -1,8 +1,10 @@
 //! Words, and the wire between a client and the store: requests as they are read and replies as they are written (RESP2).
 #![tactic(auto)]
 
+mod kind;
 mod name;
 mod number;
+mod refusal;
 mod reply;
 mod request;
 mod say;
@@ -12,8 +14,10 @@ mod wire_fault;
 mod word;
 mod word_order;
 
+pub use kind::Kind;
 pub use name::Name;
 pub use number::read_int;
+pub use refusal::Refusal;
 pub use reply::{
     Replies, Reply, ReplyFault, ReplyFeeder, no_reply_begins_another, replies_come_in_pieces,
     replies_have_one_reading, replies_have_texts, write_reply, written_replies_are_read,

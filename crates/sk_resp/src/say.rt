@@ -2,13 +2,17 @@
 ghost use Rattle.std.specs.Prelude.{◌≡◌, ◌++◌, OnOk};
 ghost use Rattle.sk_resp.specs.Reply.{say_text, fault_text, shown};
 
-use crate::{Memory, Name, WireFault};
+use crate::{Kind, Memory, Name, Refusal, WireFault};
 
 /// One of the fixed texts.
 #[derive(Clone, Copy, Debug, PartialEq, Eq)]
 pub enum Say {
+    /// `+OK`
+    Ok,
     /// `+PONG`
     Pong,
+    /// What a key holds: `+none`, `+string`, `+list`, `+set`, `+hash` or `+zset`
+    Kind(Kind),
     /// `-SK not built`: the command, or this form of it, is not built yet.
     NotBuilt,
     /// `-ERR unknown command`
@@ -23,6 +27,14 @@ pub enum Say {
     BadBound,
     /// `-ERR syntax error`
     Syntax,
+    /// `-WRONGTYPE Operation against a key holding the wrong kind of value`
+    WrongType,
+    /// `-ERR increment or decrement would overflow`
+    Overflow,
+    /// `-ERR invalid expire time`
+    BadExpire,
+    /// A refusal of the job store's own, as `-SK managed key`
+    Refused(Refusal),
     /// `-OOM want of memory`: the command changed nothing.
     Oom,
     /// `-ERR Protocol error: ..`, as the stream's fault says
@@ -82,7 +94,9 @@ pub fn write_say(say: Say, out: &mut Vec<u8>) -> Result<(), Memory>
     ensures { OnOk result (out.new.items ≡ out.old.items ++ say_text say) }
 {
     match say {
+        Say::Ok => out.extend_from_slice(b"+OK"),
         Say::Pong => out.extend_from_slice(b"+PONG"),
+        Say::Kind(kind) => out.extend_from_slice(kind.text()),
         Say::NotBuilt => out.extend_from_slice(b"-SK not built"),
         Say::Unknown => out.extend_from_slice(b"-ERR unknown command"),
         Say::Arity(name) => {
@@ -93,6 +107,12 @@ pub fn write_say(say: Say, out: &mut Vec<u8>) -> Result<(), Memory>
         Say::NotScore => out.extend_from_slice(b"-ERR value is not a valid float"),
         Say::BadBound => out.extend_from_slice(b"-ERR min or max is not a float"),
         Say::Syntax => out.extend_from_slice(b"-ERR syntax error"),
+        Say::WrongType => out.extend_from_slice(
+            b"-WRONGTYPE Operation against a key holding the wrong kind of value",
+        ),
+        Say::Overflow => out.extend_from_slice(b"-ERR increment or decrement would overflow"),
+        Say::BadExpire => out.extend_from_slice(b"-ERR invalid expire time"),
+        Say::Refused(refusal) => out.extend_from_slice(refusal.text()),
         Say::Oom => out.extend_from_slice(b"-OOM want of memory"),
         Say::Protocol(fault) => write_fault(fault, out),
     }

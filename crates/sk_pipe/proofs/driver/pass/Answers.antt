@@ -1,24 +1,24 @@
-use Rattle.std.proofs.Common.{◌≡◌, ◌++◌, ap, ◌∙◌, subst, take}
+use Rattle.std.proofs.Common.{◌≡◌, ◌++◌, subst, take, false}
 use Rattle.sk_pipe.specs.Pipe.{Serves}
-use Rattle.sk_pipe.specs.Driving.{ServesFront}
-use Rattle.sk_pipe.proofs.Piping.{ends_write, ends_fault, fed_opens}
+use Rattle.sk_pipe.specs.Driving.{StopsAt}
+use Rattle.sk_pipe.proofs.Piping.{all_added, ends_among, ends_fault, fed_opens}
 use Rattle.sk_pipe.proofs.driver.pass.Goals as goal
 
 pub returns-in-Err-clause-stopped : goal.returns-in-Err-clause-stopped
 returns-in-Err-clause-stopped g c =
     let bytes = c.args.feeder.now.rest ++ c.args.piece.now in
-    let fed = fed_opens c.feed-fed.result c.args.feeder.now.fault c.feed-fed.new.self.fault bytes c.feed-fed.new.self.rest c.new-commands.result.items c.feed-fed.new.out.items
+    let fed = fed_opens c.feed-fed.result c.args.feeder.now.fault c.feed-fed.new.self.fault bytes c.feed-fed.new.self.rest c.clear.new.self.items c.feed-fed.new.out.items
     c.requires c.feed-fed.ensures.ok c.feed-fed.ensures.fault in
     let err = c.in-Err.ensures.err in
-    let items : c.feed-fed.new.out.items ≡ fed.0 = fed.1 ∙ ap (λ z. z ++ fed.0) c.new-commands.ensures.items in
-    let ends = ends_write c.args.store.now c.answer_all.new.store c.in-Err.end bytes fed.2.0 fed.0 err.1.0 err.1.1.0 err.0 fed.2.1 (subst (λ z. ServesFront c.args.store.now (take err.1.0 z) c.answer_all.new.store err.1.1.0) items err.1.1.1) in
-    (ends.0, (err.1.1.0, err.1.1.2, ends.1))
+    let items : c.feed-fed.new.out.items ≡ fed.0 = all_added c.clear.new.self.items c.feed-fed.new.out.items fed.0 fed.1 c.clear.ensures.items in
+    let ends = ends_among c.args.session.now c.answer_all.new.session c.in-Err.end bytes fed.2.0 fed.0 err.0 err.1.0 fed.2.1 (subst (λ z. StopsAt c.in-Err.end c.args.session.now (take err.0 z) c.answer_all.new.session err.1.0) items err.1.1) in
+    (ends.0, (err.1.0, err.1.2, ends.1))
 
 pub returns-in-Err-fed-clause-stopped : goal.returns-in-Err-fed-clause-stopped
 returns-in-Err-fed-clause-stopped g c =
     let bytes = c.args.feeder.now.rest ++ c.args.piece.now in
     let fed = c.in-Err-fed.ensures.fault c.requires in
     let served = c.in-Ok.ensures.ok in
-    let items : c.feed-fed.new.out.items ≡ fed.0 = fed.1 ∙ ap (λ z. z ++ fed.0) c.new-commands.ensures.items in
-    ends_fault c.args.store.now c.answer_all.new.store c.in-Err-fed.fault c.stop.result bytes fed.0 (g.K.Sink.taken c.args.sink.now) (g.K.Sink.taken c.answer_all.new.sink) (g.K.Sink.taken c.stop.new.sink) served.0
-    fed.2 (subst (λ z. Serves c.args.store.now z c.answer_all.new.store served.0) items served.1) served.2 c.stop.ensures.told
+    let items : c.feed-fed.new.out.items ≡ fed.0 = all_added c.clear.new.self.items c.feed-fed.new.out.items fed.0 fed.1 c.clear.ensures.items in
+    ends_fault c.args.session.now c.answer_all.new.session c.in-Err-fed.fault c.stop.result bytes fed.0 (g.K.Sink.taken c.args.sink.now) (g.K.Sink.taken c.answer_all.new.sink) (g.K.Sink.taken c.stop.new.sink) served.0
+    fed.2 (subst (λ z. Serves false c.args.session.now z c.answer_all.new.session served.0) items served.1) served.2 c.stop.ensures.told

@@ -1,10 +1,10 @@
-use Rattle.std.proofs.Common.{◌++◌, [], take, refl, arith, subst, length-append, length-take}
+use Rattle.std.proofs.Common.{◌++◌, [], take, refl, ap, arith, subst, Ok, false, length-append, length-take}
 use Rattle.sk_base.specs.Outside.{Gives}
 use Rattle.sk_base.proofs.OutsideLaws.{gives_nothing, takes_nothing, gives_no_more, gives_more, takes_more}
 use Rattle.sk_resp.proofs.Readings.{reads_on}
 use Rattle.sk_resp.proofs.Fewer.{reads_nothing}
-use Rattle.sk_model.specs.World.{first}
-use Rattle.sk_pipe.proofs.Piping.{serves_nothing, serves_on, ends_at, ends_on}
+use Rattle.sk_model.specs.Run.{first}
+use Rattle.sk_pipe.proofs.Piping.{serves_nothing, serves_on, ends_at, ends_on, nothing_left}
 use Rattle.sk_pipe.proofs.driver.pipe.Goals as goal
 
 pub loop-count-init : goal.loop-count-init
@@ -18,7 +18,7 @@ loop-count-init g c = record {
         gives_nothing (g.S.Source.left c.args.source.now),
         takes_nothing (g.K.Sink.taken c.args.sink.now),
         rw c.new-feeder.ensures reads_nothing,
-        rw c.new-store.ensures (serves_nothing first),
+        rw c.new-session.ensures (serves_nothing (first c.args.limits)),
         refl,
       ),
     ),
@@ -36,9 +36,10 @@ returns-then-n-eq0-clause-ends g c =
       so_far.0,
       was.0,
       (
-        c.loop-count.store,
+        c.loop-count.session,
         record { gave = gives_no_more (g.S.Source.left c.args.source.now) so_far.0 (g.S.Source.left c.loop-count.source) (g.S.Source.left c.read.new.self) was.1 nothing; took = was.2 },
-        ends_at first c.loop-count.store c.end_of_input.result so_far.0 c.loop-count.feeder.rest so_far.1.0 was.0 c.end_of_input.ensures was.3 was.4,
+        ends_at (first c.args.limits) c.loop-count.session c.end_of_input.result so_far.0 c.loop-count.feeder.rest so_far.1.0 was.0 (g.S.Source.left c.read.new.self) c.end_of_input.ensures was.3 was.4
+            (nothing_left (g.S.Source.left c.loop-count.source) (g.S.Source.left c.read.new.self) nothing (c.in-Ok.ensures.end (ap Ok c.if-n-eq0.true) (omega arith))),
       ),
     )
 
@@ -51,12 +52,12 @@ returns-in-Err-clause-ends g c =
       so_far.0 ++ piece,
       was.0 ++ stopped.1.0,
       (
-        c.pass.new.store,
+        c.pass.new.session,
         record {
           gave = gives_more (g.S.Source.left c.args.source.now) so_far.0 (g.S.Source.left c.loop-count.source) piece (g.S.Source.left c.read.new.self) was.1 c.in-Ok.ensures.told;
           took = takes_more (g.K.Sink.taken c.args.sink.now) was.0 (g.K.Sink.taken c.loop-count.sink) stopped.1.0 (g.K.Sink.taken c.pass.new.sink) was.2 stopped.1.1;
         },
-        ends_on first c.loop-count.store c.pass.new.store c.in-Err.end so_far.0 piece c.loop-count.feeder.rest so_far.1.0 was.0 stopped.1.0 stopped.0 was.3 was.4 stopped.1.2,
+        ends_on (first c.args.limits) c.loop-count.session c.pass.new.session c.in-Err.end so_far.0 piece c.loop-count.feeder.rest so_far.1.0 was.0 stopped.1.0 (g.S.Source.left c.read.new.self) stopped.0 was.3 was.4 (stopped.1.2 (g.S.Source.left c.read.new.self)),
       ),
     )
 
@@ -77,7 +78,7 @@ loop-count-preserved g c =
             gives_more (g.S.Source.left c.args.source.now) so_far.0 (g.S.Source.left c.loop-count.source) piece (g.S.Source.left c.read.new.self) was.1 c.in-Ok.ensures.told,
             takes_more (g.K.Sink.taken c.args.sink.now) was.0 (g.K.Sink.taken c.loop-count.sink) new.0 (g.K.Sink.taken c.pass.new.sink) was.2 new.3,
             reads_on so_far.0 piece c.loop-count.feeder.rest c.pass.new.feeder.rest so_far.1.0 on.1.0 was.3 new.1,
-            serves_on first c.loop-count.store c.pass.new.store so_far.1.0 on.1.0 was.0 new.0 was.4 new.2,
+            serves_on false (first c.args.limits) c.loop-count.session c.pass.new.session so_far.1.0 on.1.0 was.0 new.0 was.4 new.2,
             omega (arith, was.5, length-append so_far.0 piece, length-take c.in-Ok.n c.read.new.buf, c.in-Ok.ensures.within, c.read.auto.buf),
           ),
         ),

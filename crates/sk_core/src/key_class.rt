@@ -1,0 +1,62 @@
+// What the name of a key means to the store. Nothing here takes memory.
+ghost use Rattle.std.specs.Prelude.{◌≡◌, ◌≤◌, ◌||◌, drop, length};
+ghost use Rattle.sk_model.specs.Class.{class_of, is_later, queue_of};
+ghost use Rattle.sk_model.specs.declared.key_class.KeyClass.TheVariants as KeyClass;
+ghost use Rattle.sk_payload.specs.Member.{is_name};
+
+use sk_model::KeyClass;
+use sk_resp::Word;
+
+/// A name of a queue: 1 to 255 bytes of UTF-8 text without control characters.
+pub fn is_queue_name(name: &[u8]) -> bool
+    ensures { result ≡ is_name 255 name.now }
+{
+    sk_base::is_name(name, 255)
+}
+
+// One of the managed keys that aren't built yet.
+fn is_later(key: &[u8]) -> bool
+    ensures { result ≡ is_later key.now }
+{
+    key.starts_with(b"sq:")
+        || key.starts_with(b"stat:")
+        || key == b"schedule".as_slice()
+        || key == b"retry".as_slice()
+        || key == b"dead".as_slice()
+        || key == b"processes".as_slice()
+}
+
+/// What the name of a key means.
+#[tactic(auto, unfolding(sk_model::specs::Class::class_of))]
+pub fn class_of(key: &[u8]) -> KeyClass
+    ensures { result ≡ class_of key.now }
+{
+    if key.starts_with(b"queue:") {
+        if is_queue_name(&key[6..]) {
+            return KeyClass::Queue;
+        }
+        return KeyClass::NoQueue;
+    }
+    if key == b"queues".as_slice() {
+        return KeyClass::Queues;
+    }
+    if is_later(key) {
+        return KeyClass::Later;
+    }
+    KeyClass::Plain
+}
+
+/// The name of the queue that a key means: what stands behind `queue:`.
+pub fn queue_of(key: Word) -> Word
+    ensures { result ≡ queue_of key }
+{
+    let mut bytes = key.into_bytes();
+    let rest = bytes.len().saturating_sub(6);
+    if rest == 0 {
+        bytes.clear();
+        return Word::new(bytes);
+    }
+    bytes.copy_within(6.., 0);
+    bytes.truncate(rest);
+    Word::new(bytes)
+}

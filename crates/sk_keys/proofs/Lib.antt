@@ -1,0 +1,4 @@
+pub mod Index
+pub mod Puts
+pub mod Purging
+pub mod Moves

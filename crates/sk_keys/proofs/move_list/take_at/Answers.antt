@@ -1,0 +1,17 @@
+use Rattle.std.proofs.Common.{refl, arith}
+use Rattle.sk_value.specs.declared.entry.Entry.{Entry}
+use Rattle.sk_value.specs.declared.value.Value.TheVariants as value
+use Rattle.sk_keys.proofs.Index.{index_written}
+use Rattle.sk_keys.proofs.move_list.take_at.Goals as goal
+use Rattle.sk_keys.proofs.move_list.take_at.Goals.{then-len-eq0, else-len-eq0}
+
+pub remove-requires : goal.remove-requires
+remove-requires c =
+    let new : Entry = record { value = value.List c.take.new.self; deadline = c.in_ok-there.there.now.deadline } in
+    index_written c.args.name.now c.in_ok-there.there.now new c.args.entries.now (c.get_mut.follows.lender new) c.args.dues.now c.requires c.in_ok-there.ensures.value refl (c.get_mut.follows.holds new)
+
+pub returns-clause-indexed : goal.returns-clause-indexed
+returns-clause-indexed c = λ moment other.
+    let new : Entry = record { value = value.List c.take.new.self; deadline = c.in_ok-there.there.now.deadline } in
+    let indexed = index_written c.args.name.now c.in_ok-there.there.now new c.args.entries.now (c.get_mut.follows.lender new) c.args.dues.now c.requires c.in_ok-there.ensures.value refl (c.get_mut.follows.holds new) in
+    elim c.if-len-eq0.branch [ then-len-eq0 w ↦ grind (arith, w.entries-is, w.dues-is, w.remove.ensures.indexed moment other) | else-len-eq0 w ↦ grind (arith, w.entries-is, w.dues-is, indexed moment other) ]

@@ -1,0 +1,121 @@
+// The plain keys: an ordered map from the name, and beside it the index of their deadlines.
+ghost use Rattle.std.specs.Prelude.{◌≡◌, [], OnErr, OnOk};
+ghost use Rattle.std.specs.Option.{is_some};
+ghost use Rattle.sk_value.specs.Action.{action_of};
+ghost use Rattle.sk_value.specs.Answer.{Gives};
+ghost use Rattle.sk_value.specs.Apply.{applied};
+ghost use Rattle.sk_value.specs.Keys.{at, purged, without};
+ghost use Rattle.sk_keys.specs.Index.{IsIndexed};
+
+use crate::apply::act;
+use crate::delete;
+use crate::dues::{Dues, is_due};
+use sk_cmd::PlainCommand;
+use sk_resp::{Reply, Word};
+use sk_value::{Action, Entry, KeysFault, action_of};
+use std::alloc::Global;
+use std::collections::{BTreeMap, BTreeSet};
+use std::marker::Model;
+
+/// What stands under each name.
+pub type Entries = BTreeMap<Word, Entry>;
+
+/// The plain keys, each with a value and perhaps a deadline. Contracts see the list of them, in the order of the names' bytes.
+#[derive(Drop)]
+pub struct Keys {
+    alloc: Global,
+    entries: Entries,
+    dues: Dues,
+}
+
+impl Model for Keys {
+    ghost use Rattle.std.specs.Prelude.{List, ℕ};
+    ghost use Rattle.sk_value.specs.declared.entry.Entry.{Entry};
+
+    ghost Value = { List (List ℕ × Entry) };
+
+    ghost view = { λ keys. keys.entries.entries };
+
+    ghost use Rattle.sk_keys.specs.Index.{IsIndexed};
+
+    ghost invariant = { λ keys. IsIndexed keys.entries.entries keys.dues };
+}
+
+// Removes each key whose deadline is over. What stays isn't looked at.
+fn purge(entries: &mut Entries, dues: &mut Dues, now: u64)
+    requires { IsIndexed entries.old.entries dues.old }
+    ensures keys { entries.new.entries ≡ purged now entries.old.entries }
+    ensures indexed { IsIndexed entries.new.entries dues.new }
+{
+    while is_due(dues, now) {
+        if let Some((_, name)) = dues.pop_first() {
+            entries.remove(&name);
+        }
+    }
+    let _count = entries.len(); // its contract says that the names ascend
+}
+
+impl Keys {
+    /// No keys. Takes no memory.
+    pub fn new(alloc: Global) -> Keys
+        ensures { result ≡ [] }
+    {
+        Keys {
+            alloc,
+            entries: BTreeMap::new(alloc),
+            dues: BTreeSet::new(alloc),
+        }
+    }
+
+    /// Removes each key whose deadline the moment has reached, and looks at no other. Takes no memory.
+    pub fn purge(&mut self, now: u64)
+        ensures { self.new ≡ purged now self.old }
+    {
+        purge(&mut self.entries, &mut self.dues, now);
+    }
+
+    /// Whether a key stands under the name.
+    pub fn has(&self, name: &Word) -> bool
+        ensures { result ≡ is_some (at name.now self.now) }
+    {
+        self.entries.contains_key(name)
+    }
+
+    /// Removes a key, and answers whether it was there. Takes no memory.
+    pub fn remove(&mut self, name: &Word) -> bool
+        ensures was { result ≡ is_some (at name.now self.old) }
+        ensures rest { self.new ≡ without name.now self.old }
+    {
+        delete::remove(&mut self.entries, &mut self.dues, name)
+    }
+
+    /// Removes all keys. Takes no memory.
+    pub fn clear(&mut self)
+        ensures { self.new ≡ [] }
+    {
+        delete::clear(&mut self.entries, &mut self.dues);
+    }
+
+    /// Does what Redis's command does at the moment `now`, in milliseconds since 1970, and gives its reply. A key whose deadline is over still
+    /// counts here: `purge(now)` is meant to come before.
+    ///
+    /// After an error all keys are as before. `WrongType`: a key holds a value of another kind than the command is for. `NotInt`, `Overflow`:
+    /// INCRBY finds no integer of 64 bits, or its sum would be none. `BadExpire`: SET is given a time to live below 1, or SET or PEXPIRE a deadline
+    /// past the year 9999. `Memory`: there was none.
+    pub fn act(&mut self, now: u64, action: Action) -> Result<Reply, KeysFault>
+        ensures answer { Gives (applied now action self.old).answer result }
+        ensures ok { OnOk result (self.new ≡ (applied now action self.old).keys) }
+        ensures err { OnErr result (self.new ≡ self.old) }
+    {
+        act(self.alloc, &mut self.entries, &mut self.dues, now, action)
+    }
+
+    /// The same as `act` with what the command does.
+    pub fn apply(&mut self, now: u64, command: PlainCommand) -> Result<Reply, KeysFault>
+        ensures answer { Gives (applied now (action_of command) self.old).answer result }
+        ensures ok { OnOk result (self.new ≡ (applied now (action_of command) self.old).keys) }
+        ensures err { OnErr result (self.new ≡ self.old) }
+    {
+        self.act(now, action_of(command))
+    }
+}

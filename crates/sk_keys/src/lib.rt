@@ -1,0 +1,18 @@
+//! The plain keys of the store, with their deadlines: a small Redis over an ordered map, and an index of the deadlines in order.
+#![tactic(auto)]
+
+mod apply;
+mod delete;
+mod dues;
+mod edit;
+mod expire;
+mod keys;
+mod look;
+mod move_list;
+mod put;
+mod set;
+
+pub use keys::Keys;
+
+#[cfg(test)]
+mod tests;

@@ -1,0 +1,25 @@
+// The commands that read one key.
+ghost use Rattle.sk_value.specs.Answer.{Gives};
+ghost use Rattle.sk_value.specs.Keys.{at};
+ghost use Rattle.sk_value.specs.Values.{look_at};
+
+use crate::keys::Entries;
+use sk_resp::{Reply, Word};
+use sk_value::{KeysFault, Look};
+use std::alloc::Global;
+
+/// What the command answers at the moment `now`, in milliseconds since 1970.
+pub fn look(
+    alloc: Global,
+    entries: &Entries,
+    now: u64,
+    name: &Word,
+    look: &Look,
+) -> Result<Reply, KeysFault>
+    ensures { Gives (look_at now look.now (at name.now entries.now.entries)) result }
+{
+    match entries.get(name) {
+        None => Ok(look.absent(alloc)),
+        Some(entry) => entry.look(alloc, now, look),
+    }
+}

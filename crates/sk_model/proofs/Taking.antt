@@ -1,0 +1,61 @@
+-- Rows that are taken one after another are there.
+use Rattle.std.proofs.Common.{◌≡◌, ◌≤◌, ◌<◌, ℕ, zero, suc, List, [], ◌∷◌, refl, arith, Bool, true, false, length}
+use Rattle.std.specs.Prelude.{filter, ℤ, pos, negsuc}
+use Rattle.std.specs.List.{list_any}
+use Rattle.sk_cmd.specs.declared.argument.Side.{Side}
+use Rattle.sk_cmd.specs.declared.argument.Side.TheVariants.{Left, Right}
+use Rattle.sk_model.specs.declared.row.Row.{Row}
+use Rattle.sk_model.specs.Rows.{is_same, without_first, without_last, take_row}
+use Rattle.sk_model.specs.Queues.{copies_of, number_taken}
+use Rattle.sk_model.proofs.Texts.{same_row, same_is}
+
+-- ## How many of a list pass a test
+
+pub some_from_count : {A : Type 0} (test : A → Bool) (xs : List A) → 0 < length (filter test xs) → list_any test xs ≡ true
+some_from_count test [] some = absurd (omega (arith, some))
+some_from_count test (x ∷ xs) some = grind (arith, some_from_count test xs)
+
+none_counted : {A : Type 0} (test : A → Bool) (xs : List A) → list_any test xs ≡ false → length (filter test xs) ≡ 0
+none_counted test [] none = refl
+none_counted test (x ∷ xs) none = grind (arith, none_counted test xs)
+
+pub count_first : {A : Type 0} (test : A → Bool) (xs : List A) → list_any test xs ≡ true → suc (length (filter test (without_first test xs))) ≡ length (filter test xs)
+count_first test [] some = grind arith
+count_first test (x ∷ xs) some = grind (arith, count_first test xs)
+
+pub count_last : {A : Type 0} (test : A → Bool) (xs : List A) → list_any test xs ≡ true → suc (length (filter test (without_last test xs))) ≡ length (filter test xs)
+count_last test [] some = grind arith
+count_last test (x ∷ xs) some = grind (arith, count_last test xs, none_counted test xs)
+
+-- ## Equal rows
+
+-- a row of which there is another is the same as some row
+pub there : (row : Row) (n : ℕ) (rows : List Row) → suc n ≤ copies_of row rows → list_any (is_same row) rows ≡ true
+there row n rows most = some_from_count (is_same row) rows (omega (arith, most))
+
+-- one fewer is left
+pub one_fewer : (row : Row) (from : Side) (rows : List Row) → list_any (is_same row) rows ≡ true → suc (copies_of row (take_row from row rows)) ≡ copies_of row rows
+one_fewer row Left rows some = count_first (is_same row) rows some
+one_fewer row Right rows some = count_last (is_same row) rows some
+
+pub taken_at_most : (count : ℤ) (n : ℕ) → number_taken count n ≤ n
+taken_at_most (pos zero) n = omega arith
+taken_at_most (pos (suc k)) n = omega arith
+taken_at_most (negsuc k) n = omega arith
+
+-- ## The rows of a place, from the left
+
+-- what stands first of those that pass a test passes it
+passes : (test : Row → Bool) (row : Row) (more rows : List Row) → filter test rows ≡ row ∷ more → test row ≡ true
+passes test row more [] e = absurd (cc e)
+passes test row more (other ∷ rows) e = grind (arith, e, passes test row more rows)
+
+-- it is there
+pub first_there : (test : Row → Bool) (row : Row) (more rows : List Row) → filter test rows ≡ row ∷ more → list_any (is_same row) rows ≡ true
+first_there test row more [] e = absurd (cc e)
+first_there test row more (other ∷ rows) e = grind (arith, e, first_there test row more rows, same_row row)
+
+-- Where it is taken, those behind it are left.
+pub rows_at-rest : (test : Row → Bool) (row : Row) (more rows : List Row) → filter test rows ≡ row ∷ more → filter test (take_row Left row rows) ≡ more
+rows_at-rest test row more [] e = absurd (cc e)
+rows_at-rest test row more (other ∷ rows) e = grind (arith, e, rows_at-rest test row more rows, passes test row more rows, same_row row, same_is row other)

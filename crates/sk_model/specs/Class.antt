@@ -1,0 +1,28 @@
+-- What the names of keys mean to the store.
+use Rattle.std.specs.Prelude.{Bool, true, false, ◌||◌, cond, codes, drop, nat_eq}
+use Rattle.std.specs.List.{starts_with}
+use Rattle.std.specs.Str.{bytes_eq}
+use Rattle.sk_resp.specs.Spelling.{Bytes}
+use Rattle.sk_payload.specs.Member.{is_name}
+use Rattle.sk_model.specs.declared.key_class.KeyClass.{KeyClass}
+use Rattle.sk_model.specs.declared.key_class.KeyClass.TheVariants.{Plain, Queue, NoQueue, Queues, Later}
+
+-- the name behind `queue:`
+abbrev pub queue_of : Bytes → Bytes
+queue_of key = drop 6 key
+
+-- one of the managed keys that aren't built yet: private lists, counters, the sets of jobs and that of the processes
+abbrev pub is_later : Bytes → Bool
+is_later key = starts_with nat_eq key (codes "sq:") || (starts_with nat_eq key (codes "stat:") || (bytes_eq key (codes "schedule") || (bytes_eq key (codes "retry") || (bytes_eq key (codes "dead") || bytes_eq key (codes "processes")))))
+
+unfoldable pub class_of : Bytes → KeyClass
+class_of key = cond (starts_with nat_eq key (codes "queue:")) (cond (is_name 255 (queue_of key)) Queue NoQueue)
+    (cond (bytes_eq key (codes "queues")) Queues (cond (is_later key) Later Plain))
+
+-- a key of the clients' own
+abbrev pub is_plain : KeyClass → Bool
+is_plain Plain = true
+is_plain Queue = false
+is_plain NoQueue = false
+is_plain Queues = false
+is_plain Later = false

@@ -1,0 +1,28 @@
+-- What a key holds, plain or managed: what a command that reads it sees.
+use Rattle.std.specs.Prelude.{List, [], ◌∷◌, Option, Some, None}
+use Rattle.sk_resp.specs.Spelling.{Bytes}
+use Rattle.sk_value.specs.declared.value.Value.{Value}
+use Rattle.sk_value.specs.declared.value.Value.TheVariants as value
+use Rattle.sk_value.specs.declared.entry.Entry.{Entry}
+use Rattle.sk_value.specs.Keys.{at}
+use Rattle.sk_model.specs.declared.key_class.KeyClass.{KeyClass}
+use Rattle.sk_model.specs.declared.key_class.KeyClass.TheVariants as class
+use Rattle.sk_model.specs.declared.row.Place.TheVariants.{Queue}
+use Rattle.sk_model.specs.Rows.{texts_at}
+use Rattle.sk_model.specs.World.{World}
+use Rattle.sk_model.specs.Class.{class_of, queue_of}
+
+-- texts as a value without a deadline; where there are none there is no key
+abbrev pub if_any : (List Bytes → Value) → List Bytes → Option Entry
+if_any make [] = None
+if_any make (text ∷ texts) = Some (record { value = make (text ∷ texts); deadline = None })
+
+abbrev pub held_as : World → Bytes → KeyClass → Option Entry
+held_as w key class.Plain = at key w.keys
+held_as w key class.Queue = if_any value.List (texts_at (Queue (queue_of key)) w.rows)
+held_as w key class.NoQueue = None
+held_as w key class.Queues = if_any value.Set w.names
+held_as w key class.Later = None
+
+abbrev pub held : World → Bytes → Option Entry
+held w key = held_as w key (class_of key)

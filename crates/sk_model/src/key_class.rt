@@ -1,0 +1,16 @@
+// What the name of a key means to the store.
+
+/// What the name of a key means to the store.
+#[derive(Clone, Copy, Debug, PartialEq, Eq)]
+pub enum KeyClass {
+    /// A key of the clients' own.
+    Plain,
+    /// `queue:` and a name of at most 255 bytes: the jobs of a queue.
+    Queue,
+    /// `queue:` and what is no name. Nothing is ever there.
+    NoQueue,
+    /// `queues`: the set of the queues' names.
+    Queues,
+    /// Another of the keys that the store manages. These aren't built yet.
+    Later,
+}

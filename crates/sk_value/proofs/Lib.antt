@@ -1,0 +1,9 @@
+pub mod Dropping
+pub mod Ends
+pub mod IntOf
+pub mod Names
+pub mod Parts
+pub mod Ranks
+pub mod SortedWorked
+pub mod TakingBack
+pub mod Worked

@@ -1,0 +1,13 @@
+pub mod Order
+pub mod Maps
+pub mod Number
+pub mod Answer
+pub mod Strings
+pub mod Lists
+pub mod Sets
+pub mod Hashes
+pub mod Sorted
+pub mod Values
+pub mod Action
+pub mod Keys
+pub mod Apply

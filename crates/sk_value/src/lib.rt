@@ -1,0 +1,36 @@
+//! What a plain key holds, and what each command of Redis that the store knows does with it: the table of commands over strings, lists, sets,
+//! hashes and sorted sets with deadlines.
+#![tactic(auto)]
+
+mod action;
+mod edit;
+mod entry;
+mod fields;
+mod items;
+mod keys_fault;
+mod look;
+mod maps;
+mod members;
+mod number;
+mod replies;
+mod sorted;
+mod strings;
+mod value;
+
+pub use action::{Action, action_of};
+pub use edit::Edit;
+pub use entry::Entry;
+pub use fields::Fields;
+pub use items::{Items, end_index, first_index};
+pub use keys_fault::KeysFault;
+pub use look::Look;
+pub use maps::insert_all;
+pub use members::{Members, look_members};
+pub use number::int_of;
+pub use replies::{counted, one_if};
+pub use sorted::Sorted;
+pub use std::alloc::AllocError as Memory;
+pub use value::Value;
+
+#[cfg(test)]
+mod tests;

@@ -1,0 +1,225 @@
+// Sorted sets (Redis, "Sorted sets"): pairs of a score and a member over `ZSet`, with no open step. A ZADD of several pairs is one step, which
+// is taken back where memory runs out; what takes pairs out takes no memory.
+ghost use Rattle.std.specs.Prelude.{◌≡◌, ◌≤◌, ◌<◌, ◌^◌, List, [], None, length, map, drop, take, IfOk, OnErr, OnOk};
+ghost use Rattle.sk_base.specs.Score.{score_text};
+ghost use Rattle.sk_resp.specs.Reply.{wire};
+ghost use Rattle.sk_resp.specs.Spelling.{bulk};
+ghost use Rattle.sk_track.specs.Steps.{edited};
+ghost use Rattle.sk_zset.specs.Pair.{Pair};
+ghost use Rattle.sk_value.specs.Answer.{Gives, Leaves, texts};
+ghost use Rattle.sk_value.specs.Lists.{range_of};
+ghost use Rattle.sk_value.specs.Sorted.{all_added, all_without, between, edit_sorted, limited, listed, look_sorted, without_range};
+
+use crate::items::{end_index, first_index};
+use crate::replies::counted;
+use crate::{Edit, KeysFault, Look};
+use sk_base::{Bound, Score};
+use sk_cmd::RangeOptions;
+use sk_resp::{Memory, Replies, Reply, Word, Words};
+use sk_zset::ZSet;
+use std::alloc::Global;
+use std::marker::Model;
+
+/// A sorted set. Contracts see the list of its pairs of a score, in millionths, and a member, by score and then by the members' bytes.
+#[derive(Drop)]
+pub struct Sorted {
+    set: ZSet,
+}
+
+impl Model for Sorted {
+    ghost use Rattle.std.specs.Prelude.{◌≡◌, List, None};
+    ghost use Rattle.sk_zset.specs.Pair.{Pair};
+
+    ghost Value = { List Pair };
+
+    ghost view = { λ sorted. sorted.set.stands };
+
+    ghost invariant = { λ sorted. sorted.set.stood ≡ None };
+}
+
+impl Sorted {
+    /// Takes no memory.
+    pub fn new(alloc: Global) -> Sorted
+        ensures { result ≡ [] }
+    {
+        Sorted {
+            set: ZSet::new(alloc),
+        }
+    }
+
+    pub fn len(&self) -> usize
+        ensures is { result ≡ length self.now }
+        ensures small { result < 2 ^ 63 }
+    {
+        self.set.len() as usize
+    }
+
+    /// What `ZCARD key`, `ZSCORE key member`, `ZRANGE key first last [WITHSCORES]` and `ZRANGEBYSCORE key min max [WITHSCORES] [LIMIT skip count]`
+    /// answer (Redis, "Sorted sets"). Another command is `WrongType`.
+    pub fn look(&self, alloc: Global, look: &Look) -> Result<Reply, KeysFault>
+        ensures { Gives (look_sorted look.now self.now) result }
+    {
+        match look {
+            Look::Zcard => Ok(counted(self.len())),
+            Look::Zscore(member) => match self.set.score(member.bytes()) {
+                None => Ok(Reply::Null),
+                Some(score) => Ok(Reply::Bulk(text_of(alloc, score)?)),
+            },
+            Look::Zrange(first, last, scores) => Ok(self.range(alloc, *first, *last, *scores)?),
+            Look::Zrangebyscore(least, greatest, options) => {
+                Ok(self.by_score(alloc, *least, *greatest, options)?)
+            }
+            _ => Err(KeysFault::WrongType),
+        }
+    }
+
+    /// What `ZADD key score member ..`, `ZREM key member ..`, `ZREMRANGEBYRANK key first last` and `ZREMRANGEBYSCORE key min max` answer, and the
+    /// sorted set afterwards. Another command is `WrongType`. All but ZADD take no memory.
+    #[tactic(auto, unfolding(crate::specs::Sorted::edit_sorted))]
+    pub fn edit(&mut self, edit: Edit) -> Result<Reply, KeysFault>
+        ensures done { Leaves (edit_sorted edit self.old) result self.new }
+        ensures err { OnErr result (self.new ≡ self.old) }
+    {
+        let before = self.len();
+        match edit {
+            Edit::Zadd(more) => {
+                add_all(&mut self.set, more.into_list())?;
+                Ok(counted(self.len().saturating_sub(before)))
+            }
+            Edit::Zrem(members) => {
+                remove_all(&mut self.set, &members);
+                Ok(counted(before.saturating_sub(self.len())))
+            }
+            Edit::Zremrangebyrank(first, last) => {
+                remove_range(&mut self.set, first, last);
+                Ok(counted(before.saturating_sub(self.len())))
+            }
+            Edit::Zremrangebyscore(least, greatest) => {
+                self.set.remove_scores(least, greatest);
+                Ok(counted(before.saturating_sub(self.len())))
+            }
+            _ => Err(KeysFault::WrongType),
+        }
+    }
+
+    // The members from index `first` to index `last`, both included.
+    #[tactic(auto, using(crate::proofs::Ranks::ranked))]
+    fn range(&self, alloc: Global, first: i64, last: i64, scores: bool) -> Result<Reply, Memory>
+        ensures { IfOk result (λ reply. reply ≡ texts (listed scores (range_of first last self.now))) }
+    {
+        let count = self.len();
+        let start = first_index(first, count);
+        let end = end_index(last, count);
+        let pairs = self
+            .set
+            .range(alloc, start as u64, end.saturating_sub(start) as u64)?;
+        Ok(Reply::Array(Replies::new(listed(alloc, pairs, scores)?)))
+    }
+
+    // The members with a score within the bounds, as far as the options give them.
+    fn by_score(
+        &self,
+        alloc: Global,
+        least: Bound,
+        greatest: Bound,
+        options: &RangeOptions,
+    ) -> Result<Reply, Memory>
+        ensures { IfOk result (λ reply. reply ≡ texts (listed options.now.with_scores (limited options.now.limit (between least greatest self.now)))) }
+    {
+        let (skip, count) = window(options.limit, self.set.len());
+        let pairs = self.set.by_score(alloc, least, greatest, skip, count)?;
+        let replies = listed(alloc, pairs, options.with_scores)?;
+        Ok(Reply::Array(Replies::new(replies)))
+    }
+}
+
+// How many pairs `LIMIT` leaves out, and how many it gives at most, where there are at most `most`.
+fn window(limit: Option<(i64, i64)>, most: u64) -> (u64, u64)
+    ensures { (pairs : List Pair) → length pairs ≤ most → take result.1 (drop result.0 pairs) ≡ limited limit pairs }
+{
+    let Some((skip, count)) = limit else {
+        return (0, most);
+    };
+    if skip < 0 {
+        return (0, 0);
+    }
+    if count < 0 {
+        return (skip as u64, most);
+    }
+    (skip as u64, count as u64)
+}
+
+// The text of the score.
+fn text_of(alloc: Global, score: Score) -> Result<Word, Memory>
+    ensures { IfOk result (λ text. text ≡ score_text score) }
+{
+    let mut text = Vec::new(alloc);
+    score.write(alloc, &mut text)?;
+    Ok(Word::new(text))
+}
+
+// The members in order, as replies, each followed by its score where the scores are asked for.
+fn listed(alloc: Global, pairs: Vec<(Score, Word)>, scores: bool) -> Result<Vec<Reply>, Memory>
+    ensures { IfOk result (λ replies. map wire replies.items ≡ map bulk (listed scores pairs.items)) }
+{
+    let mut replies = Vec::new(alloc);
+    for (score, member) in pairs {
+        replies.push(Reply::Bulk(member))?;
+        if scores {
+            replies.push(Reply::Bulk(text_of(alloc, score)?))?;
+        }
+    }
+    Ok(replies)
+}
+
+// Adds each pair in turn, all of them or none.
+fn add_all(set: &mut ZSet, pairs: Vec<(Score, Word)>) -> Result<(), Memory>
+    requires { set.old.stood ≡ None }
+    ensures ok { OnOk result (set.new ≡ edited (all_added pairs.items set.old.stands) set.old) }
+    ensures err { OnErr result (set.new ≡ set.old) }
+{
+    set.begin();
+    match add_each(set, pairs) {
+        Ok(()) => {
+            set.commit();
+            Ok(())
+        }
+        Err(_) => {
+            set.undo();
+            Err(Memory)
+        }
+    }
+}
+
+// Adds each pair in turn. After want of memory some of them stand.
+fn add_each(set: &mut ZSet, pairs: Vec<(Score, Word)>) -> Result<(), Memory>
+    ensures ok { OnOk result (set.new ≡ edited (all_added pairs.items set.old.stands) set.old) }
+    ensures step { set.new.stood ≡ set.old.stood }
+{
+    for (score, member) in pairs {
+        set.add(score, member)?;
+    }
+    Ok(())
+}
+
+// Takes each member's pair out.
+fn remove_all(set: &mut ZSet, members: &Words)
+    requires { set.old.stood ≡ None }
+    ensures { set.new ≡ edited (all_without members.now set.old.stands) set.old }
+{
+    for member in members.list() {
+        set.take(member.bytes());
+    }
+}
+
+// Takes the pairs from index `first` to index `last` out, both included.
+#[tactic(auto, using(crate::proofs::Ranks::ranks_taken))]
+fn remove_range(set: &mut ZSet, first: i64, last: i64)
+    requires { set.old.stood ≡ None }
+    ensures { set.new ≡ edited (without_range first last set.old.stands) set.old }
+{
+    let count = set.len() as usize;
+    let start = first_index(first, count);
+    let end = end_index(last, count);
+    set.remove_ranks(start as u64, end.saturating_sub(start) as u64);
+}
