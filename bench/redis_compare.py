@@ -21,7 +21,7 @@ Commands that Redis does and ours refuses. They aren't tried, since the two stor
 - Deadlines behind the year 9999, which no date of four digits tells.
 - SHUTDOWN: the reply is `+OK` before the end. Redis has no reply where it succeeds.
 
-With sorted sets (--sorted):
+Sorted sets:
 - A score is a number of millionths, exact; Redis keeps a double, so that 1.1 comes back as 1.1000000000000001. Only scores that a double
   holds exactly are tried.
 - No score has an exponent or a plus, begins or ends with its point, or is infinite. Redis takes all of these.
@@ -90,9 +90,9 @@ BOUNDS = [b'-inf', b'+inf', b'inf', b'(1', b'(2.5', b'(-0.25'] + SCORES
 
 
 class Commands:
-    def __init__(self, seed, sorted_sets):
+    def __init__(self, seed):
         self.random = random.Random(seed)
-        self.kinds = [kind for kind in OWN_KEYS if sorted_sets or kind != 'zset']
+        self.kinds = list(OWN_KEYS)
         self.keys = [key for kind in self.kinds for key in OWN_KEYS[kind]] + [b'', b'\xff \r\n']
 
     def some(self, items):
@@ -405,7 +405,6 @@ def main():
     parser.add_argument('--seed', type=int, default=1)
     parser.add_argument('--commands', type=int, default=400, help='of an input')
     parser.add_argument('--inputs', type=int, default=50)
-    parser.add_argument('--sorted', action='store_true', help='with the commands for sorted sets')
     parser.add_argument('--program', default=None, help='the words of a command line, in place of bin/sidekiq pipe')
     parser.add_argument('--differences', action='store_true', help='print where our tables choose otherwise than Redis')
     given = parser.parse_args()
@@ -422,7 +421,7 @@ def main():
     try:
         for number in range(given.inputs):
             seed = given.seed * 1_000_003 + number
-            count, difference = compare(program, redis, Commands(seed, given.sorted).input(given.commands))
+            count, difference = compare(program, redis, Commands(seed).input(given.commands))
             total += count
             if difference:
                 print('input %d of --seed %d' % (number + 1, given.seed))

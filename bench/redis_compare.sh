@@ -3,11 +3,11 @@
 # installed it says so, and passes. Our tables choose otherwise than Redis in some places; the list, with the reasons, is at the head of
 # redis_compare.py, and `--differences` prints it. All else must be the same.
 #
-#   bench/redis_compare.sh [--seed N] [--commands N] [--inputs N] [--sorted] [--program "CMD pipe"]
+#   bench/redis_compare.sh [--seed N] [--commands N] [--inputs N] [--program "CMD pipe"]
 #   bench/redis_compare.sh --differences
 #
-# --sorted takes in the commands for sorted sets. Wanted: bash, python3 and redis-server (Debian's package redis-server). Status 1 at a
-# difference, 2 where a switch is wrong or a Redis or the program doesn't run.
+# Wanted: bash, python3 and redis-server (Debian's package redis-server). Status 1 at a difference, 2 where a switch is wrong or a Redis or the
+# program doesn't run.
 set -eu
 top=$(cd "$(dirname "$0")/.." && pwd)
 command -v python3 >/dev/null || { echo 'redis_compare: python3 is wanted' >&2; exit 2; }
