@@ -1,6 +1,6 @@
 // A list as a weight-balanced tree: each node keeps the number of its items, so that an item is found, put in and taken out by its place in
 // logarithmic time. The memory of an item can be made before it is put in, and comes back with it when it is taken out.
-ghost use Rattle.std.specs.Prelude.{◌≡◌, ◌+◌, ◌*◌, ◌^◌, ◌<◌, ◌≤◌, [], ◌∷◌, ◌++◌, true, length, slice_index_or, MatchOption, IfSome, OnOk, drop, take};
+ghost use Rattle.std.specs.Prelude.{◌≡◌, ◌+◌, ◌*◌, ◌^◌, ◌<◌, ◌≤◌, [], ◌∷◌, ◌++◌, true, length, slice_index_or, MatchOption, IfSome, OnOk, drop, map, take};
 ghost use Rattle.std.specs.List.{insert, position_or_len, remove};
 ghost use Rattle.sk_track.specs.Balance.{DifferBy, most};
 ghost use Rattle.sk_track.specs.Rises.{rises};
@@ -142,6 +142,33 @@ impl<T: Drop> Sequence<T> {
         }
     }
 
+    /// The place of the first item that passes, of those from the place `first` to the one before `end`, where all behind it up to `end` pass too;
+    /// `end` where none does. Logarithmic.
+    #[tactic(auto, using(crate::proofs::Ranges::range_left, crate::proofs::Ranges::range_right, crate::proofs::Searches::first_before, crate::proofs::Searches::first_behind, crate::proofs::Searches::rises_first, crate::proofs::Searches::rises_second))]
+    pub fn first_in<F: Test<T>>(&self, first: usize, end: usize, test: &F) -> usize
+        requires order { first ≤ end }
+        requires within { end ≤ length self.now }
+        requires rises { rises (F.passes test.now) (drop first (take end self.now)) ≡ true }
+        ensures is { result ≡ first + position_or_len (F.passes test.now) (drop first (take end self.now)) }
+        ensures within { result ≤ end }
+    {
+        match self.sides() {
+            None => end,
+            Some((l, x, r)) => {
+                let here = l.len();
+                if end <= here {
+                    l.first_in(first, end, test)
+                } else if here < first {
+                    here + 1 + r.first_in(first - here - 1, end - here - 1, test)
+                } else if test.test(x) {
+                    l.first_in(first, here, test)
+                } else {
+                    here + 1 + r.first_in(0, end - here - 1, test)
+                }
+            }
+        }
+    }
+
     /// The place of the first item that passes, or the length where none does. Looks at the items one after another.
     #[tactic(auto, using(crate::proofs::Descents::position_left, crate::proofs::Descents::position_right))]
     pub fn position<F: Test<T>>(&self, test: &F) -> usize
@@ -161,10 +188,41 @@ impl<T: Drop> Sequence<T> {
         }
     }
 
+    /// The place of the first item that passes, of those from the place `first` to the one before `end`; `end` where none does. Looks at these
+    /// items one after another.
+    #[tactic(auto, using(crate::proofs::Ranges::range_left, crate::proofs::Ranges::range_right, crate::proofs::Searches::found_left, crate::proofs::Searches::found_here, crate::proofs::Searches::found_right))]
+    pub fn position_in<F: Test<T>>(&self, first: usize, end: usize, test: &F) -> usize
+        requires order { first ≤ end }
+        requires within { end ≤ length self.now }
+        ensures is { result ≡ first + position_or_len (F.passes test.now) (drop first (take end self.now)) }
+        ensures within { result ≤ end }
+    {
+        match self.sides() {
+            None => end,
+            Some((l, x, r)) => {
+                let here = l.len();
+                if end <= here {
+                    l.position_in(first, end, test)
+                } else if here < first {
+                    here + 1 + r.position_in(first - here - 1, end - here - 1, test)
+                } else {
+                    let at = l.position_in(first, here, test);
+                    if at < here {
+                        at
+                    } else if test.test(x) {
+                        here
+                    } else {
+                        here + 1 + r.position_in(0, end - here - 1, test)
+                    }
+                }
+            }
+        }
+    }
+
     /// Visits the items from the place `first` to the one before `end`, one after another.
     #[tactic(auto, using(crate::proofs::Ranges::range_left, crate::proofs::Ranges::range_right, crate::proofs::Ranges::range_around))]
     pub fn walk<V: Visit<T>>(&self, first: usize, end: usize, visit: &mut V) -> Result<(), Memory>
-        ensures { OnOk result (V.visited visit.new ≡ V.visited visit.old ++ drop first (take end self.now)) }
+        ensures { OnOk result (V.visited visit.new ≡ V.visited visit.old ++ map V.kept (drop first (take end self.now))) }
     {
         match self.sides() {
             None => Ok(()),

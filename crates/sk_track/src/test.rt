@@ -13,9 +13,14 @@ pub trait Test<T> {
 
 /// What is done at each item of a walk.
 pub trait Visit<T> {
-    /// The items that were visited, the last one at the end.
-    ghost visited: { Self → List T };
+    /// What is kept of an item.
+    type Kept;
+
+    ghost kept: { T → Self.Kept };
+
+    /// What was kept of the items that were visited, of the last one at the end.
+    ghost visited: { Self → List Self.Kept };
 
     fn visit(&mut self, item: &T) -> Result<(), Memory>
-        ensures { OnOk result (visited self.new ≡ visited self.old ++ item.now ∷ []) };
+        ensures { OnOk result (visited self.new ≡ visited self.old ++ kept item.now ∷ []) };
 }

@@ -23,6 +23,10 @@ struct Seen {
 }
 
 impl Visit<(u64, u8)> for Seen {
+    type Kept = (u64, u8);
+
+    ghost kept = { λ e. e };
+
     ghost visited = { λ s. s.entries.items };
 
     fn visit(&mut self, entry: &(u64, u8)) -> Result<(), Memory> {
@@ -55,6 +59,8 @@ fn edits_are_taken_back_and_kept(rt: HostRuntime) -> Result<(), Fail> {
     assert_eq!(rt; list.len(), 3);
     assert_eq!(rt; list.position(&Is { item: b'b' }), 1);
     assert_eq!(rt; list.position(&Is { item: b'x' }), 3);
+    assert_eq!(rt; list.position_in(0, 2, &Is { item: b'c' }), 2);
+    assert_eq!(rt; list.position_in(1, 3, &Is { item: b'c' }), 2);
     assert_eq!(rt; *list.get(0), (1, b'a'));
     list.begin();
     assert!(rt; list.is_open());

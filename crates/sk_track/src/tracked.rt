@@ -1,6 +1,6 @@
 // A list whose edits in an open step can be taken back. Each edit is one of the tree and, while a step is open, one more entry of the log: undo
 // takes the log back from its end, and commit lets it go. Memory is taken by `reserve` alone, so what follows it can't fail half done.
-ghost use Rattle.std.specs.Prelude.{◌≡◌, ℕ, ◌+◌, ◌-◌, ◌<◌, ◌≤◌, true, Option, Some, None, IsSome, List, [], ◌∷◌, ◌++◌, length, vec_len, vec_capacity, drop, take, OnOk, slice_index_or};
+ghost use Rattle.std.specs.Prelude.{◌≡◌, ℕ, ◌+◌, ◌-◌, ◌<◌, ◌≤◌, true, Option, Some, None, IsSome, List, [], ◌∷◌, ◌++◌, length, vec_len, vec_capacity, drop, map, take, OnOk, slice_index_or};
 ghost use Rattle.std.specs.List.{insert, position_or_len, remove};
 ghost use Rattle.std.specs.Option.{is_some};
 ghost use Rattle.sk_track.specs.Balance.{most};
@@ -114,12 +114,35 @@ impl<K: Drop, T: Drop> Tracked<K, T> {
         self.entries.first_where(test)
     }
 
+    /// The place of the first entry that passes, of those from the place `first` to the one before `end`, where all behind it up to `end` pass too;
+    /// `end` where none does. Logarithmic.
+    pub fn first_in<F: Test<(K, T)>>(&self, first: usize, end: usize, test: &F) -> usize
+        requires order { first ≤ end }
+        requires within { end ≤ length self.now.list.stands }
+        requires rises { rises (F.passes test.now) (drop first (take end self.now.list.stands)) ≡ true }
+        ensures is { result ≡ first + position_or_len (F.passes test.now) (drop first (take end self.now.list.stands)) }
+        ensures within { result ≤ end }
+    {
+        self.entries.first_in(first, end, test)
+    }
+
     /// The place of the first entry that passes, or the length where none does. Looks at the entries one after another.
     pub fn position<F: Test<(K, T)>>(&self, test: &F) -> usize
         ensures is { result ≡ position_or_len (F.passes test.now) self.now.list.stands }
         ensures within { result ≤ length self.now.list.stands }
     {
         self.entries.position(test)
+    }
+
+    /// The place of the first entry that passes, of those from the place `first` to the one before `end`; `end` where none does. Looks at these
+    /// entries one after another.
+    pub fn position_in<F: Test<(K, T)>>(&self, first: usize, end: usize, test: &F) -> usize
+        requires order { first ≤ end }
+        requires within { end ≤ length self.now.list.stands }
+        ensures is { result ≡ first + position_or_len (F.passes test.now) (drop first (take end self.now.list.stands)) }
+        ensures within { result ≤ end }
+    {
+        self.entries.position_in(first, end, test)
     }
 
     /// Visits the entries from the place `first` to the one before `end`, one after another.
@@ -129,7 +152,7 @@ impl<K: Drop, T: Drop> Tracked<K, T> {
         end: usize,
         visit: &mut V,
     ) -> Result<(), Memory>
-        ensures { OnOk result (V.visited visit.new ≡ V.visited visit.old ++ drop first (take end self.now.list.stands)) }
+        ensures { OnOk result (V.visited visit.new ≡ V.visited visit.old ++ map V.kept (drop first (take end self.now.list.stands))) }
     {
         self.entries.walk(first, end, visit)
     }
@@ -197,6 +220,14 @@ impl<K: Drop, T: Drop> Tracked<K, T> {
     {
         let (entry, _) = self.entries.remove(at);
         entry
+    }
+
+    /// Takes all entries out. Takes no memory.
+    pub fn clear(&mut self)
+        requires { self.old.list.stood ≡ None }
+        ensures { self.new.list ≡ edited [] self.old.list }
+    {
+        self.entries = Sequence::new();
     }
 
     /// Opens a step. Takes no memory.
