@@ -1,21 +1,16 @@
 // Sorted sets (Redis, "Sorted sets"): pairs of a score and a member over `ZSet`, with no open step. A ZADD of several pairs is one step, which
 // is taken back where memory runs out; what takes pairs out takes no memory.
-ghost use Rattle.std.specs.Prelude.{◌≡◌, ◌≤◌, ◌<◌, ◌^◌, List, [], None, length, map, drop, take, IfOk, OnErr, OnOk};
-ghost use Rattle.sk_base.specs.Score.{score_text};
-ghost use Rattle.sk_resp.specs.Reply.{wire};
-ghost use Rattle.sk_resp.specs.Spelling.{bulk};
+ghost use Rattle.std.specs.Prelude.{◌≡◌, ◌<◌, ◌^◌, [], None, length, OnErr, OnOk};
 ghost use Rattle.sk_track.specs.Steps.{edited};
-ghost use Rattle.sk_zset.specs.Pair.{Pair};
-ghost use Rattle.sk_value.specs.Answer.{Gives, Leaves, texts};
-ghost use Rattle.sk_value.specs.Lists.{range_of};
-ghost use Rattle.sk_value.specs.Sorted.{all_added, all_without, between, edit_sorted, limited, listed, look_sorted, without_range};
+ghost use Rattle.sk_value.specs.Answer.{Gives, Leaves};
+ghost use Rattle.sk_value.specs.Sorted.{all_added, all_without, edit_sorted, look_sorted, without_range};
 
 use crate::items::{end_index, first_index};
+use crate::pairs::look_sorted;
 use crate::replies::counted;
 use crate::{Edit, KeysFault, Look};
-use sk_base::{Bound, Score};
-use sk_cmd::RangeOptions;
-use sk_resp::{Memory, Replies, Reply, Word, Words};
+use sk_base::Score;
+use sk_resp::{Memory, Reply, Word, Words};
 use sk_zset::ZSet;
 use std::alloc::Global;
 use std::marker::Model;
@@ -59,18 +54,7 @@ impl Sorted {
     pub fn look(&self, alloc: Global, look: &Look) -> Result<Reply, KeysFault>
         ensures { Gives (look_sorted look.now self.now) result }
     {
-        match look {
-            Look::Zcard => Ok(counted(self.len())),
-            Look::Zscore(member) => match self.set.score(member.bytes()) {
-                None => Ok(Reply::Null),
-                Some(score) => Ok(Reply::Bulk(text_of(alloc, score)?)),
-            },
-            Look::Zrange(first, last, scores) => Ok(self.range(alloc, *first, *last, *scores)?),
-            Look::Zrangebyscore(least, greatest, options) => {
-                Ok(self.by_score(alloc, *least, *greatest, options)?)
-            }
-            _ => Err(KeysFault::WrongType),
-        }
+        look_sorted(alloc, &self.set, look)
     }
 
     /// What `ZADD key score member ..`, `ZREM key member ..`, `ZREMRANGEBYRANK key first last` and `ZREMRANGEBYSCORE key min max` answer, and the
@@ -101,75 +85,6 @@ impl Sorted {
             _ => Err(KeysFault::WrongType),
         }
     }
-
-    // The members from index `first` to index `last`, both included.
-    #[tactic(auto, using(crate::proofs::Ranks::ranked))]
-    fn range(&self, alloc: Global, first: i64, last: i64, scores: bool) -> Result<Reply, Memory>
-        ensures { IfOk result (λ reply. reply ≡ texts (listed scores (range_of first last self.now))) }
-    {
-        let count = self.len();
-        let start = first_index(first, count);
-        let end = end_index(last, count);
-        let pairs = self
-            .set
-            .range(alloc, start as u64, end.saturating_sub(start) as u64)?;
-        Ok(Reply::Array(Replies::new(listed(alloc, pairs, scores)?)))
-    }
-
-    // The members with a score within the bounds, as far as the options give them.
-    fn by_score(
-        &self,
-        alloc: Global,
-        least: Bound,
-        greatest: Bound,
-        options: &RangeOptions,
-    ) -> Result<Reply, Memory>
-        ensures { IfOk result (λ reply. reply ≡ texts (listed options.now.with_scores (limited options.now.limit (between least greatest self.now)))) }
-    {
-        let (skip, count) = window(options.limit, self.set.len());
-        let pairs = self.set.by_score(alloc, least, greatest, skip, count)?;
-        let replies = listed(alloc, pairs, options.with_scores)?;
-        Ok(Reply::Array(Replies::new(replies)))
-    }
-}
-
-// How many pairs `LIMIT` leaves out, and how many it gives at most, where there are at most `most`.
-fn window(limit: Option<(i64, i64)>, most: u64) -> (u64, u64)
-    ensures { (pairs : List Pair) → length pairs ≤ most → take result.1 (drop result.0 pairs) ≡ limited limit pairs }
-{
-    let Some((skip, count)) = limit else {
-        return (0, most);
-    };
-    if skip < 0 {
-        return (0, 0);
-    }
-    if count < 0 {
-        return (skip as u64, most);
-    }
-    (skip as u64, count as u64)
-}
-
-// The text of the score.
-fn text_of(alloc: Global, score: Score) -> Result<Word, Memory>
-    ensures { IfOk result (λ text. text ≡ score_text score) }
-{
-    let mut text = Vec::new(alloc);
-    score.write(alloc, &mut text)?;
-    Ok(Word::new(text))
-}
-
-// The members in order, as replies, each followed by its score where the scores are asked for.
-fn listed(alloc: Global, pairs: Vec<(Score, Word)>, scores: bool) -> Result<Vec<Reply>, Memory>
-    ensures { IfOk result (λ replies. map wire replies.items ≡ map bulk (listed scores pairs.items)) }
-{
-    let mut replies = Vec::new(alloc);
-    for (score, member) in pairs {
-        replies.push(Reply::Bulk(member))?;
-        if scores {
-            replies.push(Reply::Bulk(text_of(alloc, score)?))?;
-        }
-    }
-    Ok(replies)
 }
 
 // Adds each pair in turn, all of them or none.

@@ -1,5 +1,5 @@
 -- A part of a part of a list.
-use Rattle.std.proofs.Common.{◌≡◌, ℕ, zero, suc, ◌+◌, ◌-◌, ◌≤◌, List, [], ◌∷◌, length, take, drop, sym, arith, ap, ap₂, ◌∙◌, min}
+use Rattle.std.proofs.Common.{◌≡◌, ℕ, zero, suc, ◌+◌, ◌-◌, ◌≤◌, List, [], ◌∷◌, length, map, take, drop, refl, sym, arith, ap, ap₂, ◌∙◌, min}
 use Rattle.std.proofs.lemmas.List.{drop-take}
 use Rattle.sk_zset.proofs.Splits.{part}
 
@@ -42,3 +42,8 @@ module _ {X : Type 0} where
   take_all [] n e = let z : n - 0 ≡ 0 = omega (arith, e) in ap (λ m. take m []) z
   take_all (x ∷ xs) zero e = absurd (omega (arith, e))
   take_all (x ∷ xs) (suc n) e = let z : suc n - 0 ≡ suc (n - 0) = omega arith in ap (λ m. take m (x ∷ xs)) z ∙ ap (λ l. x ∷ l) (take_all xs n (omega (arith, e)))
+
+  -- what is kept of each is the item itself
+  pub map_same : (xs : List X) → map (λ x. x) xs ≡ xs
+  map_same [] = refl
+  map_same (x ∷ xs) = ap (λ l. x ∷ l) (map_same xs)

@@ -15,6 +15,10 @@ struct Copies {
 }
 
 impl Visit<(Score, Word)> for Copies {
+    type Kept = (Score, Word);
+
+    ghost kept = { λ p. p };
+
     ghost visited = { λ c. c.pairs.items };
 
     fn visit(&mut self, pair: &(Score, Word)) -> Result<(), Memory> {
@@ -25,7 +29,7 @@ impl Visit<(Score, Word)> for Copies {
 }
 
 /// Copies at most `count` pairs, behind the first `skip`, of the pairs from the rank `first` to the one before `end`.
-#[tactic(auto, using(crate::proofs::Windows::window))]
+#[tactic(auto, using(crate::proofs::Windows::window, crate::proofs::Windows::map_same))]
 pub fn copy_part(
     alloc: Global,
     pairs: &Tracked<Score, Word>,
