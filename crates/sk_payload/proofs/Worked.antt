@@ -1,9 +1,11 @@
--- Heads of worked texts, by computation.
-use Rattle.std.proofs.Common.{◌≡◌, Some, None, true, false, refl, codes}
+-- Heads and failures of worked texts, by computation.
+use Rattle.std.proofs.Common.{◌≡◌, ℕ, List, [], Some, None, true, false, refl, codes}
 use Rattle.std.specs.Str.{is_utf8, chars}
-use Rattle.std.specs.Fmt.{digits}
+use Rattle.std.specs.Fmt.{digits, take_chars}
 use Rattle.serde_json.proofs.OnLiterals.{serde_json_on_literals}
 use Rattle.sk_payload.specs.Head.{head, head_of_value, head_of_object, names}
+use Rattle.sk_payload.specs.Failed.{failed}
+use Rattle.sk_payload.specs.Follows.{follows}
 use Rattle.sk_payload.specs.declared.head.Retry.TheVariants.{Default, Count}
 use Rattle.sk_payload.specs.declared.head.Until.TheVariants.{Start}
 
@@ -33,3 +35,41 @@ fraction = refl
 null_count : head (codes "{\"jid\":\"j\",\"class\":\"C\",\"queue\":\"q\",\"args\":[],\"retry\":null,\"retry_count\":null}") ≡ None
 unfolding serde_json_on_literals head head_of_value head_of_object is_utf8 chars digits
 null_count = refl
+
+-- ## Failures
+
+abbrev note : List ℕ
+note = codes "{\"args\":[1],\"class\":\"Note\",\"created_at\":1700000000000,\"jid\":\"000000000000000000000001\",\"queue\":\"default\",\"retry\":true}"
+
+abbrev once : List ℕ
+once = codes "{\"args\":[1],\"class\":\"Note\",\"created_at\":1700000000000,\"error_class\":\"Failure\",\"error_message\":\"asked to fail\",\"failed_at\":1700000010000,\"jid\":\"000000000000000000000001\",\"queue\":\"default\",\"retry\":true,\"retry_count\":0}"
+
+abbrev twice : List ℕ
+twice = codes "{\"args\":[1],\"class\":\"Note\",\"created_at\":1700000000000,\"error_class\":\"Other\",\"error_message\":\"\",\"failed_at\":1700000010000,\"jid\":\"000000000000000000000001\",\"queue\":\"default\",\"retried_at\":253370764799999,\"retry\":true,\"retry_count\":1}"
+
+first_failure : failed note 1700000010000 (codes "Failure") (codes "asked to fail") ≡ Some once
+unfolding serde_json_on_literals failed head head_of_value head_of_object is_utf8 chars digits take_chars
+first_failure = refl
+
+-- The first failure keeps its moment, and a moment past the year 9998 is its last.
+second_failure : failed once 253370764800000 (codes "Other") [] ≡ Some twice
+unfolding serde_json_on_literals failed head head_of_value head_of_object is_utf8 chars digits take_chars
+second_failure = refl
+
+-- Characters are counted, not bytes.
+last_characters : take_chars 2 (codes "äöü") ≡ codes "äö"
+unfolding take_chars
+last_characters = refl
+
+follows_once : follows note once ≡ true
+unfolding serde_json_on_literals follows head head_of_value head_of_object is_utf8 chars digits
+follows_once = refl
+
+-- not twice at once, nor itself, nor back
+follows_twice : follows note twice ≡ false
+unfolding serde_json_on_literals follows head head_of_value head_of_object is_utf8 chars digits
+follows_twice = refl
+
+follows_itself : follows once once ≡ false
+unfolding serde_json_on_literals follows head head_of_value head_of_object is_utf8 chars digits
+follows_itself = refl

@@ -2,3 +2,5 @@ pub mod Json
 pub mod Member
 pub mod Head
 pub mod Reading
+pub mod Follows
+pub mod Failed

@@ -1,5 +1,6 @@
 // What the text of a job says of it. Each field is a member of the JSON object, read as its documentation says.
-ghost use Rattle.std.specs.Prelude.{◌≡◌, IfOk};
+ghost use Rattle.std.specs.Prelude.{◌≡◌, ◌<◌, IfOk};
+ghost use Rattle.sk_payload.specs.Failed.{next_head};
 
 use crate::Memory;
 use sk_resp::Text;
@@ -75,5 +76,15 @@ impl Head {
             dead: self.dead,
             created: self.created,
         })
+    }
+
+    /// The head after one more failed run.
+    pub(crate) fn next(&self) -> Result<Head, Memory>
+        requires { self.now.gen_ < 1000000000 }
+        ensures { IfOk result (λ head. head ≡ next_head self.now) }
+    {
+        let mut head = self.copy()?;
+        head.gen_ += 1;
+        Ok(head)
     }
 }

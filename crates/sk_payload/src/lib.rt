@@ -1,7 +1,10 @@
 //! A job's text, and what the store knows of it: its head, as Sidekiq's job format says (wiki page "Job Format").
 #![tactic(auto)]
 
+mod after;
 mod bound;
+mod edit_fault;
+mod failure;
 mod head;
 mod length;
 mod member;
@@ -10,6 +13,8 @@ mod payload;
 mod read;
 mod whole;
 
+pub use after::follows;
+pub use edit_fault::EditFault;
 pub use head::{Head, Lock, Retry, Until};
 pub use payload::Payload;
 pub use std::alloc::AllocError as Memory;

@@ -1,30 +1,39 @@
 // A job's text, kept with its head.
-ghost use Rattle.std.specs.Prelude.{◌≡◌, [], IfOk, option_map};
+ghost use Rattle.std.specs.Prelude.{◌≡◌, ◌↔◌, ◌<◌, [], Some, None, Err, true, IfOk, IsSomeAnd, option_map};
+ghost use Rattle.sk_payload.specs.Failed.{failed as failed_in, next_head};
+ghost use Rattle.sk_payload.specs.Follows.{follows as texts_follow};
 ghost use Rattle.sk_payload.specs.Head.{head as head_of};
+ghost use Rattle.sk_payload.specs.declared.edit_fault.EditFault.TheVariants.{NoHead as no_head, GenLimit as gen_limit};
 
 use crate::Memory;
+use crate::edit_fault::EditFault;
+use crate::failure::set_failure;
 use crate::head::Head;
-use crate::read::read_head;
+use crate::read::{read_head, read_members};
+use serde_json::Value;
 use sk_resp::Word;
 use std::alloc::Global;
 use std::marker::Model;
 
-/// The text of a job, with its head, where it has one. Contracts see it as its text.
+/// The greatest generation.
+const LAST_GENERATION: u32 = 1_000_000_000;
+
+/// The text of a job, with its head, where it has one. Contracts see it as its text. The head is boxed, so that a payload is small to move.
 #[derive(Drop)]
 pub struct Payload {
     text: Word,
-    head: Option<Head>,
+    head: Option<Box<Head>>,
 }
 
 impl Model for Payload {
-    ghost use Rattle.std.specs.Prelude.{◌≡◌, List, ℕ};
+    ghost use Rattle.std.specs.Prelude.{◌≡◌, List, ℕ, option_map};
     ghost use Rattle.sk_payload.specs.Head.{head as head_of};
 
     ghost Value = { List ℕ };
 
     ghost view = { λ p. p.text };
 
-    ghost invariant = { λ p. p.head ≡ head_of p.text };
+    ghost invariant = { λ p. option_map (λ b. b.value) p.head ≡ head_of p.text };
 }
 
 impl Payload {
@@ -65,7 +74,7 @@ impl Payload {
     pub fn head(&self) -> Option<&Head>
         ensures { option_map (λ head. head.now) result ≡ head_of self.now }
     {
-        self.head.as_ref()
+        self.head.as_deref()
     }
 
     /// An equal payload.
@@ -74,7 +83,73 @@ impl Payload {
     {
         Ok(Payload {
             text: self.text.copy()?,
-            head: self.head.as_ref().map(Head::copy).transpose()?,
+            head: self.head.as_ref().map(copy_boxed).transpose()?,
         })
     }
+
+    /// The payload after one more failed run, at the moment `now`, of an error of this class with this message (Sidekiq's wiki, "Job Format" and
+    /// "Error Handling").
+    ///
+    /// It is the same object, written without whitespace, with `retry_count` set to the old generation, `failed_at` to `now` at the first failure and
+    /// `retried_at` at a later one, `error_class` to the first 255 characters of the class and `error_message` to the first 1,000 characters of the
+    /// message. `now` is in milliseconds since 1970, and counts as the last one of the year 9998 where it is greater.
+    pub fn failed(
+        &self,
+        alloc: Global,
+        now: u64,
+        class: &str,
+        message: &str,
+    ) -> Result<Payload, EditFault>
+        ensures text { IfOk result (λ next. failed_in self.now now class.now message.now ≡ Some next) }
+        ensures head { IfOk result (λ next. head_of next ≡ option_map next_head (head_of self.now)) }
+        ensures follows { IfOk result (λ next. texts_follow self.now next ≡ true) }
+        ensures no_head { (result ≡ Err no_head) ↔ (head_of self.now ≡ None) }
+        ensures limit { (result ≡ Err gen_limit)
+            ↔ IsSomeAnd (head_of self.now) (λ h. h.gen_ ≡ 1000000000) }
+    {
+        let Some(head) = &self.head else {
+            return Err(EditFault::NoHead);
+        };
+        if head.gen_ >= LAST_GENERATION {
+            return Err(EditFault::GenLimit);
+        }
+        let text = failed_text(alloc, self.text.bytes(), head.gen_, now, class, message)?;
+        let head = boxed(alloc, head.next()?)?;
+        Ok(Payload {
+            text,
+            head: Some(head),
+        })
+    }
+}
+
+fn boxed(alloc: Global, head: Head) -> Result<Box<Head>, Memory>
+    ensures { IfOk result (λ b. b.value ≡ head) }
+{
+    Ok(Box::new(alloc, head)?)
+}
+
+fn copy_boxed(head: &Box<Head>) -> Result<Box<Head>, Memory>
+    ensures { IfOk result (λ b. b.value ≡ head.now.value) }
+{
+    boxed(*Box::allocator(head), head.copy()?)
+}
+
+// The text after a failure of a text with a head of this generation.
+fn failed_text(
+    alloc: Global,
+    text: &[u8],
+    generation: u32,
+    now: u64,
+    class: &str,
+    message: &str,
+) -> Result<Word, Memory>
+    requires { IsSomeAnd (head_of text.now)
+        (λ h. (h.gen_ ≡ generation) × (generation < 1000000000)) }
+    ensures text { IfOk result (λ next. failed_in text.now now class.now message.now ≡ Some next) }
+    ensures head { IfOk result (λ next. head_of next ≡ option_map next_head (head_of text.now)) }
+{
+    let mut map = read_members(alloc, text)?;
+    set_failure(alloc, &mut map, generation, now, class, message)?;
+    let next = Value::Object(map).to_vec(alloc)?;
+    Ok(Word::new(next))
 }

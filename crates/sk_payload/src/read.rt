@@ -1,6 +1,8 @@
 // The head of a text: the text is parsed once, and each member is looked up in its value.
-ghost use Rattle.std.specs.Prelude.{◌≡◌, IfOk, Some, None, Err, false};
-ghost use Rattle.serde_json.specs.View.{view};
+ghost use Rattle.std.specs.Prelude.{◌≡◌, ◌≤◌, IfOk, IsSome, Some, None, Err, false, option_map};
+ghost use Rattle.serde_json.specs.Data.{depth, members_depth, object};
+ghost use Rattle.serde_json.specs.Find.{as_object};
+ghost use Rattle.serde_json.specs.View.{view, members_view};
 ghost use Rattle.serde_json.specs.Written.{has_float as value_has_float};
 ghost use Rattle.sk_payload.specs.Json.{value as value_in};
 ghost use Rattle.sk_payload.specs.Reading.{Gives};
@@ -12,13 +14,14 @@ use crate::length::is_short;
 use crate::no_head::NoHead;
 use crate::whole::has_float;
 use crate::{Memory, member};
-use serde_json::Value;
+use serde_json::{Map, Value};
 use std::alloc::Global;
 
 // The JSON value of some bytes.
 fn read_value(alloc: Global, bytes: &[u8]) -> Result<Value, NoHead>
     ensures ok { IfOk result (λ found. value_in bytes.now ≡ Some (view found)) }
     ensures wrong { result ≡ Err Wrong → value_in bytes.now ≡ None }
+    ensures nests { IfOk result (λ found. depth (view found) ≤ 127) }
 {
     match Value::from_slice(alloc, bytes) {
         Ok(value) => Ok(value),
@@ -28,6 +31,33 @@ fn read_value(alloc: Global, bytes: &[u8]) -> Result<Value, NoHead>
             Err(NoHead::Wrong)
         },
     }
+}
+
+// The members of an object.
+fn object_of(value: Value) -> Option<Map<String, Value>>
+    ensures { option_map (λ map. members_view map.entries) result ≡ as_object (view value) }
+{
+    match value {
+        Value::Object(map) => Some(map),
+        _ => None,
+    }
+}
+
+/// The members of a text that has a head.
+pub fn read_members(alloc: Global, text: &[u8]) -> Result<Map<String, Value>, Memory>
+    requires { IsSome (head text.now) }
+    ensures value { IfOk result (λ map. value_in text.now ≡ Some (object (members_view map.entries))) }
+    ensures nests { IfOk result (λ map. members_depth (members_view map.entries) ≤ 126) }
+{
+    let value = match read_value(alloc, text) {
+        Ok(value) => value,
+        Err(NoHead::Wrong) => unreachable!(),
+        Err(NoHead::Memory) => return Err(Memory),
+    };
+    let Some(map) = object_of(value) else {
+        unreachable!()
+    };
+    Ok(map)
 }
 
 // The head of a value without a float.
@@ -86,11 +116,11 @@ fn head_of(alloc: Global, text: &[u8]) -> Result<Head, NoHead>
 }
 
 /// The head of a text, where there is one.
-pub fn read_head(alloc: Global, text: &[u8]) -> Result<Option<Head>, Memory>
-    ensures { IfOk result (λ found. found ≡ head text.now) }
+pub fn read_head(alloc: Global, text: &[u8]) -> Result<Option<Box<Head>>, Memory>
+    ensures { IfOk result (λ found. option_map (λ b. b.value) found ≡ head text.now) }
 {
     match head_of(alloc, text) {
-        Ok(head) => Ok(Some(head)),
+        Ok(head) => Ok(Some(Box::new(alloc, head)?)),
         Err(NoHead::Wrong) => Ok(None),
         Err(NoHead::Memory) => Err(Memory),
     }
