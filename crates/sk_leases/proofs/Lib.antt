@@ -1,0 +1,4 @@
+pub mod Between
+pub mod Order
+pub mod Places
+pub mod Kept

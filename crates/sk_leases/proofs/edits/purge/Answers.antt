@@ -1,0 +1,27 @@
+use Rattle.std.proofs.Common.{◌∙◌, sym, refl, subst}
+use Rattle.sk_resp.specs.Spelling.{Bytes}
+use Rattle.sk_leases.specs.Index.{IsKept, TakesOver}
+use Rattle.sk_leases.proofs.Kept.{kept_more, kept_taken, standing_clear, steps_are}
+use Rattle.sk_leases.proofs.edits.purge.Goals as goal
+
+pub loop-name-smaller : goal.loop-name-smaller
+loop-name-smaller c = c.in-Some.ensures.shorter
+
+pub loop-name-preserved : goal.loop-name-preserved
+loop-name-preserved c =
+    let rest = subst (λ (name : Bytes). TakesOver name c.args.now c.loop-name.entries.list.stands c.take_over.new.entries.list.stands) c.bytes.ensures c.take_over.ensures.rest in
+    record {
+      closed = c.take_over.ensures.closed;
+      standing = rest.standing ∙ c.loop-name.invariant.standing;
+      kept = kept_taken c.in-Some.name c.args.now c.loop-name.dues c.next_due.new.dues c.loop-name.entries.list.stands c.take_over.new.entries.list.stands c.loop-name.invariant.kept rest c.in-Some.ensures.taken;
+    }
+
+pub returns-clause-list : goal.returns-clause-list
+returns-clause-list c =
+    let ps = c.loop-name.entries.list.stands in
+    let kept : IsKept c.next_due.new.dues ps = kept_more c.loop-name.dues c.next_due.new.dues ps (c.in_default.ensures.same refl) c.loop-name.invariant.kept in
+    steps_are c.loop-name.entries.list c.args.entries.now.list _ (sym (standing_clear c.args.now c.next_due.new.dues ps (c.in_default.ensures.clear refl) kept.covered) ∙ c.loop-name.invariant.standing)
+    (c.loop-name.invariant.closed ∙ sym c.requires.closed)
+
+pub returns-clause-kept : goal.returns-clause-kept
+returns-clause-kept c = kept_more c.loop-name.dues c.next_due.new.dues c.loop-name.entries.list.stands (c.in_default.ensures.same refl) c.loop-name.invariant.kept

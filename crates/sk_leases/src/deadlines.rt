@@ -1,0 +1,148 @@
+// Names with deadlines: a tracked list in order, and the index of its deadlines. Memory is taken before the first edit.
+ghost use Rattle.std.specs.Prelude.{◌≡◌, [], None, true, IfOk, IsSome, OnErr, OnOk};
+ghost use Rattle.sk_track.specs.Steps.{begun, closed, committed, edited, undone};
+ghost use Rattle.sk_leases.specs.Lists.{count_standing, names_of, put, standing, without};
+ghost use Rattle.sk_leases.specs.Order.{is_ordered};
+
+use crate::Memory;
+use crate::dues::{Dues, add_due};
+use crate::edits::{drop_named, purge, put_lease};
+use crate::find::{Entries, count_named, count_standing};
+use sk_resp::Word;
+use sk_track::Tracked;
+use std::alloc::Global;
+use std::collections::BTreeSet;
+use std::marker::Model;
+
+/// Leases by the names' bytes and then by their deadlines. Contracts see the list: what stands now, and what stood at the begin of an open step.
+#[derive(Drop)]
+pub struct Deadlines {
+    entries: Entries,
+    dues: Dues,
+}
+
+impl Model for Deadlines {
+    ghost use Rattle.std.specs.Prelude.{List};
+    ghost use Rattle.sk_track.specs.Steps.{Steps};
+    ghost use Rattle.sk_leases.specs.Lease.{Lease};
+
+    ghost Value = { Steps (List Lease) };
+
+    ghost use Rattle.sk_leases.specs.Index.{AreKept};
+
+    ghost view = { λ d. d.entries.list };
+
+    ghost invariant = { λ d. AreKept d.dues d.entries.list };
+}
+
+fn word(alloc: Global, bytes: &[u8]) -> Result<Word, Memory>
+    ensures { IfOk result (λ word. word ≡ bytes.now) }
+{
+    Ok(Word::new(Vec::from_slice(alloc, bytes)?))
+}
+
+fn standing_names(alloc: Global, entries: &Entries, now: u64) -> Result<Vec<Word>, Memory>
+    ensures { IfOk result (λ names. names.items ≡ names_of (standing now entries.now.list.stands)) }
+{
+    let mut names = Vec::new(alloc);
+    for at in 0..entries.len() {
+        let (name, deadline) = entries.get(at);
+        if now < *deadline {
+            names.push(name.copy()?)?;
+        }
+    }
+    Ok(names)
+}
+
+impl Deadlines {
+    /// Takes no memory.
+    pub fn new(alloc: Global) -> Deadlines
+        ensures { result ≡ closed [] }
+    {
+        Deadlines {
+            entries: Tracked::new(alloc),
+            dues: BTreeSet::new(alloc),
+        }
+    }
+
+    /// Takes out what is over. What stays isn't looked at. Takes no memory.
+    pub fn purge(&mut self, now: u64)
+        requires { self.old.stood ≡ None }
+        ensures { self.new ≡ edited (standing now self.old.stands) self.old }
+    {
+        purge(&mut self.entries, &mut self.dues, now);
+    }
+
+    /// Adds a lease of the name.
+    pub fn put(&mut self, alloc: Global, name: &[u8], deadline: u64) -> Result<(), Memory>
+        ensures ok { OnOk result (self.new ≡ edited (put (name.now, deadline) self.old.stands) self.old) }
+        ensures err { OnErr result (self.new ≡ self.old) }
+    {
+        let lease = word(alloc, name)?;
+        self.entries.reserve(1)?;
+        add_due(&mut self.dues, word(alloc, name)?, deadline)?;
+        put_lease(&mut self.entries, lease, deadline);
+        Ok(())
+    }
+
+    /// Makes this the only lease of the name.
+    pub fn renew(&mut self, alloc: Global, name: &[u8], deadline: u64) -> Result<(), Memory>
+        ensures ok { OnOk result (self.new ≡ edited (put (name.now, deadline) (without name.now self.old.stands)) self.old) }
+        ensures err { OnErr result (self.new ≡ self.old) }
+    {
+        let lease = word(alloc, name)?;
+        let count = count_named(&self.entries, name);
+        self.entries.reserve(count + 1)?;
+        add_due(&mut self.dues, word(alloc, name)?, deadline)?;
+        drop_named(&mut self.entries, name, &self.dues);
+        put_lease(&mut self.entries, lease, deadline);
+        Ok(())
+    }
+
+    /// Drops the leases of the name.
+    pub fn drop_all(&mut self, name: &[u8]) -> Result<(), Memory>
+        ensures ok { OnOk result (self.new ≡ edited (without name.now self.old.stands) self.old) }
+        ensures err { OnErr result (self.new ≡ self.old) }
+    {
+        let count = count_named(&self.entries, name);
+        self.entries.reserve(count)?;
+        drop_named(&mut self.entries, name, &self.dues);
+        Ok(())
+    }
+
+    /// How many leases of the name stand.
+    pub fn count(&self, name: &[u8], now: u64) -> usize
+        ensures { result ≡ count_standing name.now now self.now.stands }
+    {
+        count_standing(&self.entries, name, now)
+    }
+
+    /// The names whose leases stand, by their bytes.
+    pub fn names(&self, alloc: Global, now: u64) -> Result<Vec<Word>, Memory>
+        ensures names { IfOk result (λ names. names.items ≡ names_of (standing now self.now.stands)) }
+        ensures order { is_ordered self.now.stands ≡ true }
+    {
+        standing_names(alloc, &self.entries, now)
+    }
+
+    pub fn begin(&mut self)
+        requires { self.old.stood ≡ None }
+        ensures { self.new ≡ begun self.old }
+    {
+        self.entries.begin();
+    }
+
+    pub fn undo(&mut self)
+        requires { IsSome self.old.stood }
+        ensures { self.new ≡ undone self.old }
+    {
+        self.entries.undo();
+    }
+
+    pub fn commit(&mut self)
+        requires { IsSome self.old.stood }
+        ensures { self.new ≡ committed self.old }
+    {
+        self.entries.commit();
+    }
+}
