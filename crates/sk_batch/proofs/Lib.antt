@@ -1,0 +1,10 @@
+pub mod Making
+pub mod Marking
+pub mod Numbers
+pub mod Order
+pub mod Places
+pub mod Refusals
+pub mod Telling
+pub mod Walks
+pub mod Worked
+pub mod Wholes

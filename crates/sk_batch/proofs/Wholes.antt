@@ -1,0 +1,27 @@
+-- An edit of the two lists is an edit of the whole.
+use Rattle.std.proofs.Common.{◌≡◌, ℕ, List, Result, Ok, Err, OnOk, refl, ap, ap₂, ◌∙◌}
+use Rattle.sk_resp.specs.Spelling.{Bytes}
+use Rattle.sk_track.specs.Steps.{Steps, both, edited}
+use Rattle.sk_batch.specs.Batched.{Batched, BatchEntry, MemberEntry, is_job}
+use Rattle.sk_batch.specs.Events.{fired, marked}
+use Rattle.sk_batch.specs.Fires.{after_fires, retagged}
+use Rattle.sk_batch.specs.Open.{with_mark}
+use Rattle.sk_batch.specs.Others.{of_lists}
+use Rattle.sk_batch.specs.Told.{fires_of, mark_of}
+use Rattle.sk_batch.specs.declared.event.Event.{Event}
+use Rattle.sk_batch.specs.declared.event.Event.TheVariants as event
+
+abbrev pub whole : ℕ → Steps (List BatchEntry) → Steps (List MemberEntry) → Steps Batched
+whole most bs ms = both (λ batches members. record { most = most; batches = batches; members = members }) bs ms
+
+pub told_whole : {T E : Type 0} (r : Result T E) (e : Event) (bid jid : Bytes) (most : ℕ) (bs bs' : Steps (List BatchEntry)) (ms ms' : Steps (List MemberEntry)) (v : Steps Batched)
+    → whole most bs ms ≡ v
+    → OnOk r (bs' ≡ edited (after_fires (fires_of e bid jid (of_lists bs.stands ms.stands)) bs.stands) bs)
+    → OnOk r (ms' ≡ edited (retagged (is_job bid jid) (with_mark (mark_of e)) ms.stands) ms)
+    → OnOk r (whole most bs' ms' ≡ edited (fired (fires_of e bid jid v.stands) (marked (mark_of e) bid jid v.stands)) v)
+told_whole (Ok x) e bid jid most bs bs' ms ms' v is b m = ap₂ (whole most) b m ∙ same e ∙ ap (λ (w : Steps Batched). edited (fired (fires_of e bid jid w.stands) (marked (mark_of e) bid jid w.stands)) w) is where
+  same : (e : Event) → whole most (edited (after_fires (fires_of e bid jid (of_lists bs.stands ms.stands)) bs.stands) bs) (edited (retagged (is_job bid jid) (with_mark (mark_of e)) ms.stands) ms) ≡ (let w = whole most bs ms in edited (fired (fires_of e bid jid w.stands) (marked (mark_of e) bid jid w.stands)) w)
+  same event.Reported = refl
+  same event.Returned = refl
+  same event.Died = refl
+told_whole (Err x) e bid jid most bs bs' ms ms' v is b m = tt

@@ -1,0 +1,8 @@
+use Rattle.std.proofs.Common.{ap, ◌∙◌}
+use Rattle.sk_batch.specs.Batched.{Batched}
+use Rattle.sk_batch.specs.Stat.{stat}
+use Rattle.sk_track.specs.Steps.{Steps}
+use Rattle.sk_batch.proofs.batches.Batches.stat.Goals as goal
+
+pub returns : goal.returns
+returns c = c.stat.ensures ∙ ap (λ (v : Steps Batched). stat c.args.bid.now v.stands) c.self.view_is

@@ -1,0 +1,11 @@
+pub mod Batched
+pub mod Events
+pub mod Faults
+pub mod Fires
+pub mod Lines
+pub mod Open
+pub mod Order
+pub mod Others
+pub mod Stat
+pub mod Told
+pub mod Whole

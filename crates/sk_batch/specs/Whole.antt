@@ -1,0 +1,19 @@
+-- What the fields stand for.
+use Rattle.std.specs.Prelude.{◌≡◌, true, List}
+use Rattle.std.specs.Option.{is_some}
+use Rattle.sk_track.specs.Steps.{Steps, both}
+use Rattle.sk_batch.specs.Batched.{Batched, BatchEntry, MemberEntry}
+use Rattle.sk_batch.specs.Order.{is_ordered, was_ordered}
+use Rattle.sk_batch.specs.declared.batches.Batches.TheInside.{Inside}
+
+abbrev pub batched_in : Inside → Steps Batched
+batched_in a = both (λ batches members. record { most = a.most; batches = batches; members = members }) a.batches.list a.members.list
+
+-- the two lists are in one step, and the members stand and stood in order
+pub record IsSound (batches : Steps (List BatchEntry)) (members : Steps (List MemberEntry)) : Type 0 where
+  pub together : is_some batches.stood ≡ is_some members.stood
+  pub stands : is_ordered members.stands ≡ true
+  pub stood : was_ordered members.stood ≡ true
+
+abbrev pub is_sound : Inside → Type 0
+is_sound a = IsSound a.batches.list a.members.list

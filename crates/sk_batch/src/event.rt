@@ -1,0 +1,12 @@
+// What may come of a job, as it is told to its batch.
+
+/// What has come of a job.
+#[derive(Clone, Copy, Debug, PartialEq, Eq, Drop)]
+pub enum Event {
+    /// A run of it has ended badly.
+    Reported,
+    /// A run of it has ended well.
+    Returned,
+    /// It was buried.
+    Died,
+}

@@ -1,0 +1,22 @@
+// What is fired when something comes of a batch.
+use sk_payload::Payload;
+use sk_resp::Word;
+
+/// What comes of a batch (Sidekiq's wiki, "Batches").
+#[derive(Clone, Copy, Debug, PartialEq, Eq, Drop)]
+pub enum Kind {
+    /// Each job of the batch was reported.
+    Complete,
+    /// Each job of the batch has returned.
+    Success,
+    /// A job of the batch was buried.
+    Death,
+}
+
+/// What came of a batch, with a copy of the job that is to be pushed for it, where the batch has one.
+#[derive(Drop)]
+pub struct Firing {
+    pub bid: Word,
+    pub kind: Kind,
+    pub payload: Option<Payload>,
+}

@@ -1,0 +1,30 @@
+//! Nested batches. A batch's success comes once: at the step that leaves no open job in it and in the batches within it.
+#![tactic(auto)]
+
+mod batch;
+mod batch_fault;
+mod batch_stat;
+mod batches;
+mod callbacks;
+mod edits;
+mod event;
+mod faults;
+mod firing;
+mod line;
+mod make;
+mod member;
+mod members;
+mod stats;
+mod told;
+
+pub use batch::{Batch, Fired};
+pub use batch_fault::BatchFault;
+pub use batch_stat::BatchStat;
+pub use batches::Batches;
+pub use callbacks::Callbacks;
+pub use firing::{Firing, Kind};
+pub use member::{Mark, Marks, Member};
+pub use std::alloc::AllocError as Memory;
+
+#[cfg(test)]
+mod tests;
