@@ -1,0 +1,22 @@
+use Rattle.std.proofs.Common.{◌∙◌, ap, arith, length, sym}
+use Rattle.sk_track.specs.Steps.{edited}
+use Rattle.sk_value.specs.Sets.{is_member}
+use Rattle.sk_places.specs.declared.row.Place.TheVariants.{Set}
+use Rattle.sk_places.specs.declared.wanted.Wanted.TheVariants.{Members}
+use Rattle.sk_places.specs.Rows.{is_at}
+use Rattle.sk_places.specs.Wanted.{picks}
+use Rattle.sk_places.proofs.Gone.{filter_filter}
+use Rattle.sk_places.proofs.Sweeps.{all_firsts, at_most_all}
+use Rattle.sk_places.proofs.removals.take_members.Goals as goal
+
+pub returns-clause-count : goal.returns-clause-count
+returns-clause-count c =
+    let rows = c.args.rows.now.stands in
+    let all = at_most_all (picks (Set c.args.set) (Members c.args.members)) rows c.len-most.result (omega (arith, c.len-most.ensures.is)) in
+    c.sweep.ensures.count ∙ all ∙ sym (ap length (filter_filter (λ row. is_member row.text c.args.members.now) (is_at (Set c.args.set)) rows))
+
+pub returns-clause-rest : goal.returns-clause-rest
+returns-clause-rest c =
+    let rows = c.args.rows.now.stands in
+    let all = at_most_all (picks (Set c.args.set) (Members c.args.members)) rows c.len-most.result (omega (arith, c.len-most.ensures.is)) in
+    c.sweep.ensures.rest ∙ ap (λ l. edited l c.args.rows.now) (all_firsts (picks (Set c.args.set) (Members c.args.members)) c.sweep.result rows (sym (c.sweep.ensures.count ∙ all)))

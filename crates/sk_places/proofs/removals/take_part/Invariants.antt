@@ -1,0 +1,12 @@
+use Rattle.std.proofs.Common.{◌≡◌, ◌+◌, ◌≤◌, ◌++◌, None, drop, length, take}
+use Rattle.sk_places.proofs.removals.take_part.Given as goal
+
+abbrev pub invariant-loop-left : goal.invariant-loop-left
+invariant-loop-left l = record {
+  within : l.first + l.left ≤ length l.rows.stands;
+  closed : l.rows.stood ≡ None;
+  rest : take l.first l.rows.stands ++ drop (l.first + l.left) l.rows.stands ≡ take l.first l.initial.rows.stands ++ drop l.end l.initial.rows.stands;
+}
+
+abbrev pub decreases-loop-left : goal.decreases-loop-left
+decreases-loop-left l = l.left

@@ -1,0 +1,9 @@
+pub mod Entries
+pub mod Names
+pub mod Order
+pub mod Placed
+pub mod Rows
+pub mod Scores
+pub mod Segments
+pub mod Wanted
+pub mod Whole

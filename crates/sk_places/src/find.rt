@@ -1,0 +1,66 @@
+// Where the row at an end of a place stands, and the first of a text there.
+ghost use Rattle.std.specs.Prelude.{◌≡◌, MatchOption, None, drop, take, true};
+ghost use Rattle.std.specs.List.{count_by};
+ghost use Rattle.sk_cmd.specs.declared.argument.Side.TheVariants.{Left};
+ghost use Rattle.sk_zset.specs.Bounds.{is_below};
+ghost use Rattle.sk_places.specs.declared.row.Place.TheVariants.{Set};
+ghost use Rattle.sk_places.specs.Order.{is_ordered};
+ghost use Rattle.sk_places.specs.Rows.{row_at_end, row_of, rows_at};
+ghost use Rattle.sk_places.specs.Scores.{HasRange};
+ghost use Rattle.sk_places.specs.Segments.{IsPart, StandsAt};
+
+use crate::{Place, Rows};
+use sk_base::Bound;
+use sk_cmd::{Scored, Side};
+
+/// The index of the row at an end of a place. Logarithmic.
+pub fn find_end(rows: &Rows, place: &Place, side: Side) -> Option<usize>
+    ensures { MatchOption result (row_at_end side place.now rows.now.stands ≡ None) (λ at. StandsAt side (row_at_end side place.now rows.now.stands) at rows.now.stands) }
+{
+    let (first, end) = rows.segment(place);
+    if first == end {
+        return None;
+    }
+    match side {
+        Side::Left => Some(first),
+        Side::Right => Some(end - 1),
+    }
+}
+
+/// The index of the first row of a text at a place. Looks at this place's rows one after another.
+pub fn find_text(rows: &Rows, place: &Place, text: &[u8]) -> Option<usize>
+    ensures { MatchOption result (row_of text.now (rows_at place.now rows.now.stands) ≡ None) (λ at. StandsAt Left (row_of text.now (rows_at place.now rows.now.stands)) at rows.now.stands) }
+{
+    let (first, end) = rows.segment(place);
+    let at = rows.position_of(first, end, text);
+    if at < end { Some(at) } else { None }
+}
+
+/// The indexes of the whole list between which a place's rows stand from the index `start` there to the one before `end`.
+pub fn part_of(rows: &Rows, place: &Place, start: usize, end: usize) -> (usize, usize)
+    ensures is { drop result.0 (take result.1 rows.now.stands) ≡ drop start (take end (rows_at place.now rows.now.stands)) }
+    ensures parts { IsPart place.now start end result.0 result.1 rows.now.stands }
+    ensures order { is_ordered rows.now.stands ≡ true }
+{
+    let (first, last) = rows.segment(place);
+    let len = last - first;
+    (first + start.min(len), first + end.min(len))
+}
+
+/// How many rows of a set are below a range of scores that begins at the bound.
+pub fn count_below(rows: &Rows, set: Scored, low: Bound) -> usize
+    ensures { result ≡ count_by (λ row. is_below low row.score) (rows_at (Set set) rows.now.stands) }
+{
+    let (first, end) = rows.segment(&Place::Set(set));
+    rows.first_reached(first, end, low) - first
+}
+
+/// The indexes in a set at which a range of scores begins and has ended.
+pub fn range_of(rows: &Rows, set: Scored, low: Bound, high: Bound) -> (usize, usize)
+    ensures { HasRange low high result.0 result.1 (rows_at (Set set) rows.now.stands) }
+{
+    let (first, end) = rows.segment(&Place::Set(set));
+    let from = rows.first_reached(first, end, low) - first;
+    let to = rows.first_above(first, end, high) - first;
+    (from, to.max(from))
+}
