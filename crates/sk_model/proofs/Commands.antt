@@ -1,6 +1,6 @@
 -- The changes of each command are good.
-use Rattle.std.proofs.Common.{◌≡◌, ◌≤◌, ℕ, zero, suc, List, [], ◌∷◌, ◌++◌, refl, sym, ap, subst, ◌⊎◌, inl, inr, arith, Bool, true, false}
-use Rattle.std.specs.Prelude.{Option, Some, None, filter, cond, map}
+use Rattle.std.proofs.Common.{◌≡◌, ◌≤◌, ℕ, zero, suc, List, [], ◌∷◌, ◌++◌, refl, sym, ap, subst, ◌⊎◌, inl, inr, arith, Bool, true}
+use Rattle.std.specs.Prelude.{nat_abs, pos, Option, Some, None, filter, map}
 use Rattle.std.specs.List.{list_any, list_all, last_or}
 use Rattle.sk_resp.specs.Spelling.{Bytes}
 use Rattle.sk_cmd.specs.declared.argument.Side.{Side}
@@ -15,31 +15,26 @@ use Rattle.sk_value.specs.declared.edit.Edit.TheVariants as edit
 use Rattle.sk_value.specs.Action.{action_of}
 use Rattle.sk_model.specs.declared.key_class.KeyClass.{KeyClass}
 use Rattle.sk_model.specs.declared.key_class.KeyClass.TheVariants as class
-use Rattle.sk_model.specs.declared.row.Place.{Place}
-use Rattle.sk_model.specs.declared.row.Place.TheVariants.{Queue}
-use Rattle.sk_model.specs.declared.row.Row.{Row}
-use Rattle.sk_model.specs.Rows.{is_at, is_same, rows_at, row_at, row_at_end, first_row}
+use Rattle.sk_places.specs.declared.row.Place.{Place}
+use Rattle.sk_places.specs.declared.row.Place.TheVariants.{Queue, Set}
+use Rattle.sk_places.specs.declared.row.Row.{Row}
+use Rattle.sk_places.specs.Rows.{is_at, is_same, rows_at, row_at, row_at_end, first_row}
 use Rattle.sk_model.specs.World.{World}
-use Rattle.sk_model.specs.Change.{Add, Take, Change, Moves, Passes, Names, Unnames, Keeps, changed, perform}
+use Rattle.sk_model.specs.Change.{Add, Take, Moves, Passes, Names, Unnames, Keeps, changed, perform}
 use Rattle.sk_model.specs.Class.{class_of, queue_of}
 use Rattle.sk_model.specs.Queues.{pushes, takes, copies_of, end_taken, move_row, add_names}
 use Rattle.sk_model.specs.Deletes.{take_all, delete_as, delete_each, delete, may_go, flush}
-use Rattle.sk_model.specs.Outcome.{Outcome}
 use Rattle.sk_model.specs.Reading.{Words, Said, Refused, Sets, Asks}
 use Rattle.sk_model.specs.Run.{State, Turn, Speaks, turn}
-use Rattle.sk_model.specs.Step.{act, edits, edit_queue, edit_names, on_plain, moves, is_built, outcome}
+use Rattle.sk_model.specs.Step.{act, run, is_script_built, edits, edit_queue, edit_names, on_plain, moves, is_built, outcome}
 use Rattle.sk_model.proofs.Texts.{same_row}
-use Rattle.sk_model.proofs.Taking.{there, one_fewer, taken_at_most, first_there, rows_at-rest}
-use Rattle.sk_model.proofs.Good.{Good, good_nothing, good_append, good_add, good_carry, good_take, good_passes, good_names, good_unnames, good_keeps}
-
--- one change, and then others
-then_others : (w : World) (change : Change) (changes : List Change) → Good w (change ∷ []) → Good (changed w change) changes → Good w (change ∷ changes)
-then_others w change changes one more = good_append w (change ∷ []) changes one more
-
--- whichever of two outcomes it is
-choice : (w : World) (b : Bool) (one other : Outcome) → (b ≡ true → Good w one.changes) → (b ≡ false → Good w other.changes) → Good w (cond b one other).changes
-choice w true one other f g = f refl
-choice w false one other f g = g refl
+use Rattle.sk_model.proofs.Taking.{there, one_fewer, taken_at_most, first_there}
+use Rattle.sk_model.proofs.Going.{filter_among}
+use Rattle.sk_model.proofs.Sending.{choice, taking_good, edit_jobs_good, due_good, kill_good, revive_good}
+use Rattle.sk_model.specs.Room.{is_full}
+use Rattle.sk_cmd.specs.declared.command.ScriptCommand.{ScriptCommand}
+use Rattle.sk_cmd.specs.declared.command.ScriptCommand.TheVariants as script
+use Rattle.sk_model.proofs.Good.{Good, good_nothing, good_append, then_others, good_add, good_carry, good_take, good_passes, good_names, good_unnames, good_keeps}
 
 -- ## Queues
 
@@ -73,7 +68,7 @@ end_there Right place rows row e = one (last_there (is_at place) None rows row e
 
 move_row_good : (w : World) (out end : Side) (from to : Place) (found : Option Row) → row_at_end out from w.rows ≡ found → Good w (move_row found out to end).changes
 move_row_good w out end from to None e = good_nothing w
-move_row_good w out end from to (Some row) e = good_carry w row out to end (end_there out from w.rows row e)
+move_row_good w out end from to (Some row) e = good_carry w row out to (pos 0) end (end_there out from w.rows row e)
 
 names_good : (w : World) (names : List Bytes) → Good w (map Names names)
 names_good w [] = good_nothing w
@@ -83,7 +78,7 @@ add_names_good : (w : World) (names : List Bytes) → Good w (add_names w names)
 add_names_good w names = choice w (list_all (is_name 255) names) _ _ (λ y. names_good w names) (λ n. good_nothing w)
 
 edit_queue_good : (w : World) (queue : Bytes) (e : Edit) → Good w (edit_queue w queue e).changes
-edit_queue_good w queue (edit.Push side texts) = push_good w side (Queue queue) texts
+edit_queue_good w queue (edit.Push side texts) = choice w (is_full w texts) _ _ (λ y. good_nothing w) (λ n. push_good w side (Queue queue) texts)
 edit_queue_good w queue (edit.Lrem count text) = takes_good w _ (row_at (Queue queue) text) (end_taken count) (taken_at_most count (copies_of (row_at (Queue queue) text) w.rows))
 edit_queue_good w queue (edit.Incrby n) = good_nothing w
 edit_queue_good w queue (edit.Sadd members) = good_nothing w
@@ -112,6 +107,7 @@ edits_good : (w : World) (key : Bytes) (e : Edit) (c : KeyClass) → Good w (edi
 edits_good w key e class.Plain = good_keeps w _
 edits_good w key e class.Queue = edit_queue_good w (queue_of key) e
 edits_good w key e class.Queues = edit_names_good w e
+edits_good w key e (class.Jobs set) = edit_jobs_good w set e
 edits_good w key e class.NoQueue = good_nothing w
 edits_good w key e class.Later = good_nothing w
 
@@ -120,6 +116,7 @@ on_plain_good w a class.Plain = good_keeps w _
 on_plain_good w a class.Queue = good_nothing w
 on_plain_good w a class.NoQueue = good_nothing w
 on_plain_good w a class.Queues = good_nothing w
+on_plain_good w a (class.Jobs set) = good_nothing w
 on_plain_good w a class.Later = good_nothing w
 
 moves_good : (w : World) (source destination : Bytes) (from to : Side) (c d : KeyClass) → Good w (moves w source destination from to c d).changes
@@ -128,27 +125,25 @@ moves_good w source destination from to class.Queue class.Queue = move_row_good 
 moves_good w source destination from to class.Plain class.Queue = good_nothing w
 moves_good w source destination from to class.Plain class.NoQueue = good_nothing w
 moves_good w source destination from to class.Plain class.Queues = good_nothing w
+moves_good w source destination from to class.Plain (class.Jobs set) = good_nothing w
 moves_good w source destination from to class.Plain class.Later = good_nothing w
 moves_good w source destination from to class.Queue class.Plain = good_nothing w
 moves_good w source destination from to class.Queue class.NoQueue = good_nothing w
 moves_good w source destination from to class.Queue class.Queues = good_nothing w
+moves_good w source destination from to class.Queue (class.Jobs set) = good_nothing w
 moves_good w source destination from to class.Queue class.Later = good_nothing w
 moves_good w source destination from to class.NoQueue d = good_nothing w
 moves_good w source destination from to class.Queues d = good_nothing w
+moves_good w source destination from to (class.Jobs set) d = good_nothing w
 moves_good w source destination from to class.Later d = good_nothing w
 
 -- ## Whole keys
 
-take_all_good : (w : World) (test : Row → Bool) (rows : List Row) → filter test w.rows ≡ rows → Good w (take_all rows)
-take_all_good w test [] e = good_nothing w
-take_all_good w test (row ∷ rows) e =
-    then_others w (Moves (Take row Left)) (take_all rows) (good_take w row Left (first_there test row rows w.rows e))
-    (take_all_good (changed w (Moves (Take row Left))) test rows (rows_at-rest test row rows w.rows e))
-
 delete_as_good : (w : World) (key : Bytes) (c : KeyClass) → Good w (delete_as w key c).changes
 delete_as_good w key class.Plain = good_keeps w _
 delete_as_good w key class.Queue = let place = Queue (queue_of key) in
-    good_append w (take_all (rows_at place w.rows)) (Unnames (queue_of key) ∷ []) (take_all_good w (is_at place) (rows_at place w.rows) refl) (good_unnames _ (queue_of key))
+    good_append w (take_all (rows_at place w.rows)) (Unnames (queue_of key) ∷ []) (taking_good w (rows_at place w.rows) (filter_among (is_at place) w.rows)) (good_unnames _ (queue_of key))
+delete_as_good w key (class.Jobs set) = taking_good w (rows_at (Set set) w.rows) (filter_among (is_at (Set set)) w.rows)
 delete_as_good w key class.NoQueue = good_nothing w
 delete_as_good w key class.Queues = good_nothing w
 delete_as_good w key class.Later = good_nothing w
@@ -165,14 +160,10 @@ unnames_good : (w : World) (names : List Bytes) → Good w (map Unnames names)
 unnames_good w [] = good_nothing w
 unnames_good w (name ∷ names) = then_others w (Unnames name) (map Unnames names) (good_unnames w name) (unnames_good (changed w (Unnames name)) names)
 
-all_filtered : (rows : List Row) → filter (λ (row : Row). true) rows ≡ rows
-all_filtered [] = refl
-all_filtered (row ∷ rows) = ap (λ more. row ∷ more) (all_filtered rows)
-
 flush_good : (w : World) → Good w (flush w).changes
 flush_good w =
     good_append w (take_all w.rows ++ map Unnames w.names) (Keeps [] ∷ [])
-    (good_append w (take_all w.rows) (map Unnames w.names) (take_all_good w (λ row. true) w.rows (all_filtered w.rows)) (unnames_good _ w.names))
+    (good_append w (take_all w.rows) (map Unnames w.names) (taking_good w w.rows (λ row. omega arith)) (unnames_good _ w.names))
     (good_keeps _ [])
 
 -- ## Every command
@@ -190,10 +181,33 @@ act_good w (action.Delete keys) = delete_good w keys
 act_good w (action.Move source destination from to) = moves_good w source destination from to (class_of source) (class_of destination)
 act_good w action.Flush = flush_good w
 
+run_good : (w : World) (c : ScriptCommand) → Good w (run w c).changes
+run_good w (script.Due set limit) = due_good w set (nat_abs limit)
+run_good w (script.Revive set text) = revive_good w set text
+run_good w (script.Kill set text) = kill_good w set text
+run_good w (script.Beat ident) = good_nothing w
+run_good w (script.Join ident) = good_nothing w
+run_good w (script.Start text) = good_nothing w
+run_good w (script.Ok text) = good_nothing w
+run_good w (script.Fail text) = good_nothing w
+run_good w (script.Drop text) = good_nothing w
+run_good w (script.Bury text) = good_nothing w
+run_good w (script.Back text) = good_nothing w
+run_good w script.Rescue = good_nothing w
+run_good w (script.Upush text score) = good_nothing w
+run_good w (script.Bpush bid parent complete success death texts) = good_nothing w
+run_good w (script.Badd bid texts) = good_nothing w
+run_good w (script.Bstat bid) = good_nothing w
+run_good w (script.Lead ident) = good_nothing w
+run_good w (script.Cron ident loop slot text) = good_nothing w
+run_good w (script.Where jid) = good_nothing w
+run_good w script.Status = good_nothing w
+
 outcome_good : (w : World) (now : ℕ) (c : Command) → Good w (outcome w now c).changes
 outcome_good w now (command.Plain c) = choice w (is_built (action_of c)) _ _
     (λ y. then_others w (Passes now) _ (good_passes w now) (act_good (changed w (Passes now)) (action_of c))) (λ n. good_nothing w)
-outcome_good w now (command.Script c) = good_nothing w
+outcome_good w now (command.Script c) = choice w (is_script_built c) _ _
+    (λ y. then_others w (Passes now) _ (good_passes w now) (run_good (changed w (Passes now)) c)) (λ n. good_nothing w)
 
 turn_good : (s : State) (said : Said) → Good s.world (turn s said).changes
 turn_good s (Refused say) = good_nothing s.world

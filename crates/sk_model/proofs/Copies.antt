@@ -3,10 +3,10 @@ use Rattle.std.proofs.Common.{◌≡◌, ◌+◌, List, [], ◌∷◌, refl, ari
 use Rattle.std.specs.List.{list_any}
 use Rattle.std.specs.Str.{bytes_eq}
 use Rattle.sk_resp.specs.Spelling.{Bytes}
-use Rattle.sk_model.specs.declared.row.Row.{Row}
+use Rattle.sk_places.specs.declared.row.Row.{Row}
 use Rattle.sk_cmd.specs.declared.argument.Side.{Side}
 use Rattle.sk_cmd.specs.declared.argument.Side.TheVariants.{Left, Right}
-use Rattle.sk_model.specs.Rows.{is_same, insert_after, put_row, without_first, without_last, take_row}
+use Rattle.sk_places.specs.Rows.{is_same, insert_after, put_row, without_first, without_last, take_row}
 use Rattle.sk_model.specs.Laws.{copies_in}
 use Rattle.sk_model.proofs.Texts.{same_text}
 

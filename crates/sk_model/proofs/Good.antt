@@ -1,18 +1,19 @@
 -- What the changes of every command owe to the laws. Proved for each kind of change, and for one list of changes after another.
-use Rattle.std.proofs.Common.{◌≡◌, ℕ, ◌+◌, List, [], ◌∷◌, ◌++◌, refl, sym, ap, ◌∙◌, arith, true}
+use Rattle.std.proofs.Common.{◌≡◌, ℕ, ℤ, ◌+◌, List, [], ◌∷◌, ◌++◌, refl, sym, ap, ◌∙◌, arith, true, false}
 use Rattle.std.specs.List.{list_any}
 use Rattle.sk_resp.specs.Spelling.{Bytes}
-use Rattle.sk_model.specs.declared.row.Place.{Place}
-use Rattle.sk_model.specs.declared.row.Row.{Row}
+use Rattle.sk_places.specs.declared.row.Place.{Place}
+use Rattle.sk_places.specs.declared.row.Row.{Row}
 use Rattle.sk_cmd.specs.declared.argument.Side.{Side}
+use Rattle.sk_cmd.specs.declared.argument.Side.TheVariants.{Left}
 use Rattle.sk_value.specs.Keys.{Keys}
-use Rattle.sk_model.specs.Rows.{is_same, take_row}
+use Rattle.sk_places.specs.Rows.{is_same, take_row}
 use Rattle.sk_model.specs.World.{World}
-use Rattle.sk_model.specs.Change.{Add, Carry, Take, Change, Moves, Passes, Names, Unnames, Keeps, carried, changed, perform}
+use Rattle.sk_model.specs.Change.{Add, Carry, Take, Trim, Merge, Change, Moves, Passes, Names, Unnames, Keeps, carried, changed, perform}
 use Rattle.sk_model.specs.Laws.{copies, pushed, taken}
-use Rattle.sk_model.specs.Life.{Life, Live, stands, life_after, life_through}
+use Rattle.sk_model.specs.Life.{Life, Live, Deleted, Trimmed, stands, life_after, life_through}
 use Rattle.sk_model.proofs.Copies.{copies-put_row, copies-take_row}
-use Rattle.sk_model.proofs.Standing.{stands-add, stands-carry, stands-take}
+use Rattle.sk_model.proofs.Standing.{stands-add, stands-carry, stands-gone, stands-merge}
 
 pub record Good (w : World) (changes : List Change) : Type 0 where
   -- a job that is live afterwards stands, where it stood if it was live before
@@ -46,21 +47,39 @@ good_append w a b first then_ = record {
   counts = λ text. omega (arith, ap (copies text) (perform-append w a b), pushed-append text a b, taken-append text a b, first.counts text, then_.counts text);
 }
 
+-- one change, and then others
+pub then_others : (w : World) (change : Change) (changes : List Change) → Good w (change ∷ []) → Good (changed w change) changes → Good w (change ∷ changes)
+then_others w change changes one more = good_append w (change ∷ []) changes one more
+
 pub good_add : (w : World) (row : Row) (end : Side) → Good w (Moves (Add row end) ∷ [])
 good_add w row end = record { lives = λ jid life stood live. stands-add w row end jid life stood live; counts = λ text. omega (arith, copies-put_row text end row w.rows) }
 
 -- a row that is there may go to another place
-pub good_carry : (w : World) (row : Row) (from : Side) (to : Place) (end : Side) → list_any (is_same row) w.rows ≡ true → Good w (Moves (Carry row from to end) ∷ [])
-good_carry w row from to end there = record {
-  lives = λ jid life stood live. stands-carry w row from to end jid (stood live);
-  counts = λ text. omega (arith, copies-put_row text end (carried row to) (take_row from row w.rows), copies-take_row text from row w.rows there);
+pub good_carry : (w : World) (row : Row) (from : Side) (to : Place) (score : ℤ) (end : Side) → list_any (is_same row) w.rows ≡ true → Good w (Moves (Carry row from to score end) ∷ [])
+good_carry w row from to score end there = record {
+  lives = λ jid life stood live. stands-carry w row from to score end jid (stood live);
+  counts = λ text. omega (arith, copies-put_row text end (carried row to score) (take_row from row w.rows), copies-take_row text from row w.rows there);
 }
 
 -- a row that is there may be taken away
 pub good_take : (w : World) (row : Row) (from : Side) → list_any (is_same row) w.rows ≡ true → Good w (Moves (Take row from) ∷ [])
 good_take w row from there = record {
-  lives = λ jid life stood live. stands-take w row from jid life stood live;
+  lives = λ jid life stood live. stands-gone w row from jid life Deleted (λ e. cc e) stood live;
   counts = λ text. omega (arith, copies-take_row text from row w.rows there);
+}
+
+-- or be trimmed
+pub good_trim : (w : World) (row : Row) → list_any (is_same row) w.rows ≡ true → Good w (Moves (Trim row) ∷ [])
+good_trim w row there = record {
+  lives = λ jid life stood live. stands-gone w row Left jid life Trimmed (λ e. cc e) stood live;
+  counts = λ text. omega (arith, copies-take_row text Left row w.rows there);
+}
+
+-- or become one with another of its text
+pub good_merge : (w : World) (row other : Row) → row.text ≡ other.text → is_same row other ≡ false → list_any (is_same other) w.rows ≡ true → list_any (is_same row) w.rows ≡ true → Good w (Moves (Merge row) ∷ [])
+good_merge w row other e apart other_there there = record {
+  lives = λ jid life stood live. stands-merge w row other jid e apart other_there (stood live);
+  counts = λ text. omega (arith, copies-take_row text Left row w.rows there);
 }
 
 -- what leaves the rows alone

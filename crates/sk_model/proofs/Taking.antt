@@ -4,10 +4,10 @@ use Rattle.std.specs.Prelude.{filter, ℤ, pos, negsuc}
 use Rattle.std.specs.List.{list_any}
 use Rattle.sk_cmd.specs.declared.argument.Side.{Side}
 use Rattle.sk_cmd.specs.declared.argument.Side.TheVariants.{Left, Right}
-use Rattle.sk_model.specs.declared.row.Row.{Row}
-use Rattle.sk_model.specs.Rows.{is_same, without_first, without_last, take_row}
+use Rattle.sk_places.specs.declared.row.Row.{Row}
+use Rattle.sk_places.specs.Rows.{is_same, without_first, without_last, take_row}
 use Rattle.sk_model.specs.Queues.{copies_of, number_taken}
-use Rattle.sk_model.proofs.Texts.{same_row, same_is}
+use Rattle.sk_model.proofs.Texts.{same_row}
 
 -- ## How many of a list pass a test
 
@@ -46,7 +46,7 @@ taken_at_most (negsuc k) n = omega arith
 -- ## The rows of a place, from the left
 
 -- what stands first of those that pass a test passes it
-passes : (test : Row → Bool) (row : Row) (more rows : List Row) → filter test rows ≡ row ∷ more → test row ≡ true
+pub passes : (test : Row → Bool) (row : Row) (more rows : List Row) → filter test rows ≡ row ∷ more → test row ≡ true
 passes test row more [] e = absurd (cc e)
 passes test row more (other ∷ rows) e = grind (arith, e, passes test row more rows)
 
@@ -54,8 +54,3 @@ passes test row more (other ∷ rows) e = grind (arith, e, passes test row more 
 pub first_there : (test : Row → Bool) (row : Row) (more rows : List Row) → filter test rows ≡ row ∷ more → list_any (is_same row) rows ≡ true
 first_there test row more [] e = absurd (cc e)
 first_there test row more (other ∷ rows) e = grind (arith, e, first_there test row more rows, same_row row)
-
--- Where it is taken, those behind it are left.
-pub rows_at-rest : (test : Row → Bool) (row : Row) (more rows : List Row) → filter test rows ≡ row ∷ more → filter test (take_row Left row rows) ≡ more
-rows_at-rest test row more [] e = absurd (cc e)
-rows_at-rest test row more (other ∷ rows) e = grind (arith, e, rows_at-rest test row more rows, passes test row more rows, same_row row, same_is row other)

@@ -1,26 +1,27 @@
 -- What a command does to the world: a list of changes, one after another. Rows change by moves alone.
-use Rattle.std.specs.Prelude.{ℕ, List, [], ◌∷◌, min, max}
-use Rattle.std.specs.BTreeMap.{is_at as is_key}
-use Rattle.std.specs.BTreeSet.{insert_key}
-use Rattle.std.specs.Set.{remove_key}
+use Rattle.std.specs.Prelude.{ℕ, suc, ℤ, List, [], ◌∷◌, min, max}
 use Rattle.sk_base.specs.Score.{last_moment}
 use Rattle.sk_resp.specs.Spelling.{Bytes}
 use Rattle.sk_cmd.specs.declared.argument.Side.{Side}
-use Rattle.sk_value.specs.Order.{text_cmp}
+use Rattle.sk_cmd.specs.declared.argument.Side.TheVariants.{Left}
 use Rattle.sk_value.specs.Keys.{Keys, purged}
-use Rattle.sk_model.specs.declared.row.Place.{Place}
-use Rattle.sk_model.specs.declared.row.Place.TheVariants.{Queue}
-use Rattle.sk_model.specs.declared.row.Row.{Row}
-use Rattle.sk_model.specs.Rows.{put_row, take_row}
+use Rattle.sk_places.specs.declared.row.Place.{Place}
+use Rattle.sk_places.specs.declared.row.Row.{Row}
+use Rattle.sk_places.specs.Rows.{put_row, take_row}
+pub use Rattle.sk_places.specs.Placed.{carried, named, with_name, without_name}
 use Rattle.sk_model.specs.World.{World}
 
 pub data Move : Type 0 where
   -- a push adds a row at an end of its place
   Add : (row : Row) → (end : Side) → Move
-  -- the row goes from this end of its place to that end of another, with the same text
-  Carry : (row : Row) → (from : Side) → (to : Place) → (end : Side) → Move
+  -- The row goes from this end of its place to that end of another, or of the same, with the same text and a score of its own there.
+  Carry : (row : Row) → (from : Side) → (to : Place) → (score : ℤ) → (end : Side) → Move
   -- A client's command removes the row. Of several with its text it is the nearest to this end of the place.
   Take : (row : Row) → (from : Side) → Move
+  -- The row is dropped from the dead set, which keeps no more and no longer.
+  Trim : (row : Row) → Move
+  -- The row of a set becomes one with another row of its text, which is to stand there.
+  Merge : (row : Row) → Move
 
 pub data Change : Type 0 where
   Moves : (move : Move) → Change
@@ -33,24 +34,12 @@ pub data Change : Type 0 where
   -- the plain keys are these now
   Keeps : (keys : Keys) → Change
 
--- the row with the same text at another place
-abbrev pub carried : Row → Place → Row
-carried row to = record row { place = to }
-
-abbrev pub with_name : Bytes → List Bytes → List Bytes
-with_name queue names = insert_key text_cmp names queue
-
-abbrev pub without_name : Bytes → List Bytes → List Bytes
-without_name queue names = remove_key (is_key (text_cmp queue)) names
-
--- Whatever adds a row to a queue adds the queue's name.
-abbrev pub named : Place → List Bytes → List Bytes
-named (Queue queue) names = with_name queue names
-
 abbrev pub moved : World → Move → World
-moved w (Add row end) = record w { rows = put_row end row w.rows; names = named row.place w.names }
-moved w (Carry row from to end) = record w { rows = put_row end (carried row to) (take_row from row w.rows); names = named to w.names }
+moved w (Add row end) = record w { rows = put_row end row w.rows; names = named row.place w.names; push_count = suc w.push_count }
+moved w (Carry row from to score end) = record w { rows = put_row end (carried row to score) (take_row from row w.rows); names = named to w.names }
 moved w (Take row from) = record w { rows = take_row from row w.rows }
+moved w (Trim row) = record w { rows = take_row Left row w.rows }
+moved w (Merge row) = record w { rows = take_row Left row w.rows }
 
 -- The greatest moment counts, up to the last one that is told apart. Plain keys whose deadline it has reached are gone.
 abbrev pub moment_after : ℕ → World → ℕ

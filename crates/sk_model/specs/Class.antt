@@ -1,23 +1,33 @@
 -- What the names of keys mean to the store.
-use Rattle.std.specs.Prelude.{Bool, true, false, ◌||◌, cond, codes, drop, nat_eq}
+use Rattle.std.specs.Prelude.{Option, Some, None, Bool, true, false, ◌||◌, cond, codes, drop, nat_eq}
 use Rattle.std.specs.List.{starts_with}
 use Rattle.std.specs.Str.{bytes_eq}
+use Rattle.sk_cmd.specs.declared.argument.Scored.{Scored}
+use Rattle.sk_cmd.specs.declared.argument.Scored.TheVariants.{Schedule, Retry, Dead}
 use Rattle.sk_resp.specs.Spelling.{Bytes}
 use Rattle.sk_payload.specs.Member.{is_name}
 use Rattle.sk_model.specs.declared.key_class.KeyClass.{KeyClass}
-use Rattle.sk_model.specs.declared.key_class.KeyClass.TheVariants.{Plain, Queue, NoQueue, Queues, Later}
+use Rattle.sk_model.specs.declared.key_class.KeyClass.TheVariants.{Plain, Queue, NoQueue, Queues, Jobs, Later}
 
 -- the name behind `queue:`
 abbrev pub queue_of : Bytes → Bytes
 queue_of key = drop 6 key
 
--- one of the managed keys that aren't built yet: private lists, counters, the sets of jobs and that of the processes
+-- one of the managed keys that aren't built yet: private lists, counters and the set of the processes
 abbrev pub is_later : Bytes → Bool
-is_later key = starts_with nat_eq key (codes "sq:") || (starts_with nat_eq key (codes "stat:") || (bytes_eq key (codes "schedule") || (bytes_eq key (codes "retry") || (bytes_eq key (codes "dead") || bytes_eq key (codes "processes")))))
+is_later key = starts_with nat_eq key (codes "sq:") || (starts_with nat_eq key (codes "stat:") || bytes_eq key (codes "processes"))
+
+-- the set of jobs that a key names
+abbrev pub set_of : Bytes → Option Scored
+set_of key = cond (bytes_eq key (codes "schedule")) (Some Schedule) (cond (bytes_eq key (codes "retry")) (Some Retry) (cond (bytes_eq key (codes "dead")) (Some Dead) None))
+
+abbrev pub class_by : Option Scored → KeyClass
+class_by None = Plain
+class_by (Some set) = Jobs set
 
 unfoldable pub class_of : Bytes → KeyClass
 class_of key = cond (starts_with nat_eq key (codes "queue:")) (cond (is_name 255 (queue_of key)) Queue NoQueue)
-    (cond (bytes_eq key (codes "queues")) Queues (cond (is_later key) Later Plain))
+    (cond (bytes_eq key (codes "queues")) Queues (cond (is_later key) Later (class_by (set_of key))))
 
 -- a key of the clients' own
 abbrev pub is_plain : KeyClass → Bool
@@ -25,4 +35,5 @@ is_plain Plain = true
 is_plain Queue = false
 is_plain NoQueue = false
 is_plain Queues = false
+is_plain (Jobs set) = false
 is_plain Later = false

@@ -11,9 +11,9 @@ use Rattle.sk_value.specs.Answer.{counted}
 use Rattle.sk_value.specs.Keys.{at, without}
 use Rattle.sk_model.specs.declared.key_class.KeyClass.{KeyClass}
 use Rattle.sk_model.specs.declared.key_class.KeyClass.TheVariants as class
-use Rattle.sk_model.specs.declared.row.Place.TheVariants.{Queue}
-use Rattle.sk_model.specs.declared.row.Row.{Row}
-use Rattle.sk_model.specs.Rows.{rows_at}
+use Rattle.sk_places.specs.declared.row.Place.TheVariants.{Queue, Set}
+use Rattle.sk_places.specs.declared.row.Row.{Row}
+use Rattle.sk_places.specs.Rows.{rows_at}
 use Rattle.sk_model.specs.World.{World}
 use Rattle.sk_model.specs.Change.{Change, Moves, Take, Unnames, Keeps, perform}
 use Rattle.sk_model.specs.Class.{class_of, queue_of}
@@ -21,8 +21,7 @@ use Rattle.sk_model.specs.Outcome.{Outcome, refuses}
 
 -- the rows go one after another, from the left
 abbrev pub take_all : List Row → List Change
-take_all [] = []
-take_all (row ∷ rows) = Moves (Take row Left) ∷ take_all rows
+take_all rows = map (λ row. Moves (Take row Left)) rows
 
 -- ## DEL
 
@@ -31,12 +30,15 @@ pub record Deleted : Type 0 where
   pub count : ℕ
   pub changes : List Change
 
--- a plain key goes; of a queue the rows go, and its name
+-- a plain key goes; of a queue the rows go, and its name; of a set of jobs the rows go
 abbrev pub delete_as : World → Bytes → KeyClass → Deleted
 delete_as w key class.Plain = record { count = cond (is_some (at key w.keys)) 1 0; changes = Keeps (without key w.keys) ∷ [] }
 delete_as w key class.Queue =
     let rows : List Row = rows_at (Queue (queue_of key)) w.rows in
     record { count = cond (length rows == 0) 0 1; changes = take_all rows ++ Unnames (queue_of key) ∷ [] }
+delete_as w key (class.Jobs set) =
+    let rows : List Row = rows_at (Set set) w.rows in
+    record { count = cond (length rows == 0) 0 1; changes = take_all rows }
 delete_as w key other = record { count = 0; changes = [] }
 
 -- each key at the world that the ones before it left
@@ -52,6 +54,7 @@ may_go class.Plain = true
 may_go class.Queue = true
 may_go class.NoQueue = false
 may_go class.Queues = false
+may_go (class.Jobs set) = true
 may_go class.Later = false
 
 -- With one key that may not be deleted none is.

@@ -1,5 +1,5 @@
 -- What a key holds, plain or managed: what a command that reads it sees.
-use Rattle.std.specs.Prelude.{List, [], ◌∷◌, Option, Some, None}
+use Rattle.std.specs.Prelude.{map, List, [], ◌∷◌, Option, Some, None}
 use Rattle.sk_resp.specs.Spelling.{Bytes}
 use Rattle.sk_value.specs.declared.value.Value.{Value}
 use Rattle.sk_value.specs.declared.value.Value.TheVariants as value
@@ -7,21 +7,22 @@ use Rattle.sk_value.specs.declared.entry.Entry.{Entry}
 use Rattle.sk_value.specs.Keys.{at}
 use Rattle.sk_model.specs.declared.key_class.KeyClass.{KeyClass}
 use Rattle.sk_model.specs.declared.key_class.KeyClass.TheVariants as class
-use Rattle.sk_model.specs.declared.row.Place.TheVariants.{Queue}
-use Rattle.sk_model.specs.Rows.{texts_at}
+use Rattle.sk_places.specs.declared.row.Place.TheVariants.{Queue, Set}
+use Rattle.sk_places.specs.Rows.{pair_of, rows_at, texts_at}
 use Rattle.sk_model.specs.World.{World}
 use Rattle.sk_model.specs.Class.{class_of, queue_of}
 
--- texts as a value without a deadline; where there are none there is no key
-abbrev pub if_any : (List Bytes → Value) → List Bytes → Option Entry
+-- a list as a value without a deadline; where it is empty there is no key
+abbrev pub if_any : {A : Type 0} → (List A → Value) → List A → Option Entry
 if_any make [] = None
-if_any make (text ∷ texts) = Some (record { value = make (text ∷ texts); deadline = None })
+if_any make (x ∷ xs) = Some (record { value = make (x ∷ xs); deadline = None })
 
 abbrev pub held_as : World → Bytes → KeyClass → Option Entry
 held_as w key class.Plain = at key w.keys
 held_as w key class.Queue = if_any value.List (texts_at (Queue (queue_of key)) w.rows)
 held_as w key class.NoQueue = None
 held_as w key class.Queues = if_any value.Set w.names
+held_as w key (class.Jobs set) = if_any value.Sorted (map pair_of (rows_at (Set set) w.rows))
 held_as w key class.Later = None
 
 abbrev pub held : World → Bytes → Option Entry

@@ -3,9 +3,9 @@ use Rattle.std.specs.Prelude.{◌≡◌, ℕ, ◌+◌, List, [], ◌∷◌, cond
 use Rattle.std.specs.Str.{bytes_eq}
 use Rattle.sk_resp.specs.Spelling.{Bytes}
 use Rattle.sk_model.specs.declared.limits.Limits.{Limits}
-use Rattle.sk_model.specs.declared.row.Row.{Row}
+use Rattle.sk_places.specs.declared.row.Row.{Row}
 use Rattle.sk_model.specs.World.{World}
-use Rattle.sk_model.specs.Change.{Add, Take, Change, Moves, perform}
+use Rattle.sk_model.specs.Change.{Add, Take, Trim, Merge, Change, Moves, perform}
 use Rattle.sk_model.specs.Reading.{Words}
 use Rattle.sk_model.specs.Run.{Turn, Run, first}
 use Rattle.sk_model.specs.Life.{Life, Unborn, Kept, life_through}
@@ -29,6 +29,8 @@ Conserve = (limits : Limits) (commands : List Words) (turns : List Turn) → Run
 
 -- ## Every text stands as often as it was pushed and not taken
 
+-- Taken is a row that a client's command took away, that was trimmed from the dead set, or that became one with another row of its text.
+
 -- how many of the rows have the text
 abbrev pub copies_in : Bytes → List Row → ℕ
 copies_in text [] = 0
@@ -49,6 +51,8 @@ pushed text (change ∷ changes) = pushed_by text change + pushed text changes
 -- how many of them take it away
 abbrev pub taken_by : Bytes → Change → ℕ
 taken_by text (Moves (Take row from)) = cond (bytes_eq text row.text) 1 0
+taken_by text (Moves (Trim row)) = cond (bytes_eq text row.text) 1 0
+taken_by text (Moves (Merge row)) = cond (bytes_eq text row.text) 1 0
 taken_by text other = 0
 
 abbrev pub taken : Bytes → List Change → ℕ

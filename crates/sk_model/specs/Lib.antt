@@ -1,11 +1,13 @@
-pub mod Rows
 pub mod World
 pub mod Change
 pub mod Outcome
 pub mod Class
 pub mod Held
+pub mod Room
 pub mod Queues
 pub mod Deletes
+pub mod Sets
+pub mod Jobs
 pub mod Step
 pub mod Reading
 pub mod Run

@@ -4,7 +4,7 @@ use Rattle.std.specs.List.{list_any}
 use Rattle.sk_resp.specs.Spelling.{Bytes}
 use Rattle.sk_payload.specs.Head.{names}
 use Rattle.sk_model.specs.World.{World}
-use Rattle.sk_model.specs.Change.{Add, Carry, Take, Change, Moves, Passes, Names, Unnames, Keeps, changed}
+use Rattle.sk_model.specs.Change.{Add, Carry, Take, Trim, Merge, Change, Moves, Passes, Names, Unnames, Keeps, changed}
 
 -- some row names the job
 abbrev pub stands : World → Bytes → Bool
@@ -23,6 +23,8 @@ pub data Life : Type 0 where
   Muddled : Life
   -- A client's command removed a row of it while it was live.
   Deleted : Life
+  -- A row of it was trimmed from the dead set while it was live.
+  Trimmed : Life
 
 -- A push that isn't fresh is no life of its own.
 abbrev pub pushed_again : Life → Life
@@ -30,18 +32,23 @@ pushed_again Unborn = Unborn
 pushed_again Live = Muddled
 pushed_again Muddled = Muddled
 pushed_again Deleted = Deleted
+pushed_again Trimmed = Trimmed
 
-abbrev pub deleted : Life → Life
-deleted Unborn = Unborn
-deleted Live = Deleted
-deleted Muddled = Muddled
-deleted Deleted = Deleted
+-- what a live job comes to; another has ended, or not begun
+abbrev pub ended : Life → Life → Life
+ended end Unborn = Unborn
+ended end Live = end
+ended end Muddled = Muddled
+ended end Deleted = Deleted
+ended end Trimmed = Trimmed
 
 -- the life of the job after a change of this world
 abbrev pub life_after : World → Bytes → Life → Change → Life
 life_after w jid life (Moves (Add row end)) = cond (names row.text jid) (cond (fresh w jid) Live (pushed_again life)) life
-life_after w jid life (Moves (Take row from)) = cond (names row.text jid) (deleted life) life
-life_after w jid life (Moves (Carry row from to end)) = life
+life_after w jid life (Moves (Take row from)) = cond (names row.text jid) (ended Deleted life) life
+life_after w jid life (Moves (Trim row)) = cond (names row.text jid) (ended Trimmed life) life
+life_after w jid life (Moves (Merge row)) = life
+life_after w jid life (Moves (Carry row from to score end)) = life
 life_after w jid life (Passes now) = life
 life_after w jid life (Names queue) = life
 life_after w jid life (Unnames queue) = life

@@ -9,12 +9,13 @@ use Rattle.sk_cmd.specs.declared.argument.Side.TheVariants.{Left, Right}
 use Rattle.sk_payload.specs.Member.{is_name}
 use Rattle.sk_value.specs.Answer.{counted}
 use Rattle.sk_value.specs.Sets.{with_members}
-use Rattle.sk_model.specs.declared.row.Place.{Place}
-use Rattle.sk_model.specs.declared.row.Row.{Row}
-use Rattle.sk_model.specs.Rows.{rows_at, row_at, row_at_end, is_same}
+use Rattle.sk_places.specs.declared.row.Place.{Place}
+use Rattle.sk_places.specs.declared.row.Row.{Row}
+use Rattle.sk_places.specs.Rows.{rows_at, row_at, row_at_end, is_same}
 use Rattle.sk_model.specs.World.{World}
 use Rattle.sk_model.specs.Change.{Change, Moves, Add, Carry, Take, Names, perform}
 use Rattle.sk_model.specs.Outcome.{Outcome, says, refuses}
+use Rattle.sk_model.specs.Room.{where_room}
 
 -- ## LPUSH, RPUSH
 
@@ -30,7 +31,7 @@ length_at place w = length (rows_at place w.rows)
 abbrev pub push : World → Side → Place → List Bytes → Outcome
 push w end place texts =
     let changes : List Change = pushes end place texts in
-    record { reply = counted (length_at place (perform w changes)); changes = changes }
+    where_room w texts (record { reply = counted (length_at place (perform w changes)); changes = changes })
 
 -- ## LREM
 
@@ -62,7 +63,7 @@ remove w place count text =
 
 abbrev pub move_row : Option Row → Side → Place → Side → Outcome
 move_row None from to end = says reply.Null
-move_row (Some row) from to end = record { reply = reply.Bulk row.text; changes = Moves (Carry row from to end) ∷ [] }
+move_row (Some row) from to end = record { reply = reply.Bulk row.text; changes = Moves (Carry row from to (pos 0) end) ∷ [] }
 
 -- the row at one end of a place goes to an end of another, which may be the same
 abbrev pub move : World → Place → Place → Side → Side → Outcome

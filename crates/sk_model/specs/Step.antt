@@ -1,5 +1,5 @@
 -- One command for the store: from the world, to a reply and changes.
-use Rattle.std.specs.Prelude.{◌≡◌, ◌⊎◌, ℕ, [], ◌∷◌, List, Bool, true, false, cond, not}
+use Rattle.std.specs.Prelude.{◌≡◌, ◌⊎◌, ℕ, [], ◌∷◌, List, Bool, true, false, cond, not, ◌&&◌, nat_abs}
 use Rattle.std.specs.List.{list_all}
 use Rattle.sk_resp.specs.Spelling.{Bytes}
 use Rattle.sk_resp.specs.declared.reply.Reply.TheVariants as reply
@@ -19,13 +19,18 @@ use Rattle.sk_value.specs.Values.{look_at}
 use Rattle.sk_value.specs.Apply.{applied, Applied}
 use Rattle.sk_model.specs.declared.key_class.KeyClass.{KeyClass}
 use Rattle.sk_model.specs.declared.key_class.KeyClass.TheVariants as class
-use Rattle.sk_model.specs.declared.row.Place.TheVariants.{Queue}
+use Rattle.sk_places.specs.declared.row.Place.TheVariants.{Queue}
 use Rattle.sk_model.specs.World.{World}
 use Rattle.sk_model.specs.Change.{Passes, Keeps, changed}
 use Rattle.sk_model.specs.Class.{class_of, queue_of}
 use Rattle.sk_model.specs.Held.{held}
 use Rattle.sk_model.specs.Outcome.{Outcome, says, tells, refuses, reply_of}
 use Rattle.sk_model.specs.Queues.{push, remove, move, add_names}
+use Rattle.sk_model.specs.Sets.{edit_jobs}
+use Rattle.sk_model.specs.Jobs.{due, kill, revive}
+use Rattle.sk_cmd.specs.declared.argument.Scored.TheVariants.{Retry}
+use Rattle.sk_cmd.specs.declared.command.ScriptCommand.{ScriptCommand}
+use Rattle.sk_cmd.specs.declared.command.ScriptCommand.TheVariants as script
 use Rattle.sk_model.specs.Deletes.{delete, flush}
 
 -- ## Which commands are built
@@ -36,6 +41,11 @@ names_later class.Plain = false
 names_later class.Queue = false
 names_later class.NoQueue = false
 names_later class.Queues = false
+names_later (class.Jobs set) = false
+
+abbrev pub is_retry : KeyClass → Bool
+is_retry (class.Jobs Retry) = true
+is_retry other = false
 
 -- the keys that an action names
 abbrev pub keys_of : Action → List Bytes
@@ -51,9 +61,14 @@ keys_of (action.Delete keys) = keys
 keys_of (action.Move source destination from to) = source ∷ destination ∷ []
 keys_of action.Flush = []
 
--- A command is built unless it names a key that isn't built yet.
+-- ZADD on `retry` is a worker's.
+abbrev pub is_workers : Action → Bool
+is_workers (action.Edit key (edit.Zadd pairs)) = is_retry (class_of key)
+is_workers other = false
+
+-- A command is built unless it names a key that isn't built yet, or is a worker's.
 unfoldable pub is_built : Action → Bool
-is_built a = list_all (λ key. not (names_later (class_of key))) (keys_of a)
+is_built a = not (is_workers a) && list_all (λ key. not (names_later (class_of key))) (keys_of a)
 
 -- ## Keys of the clients' own
 
@@ -84,6 +99,7 @@ edits w key e class.Plain = on_keys w (action.Edit key e)
 edits w key e class.Queue = edit_queue w (queue_of key) e
 edits w key e class.Queues = edit_names w e
 edits w key e class.NoQueue = refuses ManagedKey
+edits w key e (class.Jobs set) = edit_jobs w set e
 edits w key e class.Later = refuses ManagedKey
 
 -- LMOVE goes between two queues, or between two plain keys.
@@ -116,10 +132,26 @@ at_moment now o = record o { changes = Passes now ∷ o.changes }
 abbrev pub plain_outcome : World → ℕ → Action → Outcome
 plain_outcome w now a = cond (is_built a) (at_moment now (act (changed w (Passes now)) a)) (tells say.NotBuilt)
 
+abbrev pub is_script_built : ScriptCommand → Bool
+is_script_built (script.Due set limit) = true
+is_script_built (script.Revive set text) = true
+is_script_built (script.Kill set text) = true
+is_script_built other = false
+
+-- what a command of the store's own comes to; one that isn't built is told so below
+abbrev pub run : World → ScriptCommand → Outcome
+run w (script.Due set limit) = due w set (nat_abs limit)
+run w (script.Revive set text) = revive w set text
+run w (script.Kill set text) = kill w set text
+run w other = tells say.NotBuilt
+
+abbrev pub script_outcome : World → ℕ → ScriptCommand → Outcome
+script_outcome w now c = cond (is_script_built c) (at_moment now (run (changed w (Passes now)) c)) (tells say.NotBuilt)
+
 -- What the store makes of a command that it is handed at a moment. A form that isn't built leaves the world as it is.
 abbrev pub outcome : World → ℕ → Command → Outcome
 outcome w now (command.Plain c) = plain_outcome w now (action_of c)
-outcome w now (command.Script c) = tells say.NotBuilt
+outcome w now (command.Script c) = script_outcome w now c
 
 -- there is no memory for it: time goes on, and nothing else changes
 abbrev pub starves : ℕ → Outcome

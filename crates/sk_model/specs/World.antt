@@ -3,7 +3,7 @@ use Rattle.std.specs.Prelude.{ℕ, List, []}
 use Rattle.sk_resp.specs.Spelling.{Bytes}
 use Rattle.sk_value.specs.Keys.{Keys}
 use Rattle.sk_model.specs.declared.limits.Limits.{Limits}
-use Rattle.sk_model.specs.declared.row.Row.{Row}
+use Rattle.sk_places.specs.declared.row.Row.{Row}
 
 pub record World : Type 0 where
   -- what the store was made with
@@ -14,9 +14,11 @@ pub record World : Type 0 where
   pub rows : List Row
   -- the names in `queues`, in the order of their bytes
   pub names : List Bytes
+  -- how many rows were ever pushed
+  pub push_count : ℕ
   -- the plain keys, in the order of their names' bytes
   pub keys : Keys
 
 -- the world before the first command
 abbrev pub first : Limits → World
-first limits = record { limits = limits; moment = 0; rows = []; names = []; keys = [] }
+first limits = record { limits = limits; moment = 0; rows = []; names = []; push_count = 0; keys = [] }

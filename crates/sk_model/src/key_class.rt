@@ -1,4 +1,5 @@
 // What the name of a key means to the store.
+use sk_cmd::Scored;
 
 /// What the name of a key means to the store.
 #[derive(Clone, Copy, Debug, PartialEq, Eq)]
@@ -11,6 +12,8 @@ pub enum KeyClass {
     NoQueue,
     /// `queues`: the set of the queues' names.
     Queues,
+    /// `schedule`, `retry`, `dead`: a set of jobs with scores.
+    Jobs(Scored),
     /// Another of the keys that the store manages. These aren't built yet.
     Later,
 }

@@ -4,13 +4,14 @@ ghost use Rattle.sk_model.specs.Laws.{Conserve, CopiesKept};
 ghost use Rattle.sk_model.specs.Reading.{IsSaid, Said, Words};
 
 /// After every command of every run each live job stands: some row names it. A job is live where it was freshly pushed, no row naming it
-/// then, and since then neither deleted by a client nor pushed again under its own id. Moves keep it, wherever memory runs out.
+/// then, and since then neither deleted by a client, nor trimmed from the dead set, nor pushed again under its own id. Moves keep it, wherever
+/// memory runs out.
 pub fn live_jobs_stand()
     ensures { Conserve }
 {}
 
-/// After every command of every run, each text stands in exactly as many rows as were pushed with it and not taken away by a client's command,
-/// wherever memory ran out.
+/// After every command of every run, each text stands in exactly as many rows as were pushed with it and neither taken away by a client's
+/// command, nor trimmed from the dead set, nor made one with another row of the same text in a set, wherever memory ran out.
 pub fn nothing_is_lost()
     ensures { CopiesKept }
 {}

@@ -4,9 +4,7 @@
 mod key_class;
 mod laws;
 mod limits;
-mod row;
 
 pub use key_class::KeyClass;
 pub use laws::{live_jobs_stand, nothing_is_lost, words_have_one_reading};
 pub use limits::Limits;
-pub use row::{Place, Row};

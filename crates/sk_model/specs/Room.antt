@@ -1,0 +1,28 @@
+-- How much the store takes.
+use Rattle.std.specs.Prelude.{ℕ, ◌+◌, ◌^◌, List, length, map, Bool, ◌||◌, cond}
+use Rattle.std.specs.Prelude.{nat_lt}
+use Rattle.std.specs.List.{sum}
+use Rattle.sk_resp.specs.Spelling.{Bytes}
+use Rattle.sk_resp.specs.declared.refusal.Refusal.TheVariants.{Full}
+use Rattle.sk_model.specs.World.{World}
+use Rattle.sk_model.specs.Outcome.{Outcome, refuses}
+
+-- the bytes of texts together
+abbrev pub bytes_of : List Bytes → ℕ
+bytes_of texts = sum (map length texts)
+
+abbrev pub texts_in : World → List Bytes
+texts_in w = map (λ row. row.text) w.rows
+
+-- no store takes more pushes than these, from its first moment on
+abbrev pub most_pushes : ℕ
+most_pushes = 2 ^ 62
+
+-- With these texts, all counted as new, there would be too much.
+abbrev pub is_full : World → List Bytes → Bool
+is_full w texts = nat_lt w.limits.rows (length w.rows + length texts)
+    || (nat_lt w.limits.bytes (bytes_of (texts_in w) + bytes_of texts) || nat_lt most_pushes (w.push_count + length texts))
+
+-- what a push of these texts comes to
+abbrev pub where_room : World → List Bytes → Outcome → Outcome
+where_room w texts o = cond (is_full w texts) (refuses Full) o
