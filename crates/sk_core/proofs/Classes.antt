@@ -1,11 +1,13 @@
 -- Commands on keys of each class.
-use Rattle.std.proofs.Common.{◌≡◌, ◌+◌, ℕ, List, [], ◌∷◌, refl, sym, ap, subst, ◌∙◌, arith, Bool, true, false, length}
+use Rattle.std.proofs.Common.{◌≡◌, ◌+◌, ℕ, List, [], ◌∷◌, refl, sym, ap, subst, ◌∙◌, arith, Bool, true, false, length, map}
 use Rattle.std.specs.Prelude.{Option, Result, Ok, Err, IfOk, nat_lt, cond}
 use Rattle.std.specs.Option.{is_some}
 use Rattle.sk_resp.specs.Spelling.{Bytes}
 use Rattle.sk_resp.specs.declared.reply.Reply.{Reply}
 use Rattle.sk_resp.specs.declared.say.Say.TheVariants as say
 use Rattle.sk_cmd.specs.declared.argument.Side.{Side}
+use Rattle.sk_cmd.specs.declared.argument.Scored.{Scored}
+use Rattle.sk_cmd.specs.declared.command.ScriptCommand.{ScriptCommand}
 use Rattle.sk_value.specs.declared.value.Value.{Value}
 use Rattle.sk_value.specs.declared.value.Value.TheVariants as value
 use Rattle.sk_value.specs.declared.action.Action.{Action}
@@ -17,40 +19,45 @@ use Rattle.sk_value.specs.declared.entry.Entry.{Entry}
 use Rattle.sk_value.specs.Keys.{Keys, how_many}
 use Rattle.sk_value.specs.Values.{look_at}
 use Rattle.sk_model.specs.declared.key_class.KeyClass.TheVariants as class
-use Rattle.sk_model.specs.declared.row.Place.TheVariants.{Queue}
+use Rattle.sk_places.specs.declared.row.Place.TheVariants.{Queue, Set}
+use Rattle.sk_places.specs.Rows.{pair_of, rows_at, texts_at}
+use Rattle.sk_places.specs.Placed.{Placed}
+use Rattle.sk_model.specs.declared.limits.Limits.{Limits}
 use Rattle.sk_model.specs.World.{World}
 use Rattle.sk_model.specs.Class.{class_of, queue_of}
 use Rattle.sk_model.specs.Held.{if_any, held, held_as}
 use Rattle.sk_model.specs.Change.{Passes, passed, changed}
 use Rattle.sk_model.specs.Outcome.{Comes, reply_of, tells}
 use Rattle.sk_model.specs.Queues.{move}
-use Rattle.sk_model.specs.Step.{act, at_moment, is_built, plain_outcome, on_keys, edit_queue, edit_names, edits, moves}
-use Rattle.sk_core.specs.Queues.{Queues, texts_of, with_queues, world_at}
-use Rattle.sk_core.proofs.Puts.{Sorted}
-use Rattle.sk_core.proofs.Worlds.{texts_are}
+use Rattle.sk_model.specs.Sets.{edit_jobs}
+use Rattle.sk_model.specs.Step.{act, run, script_outcome, is_script_built, at_moment, is_built, plain_outcome, on_keys, edit_queue, edit_names, edits, moves}
+use Rattle.sk_core.specs.Whole.{with_places, with_pushed, world_at, world_pushed}
 use Rattle.sk_core.proofs.Deleting.{one_if}
 
 -- what follows for a result that is there
-if_ok : {A E : Type 0} (P Q : A → Type 0) (r : Result A E) → ((x : A) → P x → Q x) → IfOk r P → IfOk r Q
+pub if_ok : {A E : Type 0} (P Q : A → Type 0) (r : Result A E) → ((x : A) → P x → Q x) → IfOk r P → IfOk r Q
 if_ok P Q (Ok x) f p = f x p
 if_ok P Q (Err e) f p = tt
 
 -- ## Reading
 
-pub held_queue : (w : World) (moment : ℕ) (key queue : Bytes) (queues : Queues) (keys : Keys) → Sorted queues → class_of key ≡ class.Queue → queue ≡ queue_of key → held (world_at w moment queues keys) key ≡ if_any value.List (texts_of queue queues)
-held_queue w moment key queue queues keys s is e =
-    ap (held_as (world_at w moment queues keys) key) is ∙ ap (if_any value.List) (texts_are (queue_of key) queues s ∙ ap (λ q. texts_of q queues) (sym e))
+pub held_queue : (w : World) (moment : ℕ) (key queue : Bytes) (p : Placed) (keys : Keys) → class_of key ≡ class.Queue → queue ≡ queue_of key → held (world_at w moment p keys) key ≡ if_any value.List (texts_at (Queue queue) p.rows)
+held_queue w moment key queue p keys is e = ap (held_as (world_at w moment p keys) key) is ∙ ap (λ q. if_any value.List (texts_at (Queue q) p.rows)) (sym e)
 
-pub there_if_any : (make : List Bytes → Value) (texts : List Bytes) → is_some (if_any make texts) ≡ nat_lt 0 (length texts)
-there_if_any make [] = grind arith
-there_if_any make (text ∷ texts) = grind arith
+pub held_jobs : (w : World) (moment : ℕ) (key : Bytes) (set : Scored) (p : Placed) (keys : Keys) → class_of key ≡ class.Jobs set → held (world_at w moment p keys) key ≡ if_any value.Sorted (map pair_of (rows_at (Set set) p.rows))
+held_jobs w moment key set p keys is = ap (held_as (world_at w moment p keys) key) is
 
-pub look_queue : (moment : ℕ) (look : Look) (key queue : Bytes) (queues : Queues) (keys : Keys) (E : Type 0) (answer : Answer) (r : Result Reply E) → Sorted queues → class_of key ≡ class.Queue → queue ≡ queue_of key
-    → Gives (look_at moment look (if_any value.List (texts_of queue queues))) answer → IfOk r (λ reply. (due : Answer) → Gives due answer → reply ≡ reply_of due)
-    → IfOk r (λ reply. (w : World) → reply ≡ reply_of (look_at moment look (held (world_at w moment queues keys) key)))
-look_queue moment look key queue queues keys E answer r s is e gives replies =
-    if_ok (λ reply. (due : Answer) → Gives due answer → reply ≡ reply_of due) (λ reply. (w : World) → reply ≡ reply_of (look_at moment look (held (world_at w moment queues keys) key))) r
-    (λ reply f. λ w. f _ gives ∙ ap (λ o. reply_of (look_at moment look o)) (sym (held_queue w moment key queue queues keys s is e))) replies
+pub there_if_any : {A B : Type 0} (make : List B → Value) (f : A → B) (xs : List A) → is_some (if_any make (map f xs)) ≡ nat_lt 0 (length xs)
+there_if_any make f [] = grind arith
+there_if_any make f (x ∷ xs) = grind arith
+
+-- what is read of a key that holds this
+pub look_held : (moment : ℕ) (look : Look) (key : Bytes) (p : Placed) (keys : Keys) (holds : Option Entry) (E : Type 0) (answer : Answer) (r : Result Reply E) → ((w : World) → held (world_at w moment p keys) key ≡ holds)
+    → Gives (look_at moment look holds) answer → IfOk r (λ reply. (due : Answer) → Gives due answer → reply ≡ reply_of due)
+    → IfOk r (λ reply. (w : World) → reply ≡ reply_of (look_at moment look (held (world_at w moment p keys) key)))
+look_held moment look key p keys holds E answer r is gives replies =
+    if_ok (λ reply. (due : Answer) → Gives due answer → reply ≡ reply_of due) (λ reply. (w : World) → reply ≡ reply_of (look_at moment look (held (world_at w moment p keys) key))) r
+    (λ reply f. λ w. f _ gives ∙ ap (λ o. reply_of (look_at moment look o)) (sym (is w))) replies
 
 -- one word more to count
 pub one_more : (holds : Bytes → Option Entry) (name : Bytes) (names : List Bytes) → how_many holds (name ∷ names) ≡ one_if (is_some (holds name)) + how_many holds names
@@ -65,60 +72,80 @@ no_more holds (name ∷ names) e = absurd (omega (arith, e))
 
 -- ## Editing
 
-pub plain_edit : (moment : ℕ) (key : Bytes) (e : Edit) (queues : Queues) (keys new : Keys) (E : Type 0) (r : Result Reply E) → class_of key ≡ class.Plain
-    → IfOk r (λ reply. (w : World) (queues : Queues) → Comes (world_at w moment queues keys) (on_keys (world_at w moment queues keys) (action.Edit key e)) reply (world_at w moment queues new))
-    → IfOk r (λ reply. (w : World) → Comes (world_at w moment queues keys) (edits (world_at w moment queues keys) key e (class_of key)) reply (world_at w moment queues new))
-plain_edit moment key e queues keys new E r is ok =
-    subst (λ c. IfOk r (λ reply. (w : World) → Comes (world_at w moment queues keys) (edits (world_at w moment queues keys) key e c) reply (world_at w moment queues new))) (sym is)
-    (if_ok (λ reply. (w : World) (queues : Queues) → Comes (world_at w moment queues keys) (on_keys (world_at w moment queues keys) (action.Edit key e)) reply (world_at w moment queues new))
-    (λ reply. (w : World) → Comes (world_at w moment queues keys) (on_keys (world_at w moment queues keys) (action.Edit key e)) reply (world_at w moment queues new)) r (λ reply f. λ w. f w queues) ok)
-
 -- a world with other things than its rows and names
 aside : World → ℕ → Keys → World
 aside w moment keys = record w { moment = moment; keys = keys }
 
-pub queue_edit : (moment : ℕ) (key queue : Bytes) (e : Edit) (queues new : Queues) (keys : Keys) (E : Type 0) (r : Result Reply E) → class_of key ≡ class.Queue → queue ≡ queue_of key
-    → IfOk r (λ reply. (w : World) → Comes (with_queues w queues) (edit_queue (with_queues w queues) queue e) reply (with_queues w new))
-    → IfOk r (λ reply. (w : World) → Comes (world_at w moment queues keys) (edits (world_at w moment queues keys) key e (class_of key)) reply (world_at w moment new keys))
-unfolding aside
-queue_edit moment key queue e queues new keys E r is q ok =
-    subst (λ c. IfOk r (λ reply. (w : World) → Comes (world_at w moment queues keys) (edits (world_at w moment queues keys) key e c) reply (world_at w moment new keys))) (sym is)
-    (if_ok (λ reply. (w : World) → Comes (with_queues w queues) (edit_queue (with_queues w queues) queue e) reply (with_queues w new))
-    (λ reply. (w : World) → Comes (world_at w moment queues keys) (edit_queue (world_at w moment queues keys) (queue_of key) e) reply (world_at w moment new keys)) r
-    (λ reply f. λ w. subst (λ q. Comes (world_at w moment queues keys) (edit_queue (world_at w moment queues keys) q e) reply (world_at w moment new keys)) q (f (aside w moment keys))) ok)
+-- the same, and with the limits and the number of pushes
+aside_pushed : World → Limits → ℕ → ℕ → Keys → World
+aside_pushed w limits moment count keys = record w { limits = limits; moment = moment; push_count = count; keys = keys }
 
-pub names_edit : (moment : ℕ) (key : Bytes) (e : Edit) (queues new : Queues) (keys : Keys) (E : Type 0) (r : Result Reply E) → class_of key ≡ class.Queues
-    → IfOk r (λ reply. (w : World) → Comes (with_queues w queues) (edit_names (with_queues w queues) e) reply (with_queues w new))
-    → IfOk r (λ reply. (w : World) → Comes (world_at w moment queues keys) (edits (world_at w moment queues keys) key e (class_of key)) reply (world_at w moment new keys))
+-- a world with these limits, after so many pushes
+abbrev pub counted_aside : World → Limits → ℕ → World
+counted_aside w limits count = record w { limits = limits; push_count = count }
+
+pub plain_edit : (limits : Limits) (moment count : ℕ) (key : Bytes) (e : Edit) (p : Placed) (keys new : Keys) (E : Type 0) (r : Result Reply E) → class_of key ≡ class.Plain
+    → IfOk r (λ reply. (w : World) (p : Placed) → Comes (world_at w moment p keys) (on_keys (world_at w moment p keys) (action.Edit key e)) reply (world_at w moment p new))
+    → IfOk r (λ reply. (w : World) → Comes (world_pushed w limits moment count p keys) (edits (world_pushed w limits moment count p keys) key e (class_of key)) reply (world_pushed w limits moment count p new))
+unfolding aside_pushed
+plain_edit limits moment count key e p keys new E r is ok =
+    subst (λ c. IfOk r (λ reply. (w : World) → Comes (world_pushed w limits moment count p keys) (edits (world_pushed w limits moment count p keys) key e c) reply (world_pushed w limits moment count p new))) (sym is)
+    (if_ok (λ reply. (w : World) (p : Placed) → Comes (world_at w moment p keys) (on_keys (world_at w moment p keys) (action.Edit key e)) reply (world_at w moment p new))
+    (λ reply. (w : World) → Comes (world_pushed w limits moment count p keys) (on_keys (world_pushed w limits moment count p keys) (action.Edit key e)) reply (world_pushed w limits moment count p new)) r
+    (λ reply f. λ w. f (aside_pushed w limits moment count keys) p) ok)
+
+pub queue_edit : (limits : Limits) (moment count more : ℕ) (key queue : Bytes) (e : Edit) (p new : Placed) (keys : Keys) (E : Type 0) (r : Result Reply E) → class_of key ≡ class.Queue → queue ≡ queue_of key
+    → IfOk r (λ reply. (w : World) → Comes (with_pushed w limits count p) (edit_queue (with_pushed w limits count p) queue e) reply (with_pushed w limits more new))
+    → IfOk r (λ reply. (w : World) → Comes (world_pushed w limits moment count p keys) (edits (world_pushed w limits moment count p keys) key e (class_of key)) reply (world_pushed w limits moment more new keys))
 unfolding aside
-names_edit moment key e queues new keys E r is ok =
-    subst (λ c. IfOk r (λ reply. (w : World) → Comes (world_at w moment queues keys) (edits (world_at w moment queues keys) key e c) reply (world_at w moment new keys))) (sym is)
-    (if_ok (λ reply. (w : World) → Comes (with_queues w queues) (edit_names (with_queues w queues) e) reply (with_queues w new))
-    (λ reply. (w : World) → Comes (world_at w moment queues keys) (edit_names (world_at w moment queues keys) e) reply (world_at w moment new keys)) r
+queue_edit limits moment count more key queue e p new keys E r is q ok =
+    subst (λ c. IfOk r (λ reply. (w : World) → Comes (world_pushed w limits moment count p keys) (edits (world_pushed w limits moment count p keys) key e c) reply (world_pushed w limits moment more new keys))) (sym is)
+    (if_ok (λ reply. (w : World) → Comes (with_pushed w limits count p) (edit_queue (with_pushed w limits count p) queue e) reply (with_pushed w limits more new))
+    (λ reply. (w : World) → Comes (world_pushed w limits moment count p keys) (edit_queue (world_pushed w limits moment count p keys) (queue_of key) e) reply (world_pushed w limits moment more new keys)) r
+    (λ reply f. λ w. subst (λ q. Comes (world_pushed w limits moment count p keys) (edit_queue (world_pushed w limits moment count p keys) q e) reply (world_pushed w limits moment more new keys)) q (f (aside w moment keys))) ok)
+
+pub jobs_edit : (limits : Limits) (moment count more : ℕ) (key : Bytes) (set : Scored) (e : Edit) (p new : Placed) (keys : Keys) (E : Type 0) (r : Result Reply E) → class_of key ≡ class.Jobs set
+    → IfOk r (λ reply. (w : World) → Comes (with_pushed w limits count p) (edit_jobs (with_pushed w limits count p) set e) reply (with_pushed w limits more new))
+    → IfOk r (λ reply. (w : World) → Comes (world_pushed w limits moment count p keys) (edits (world_pushed w limits moment count p keys) key e (class_of key)) reply (world_pushed w limits moment more new keys))
+unfolding aside
+jobs_edit limits moment count more key set e p new keys E r is ok =
+    subst (λ c. IfOk r (λ reply. (w : World) → Comes (world_pushed w limits moment count p keys) (edits (world_pushed w limits moment count p keys) key e c) reply (world_pushed w limits moment more new keys))) (sym is)
+    (if_ok (λ reply. (w : World) → Comes (with_pushed w limits count p) (edit_jobs (with_pushed w limits count p) set e) reply (with_pushed w limits more new))
+    (λ reply. (w : World) → Comes (world_pushed w limits moment count p keys) (edit_jobs (world_pushed w limits moment count p keys) set e) reply (world_pushed w limits moment more new keys)) r
     (λ reply f. λ w. f (aside w moment keys)) ok)
+
+pub names_edit : (limits : Limits) (moment count : ℕ) (key : Bytes) (e : Edit) (p new : Placed) (keys : Keys) (E : Type 0) (r : Result Reply E) → class_of key ≡ class.Queues
+    → IfOk r (λ reply. (w : World) → Comes (with_places w p) (edit_names (with_places w p) e) reply (with_places w new))
+    → IfOk r (λ reply. (w : World) → Comes (world_pushed w limits moment count p keys) (edits (world_pushed w limits moment count p keys) key e (class_of key)) reply (world_pushed w limits moment count new keys))
+unfolding aside_pushed
+names_edit limits moment count key e p new keys E r is ok =
+    subst (λ c. IfOk r (λ reply. (w : World) → Comes (world_pushed w limits moment count p keys) (edits (world_pushed w limits moment count p keys) key e c) reply (world_pushed w limits moment count new keys))) (sym is)
+    (if_ok (λ reply. (w : World) → Comes (with_places w p) (edit_names (with_places w p) e) reply (with_places w new))
+    (λ reply. (w : World) → Comes (world_pushed w limits moment count p keys) (edit_names (world_pushed w limits moment count p keys) e) reply (world_pushed w limits moment count new keys)) r
+    (λ reply f. λ w. f (aside_pushed w limits moment count keys)) ok)
 
 -- ## LMOVE
 
-pub plain_move : (moment : ℕ) (source destination : Bytes) (from to : Side) (queues : Queues) (keys new : Keys) (E : Type 0) (r : Result Reply E) → class_of source ≡ class.Plain → class_of destination ≡ class.Plain
-    → IfOk r (λ reply. (w : World) (queues : Queues) → Comes (world_at w moment queues keys) (on_keys (world_at w moment queues keys) (action.Move source destination from to)) reply (world_at w moment queues new))
-    → IfOk r (λ reply. (w : World) → Comes (world_at w moment queues keys) (moves (world_at w moment queues keys) source destination from to (class_of source) (class_of destination)) reply (world_at w moment queues new))
-plain_move moment source destination from to queues keys new E r is also ok =
-    subst (λ d. IfOk r (λ reply. (w : World) → Comes (world_at w moment queues keys) (moves (world_at w moment queues keys) source destination from to (class_of source) d) reply (world_at w moment queues new))) (sym also)
-    (subst (λ c. IfOk r (λ reply. (w : World) → Comes (world_at w moment queues keys) (moves (world_at w moment queues keys) source destination from to c class.Plain) reply (world_at w moment queues new))) (sym is)
-    (if_ok (λ reply. (w : World) (queues : Queues) → Comes (world_at w moment queues keys) (on_keys (world_at w moment queues keys) (action.Move source destination from to)) reply (world_at w moment queues new))
-    (λ reply. (w : World) → Comes (world_at w moment queues keys) (on_keys (world_at w moment queues keys) (action.Move source destination from to)) reply (world_at w moment queues new)) r (λ reply f. λ w. f w queues) ok))
+pub plain_move : (moment : ℕ) (source destination : Bytes) (from to : Side) (p : Placed) (keys new : Keys) (E : Type 0) (r : Result Reply E) → class_of source ≡ class.Plain → class_of destination ≡ class.Plain
+    → IfOk r (λ reply. (w : World) (p : Placed) → Comes (world_at w moment p keys) (on_keys (world_at w moment p keys) (action.Move source destination from to)) reply (world_at w moment p new))
+    → IfOk r (λ reply. (w : World) → Comes (world_at w moment p keys) (moves (world_at w moment p keys) source destination from to (class_of source) (class_of destination)) reply (world_at w moment p new))
+plain_move moment source destination from to p keys new E r is also ok =
+    subst (λ d. IfOk r (λ reply. (w : World) → Comes (world_at w moment p keys) (moves (world_at w moment p keys) source destination from to (class_of source) d) reply (world_at w moment p new))) (sym also)
+    (subst (λ c. IfOk r (λ reply. (w : World) → Comes (world_at w moment p keys) (moves (world_at w moment p keys) source destination from to c class.Plain) reply (world_at w moment p new))) (sym is)
+    (if_ok (λ reply. (w : World) (p : Placed) → Comes (world_at w moment p keys) (on_keys (world_at w moment p keys) (action.Move source destination from to)) reply (world_at w moment p new))
+    (λ reply. (w : World) → Comes (world_at w moment p keys) (on_keys (world_at w moment p keys) (action.Move source destination from to)) reply (world_at w moment p new)) r (λ reply f. λ w. f w p) ok))
 
-pub queue_move : (moment : ℕ) (source destination a b : Bytes) (from to : Side) (queues new : Queues) (keys : Keys) (E : Type 0) (r : Result Reply E) → class_of source ≡ class.Queue → class_of destination ≡ class.Queue → a ≡ queue_of source → b ≡ queue_of destination
-    → IfOk r (λ reply. (w : World) → Comes (with_queues w queues) (move (with_queues w queues) (Queue a) (Queue b) from to) reply (with_queues w new))
-    → IfOk r (λ reply. (w : World) → Comes (world_at w moment queues keys) (moves (world_at w moment queues keys) source destination from to (class_of source) (class_of destination)) reply (world_at w moment new keys))
+pub queue_move : (moment : ℕ) (source destination a b : Bytes) (from to : Side) (p new : Placed) (keys : Keys) (E : Type 0) (r : Result Reply E) → class_of source ≡ class.Queue → class_of destination ≡ class.Queue → a ≡ queue_of source → b ≡ queue_of destination
+    → IfOk r (λ reply. (w : World) → Comes (with_places w p) (move (with_places w p) (Queue a) (Queue b) from to) reply (with_places w new))
+    → IfOk r (λ reply. (w : World) → Comes (world_at w moment p keys) (moves (world_at w moment p keys) source destination from to (class_of source) (class_of destination)) reply (world_at w moment new keys))
 unfolding aside
-queue_move moment source destination a b from to queues new keys E r is also p q ok =
-    subst (λ d. IfOk r (λ reply. (w : World) → Comes (world_at w moment queues keys) (moves (world_at w moment queues keys) source destination from to (class_of source) d) reply (world_at w moment new keys))) (sym also)
-    (subst (λ c. IfOk r (λ reply. (w : World) → Comes (world_at w moment queues keys) (moves (world_at w moment queues keys) source destination from to c class.Queue) reply (world_at w moment new keys))) (sym is)
-    (if_ok (λ reply. (w : World) → Comes (with_queues w queues) (move (with_queues w queues) (Queue a) (Queue b) from to) reply (with_queues w new))
-    (λ reply. (w : World) → Comes (world_at w moment queues keys) (move (world_at w moment queues keys) (Queue (queue_of source)) (Queue (queue_of destination)) from to) reply (world_at w moment new keys)) r
-    (λ reply f. λ w. subst (λ q. Comes (world_at w moment queues keys) (move (world_at w moment queues keys) (Queue (queue_of source)) (Queue q) from to) reply (world_at w moment new keys)) q
-    (subst (λ p. Comes (world_at w moment queues keys) (move (world_at w moment queues keys) (Queue p) (Queue b) from to) reply (world_at w moment new keys)) p (f (aside w moment keys)))) ok))
+queue_move moment source destination a b from to p new keys E r is also e f ok =
+    subst (λ d. IfOk r (λ reply. (w : World) → Comes (world_at w moment p keys) (moves (world_at w moment p keys) source destination from to (class_of source) d) reply (world_at w moment new keys))) (sym also)
+    (subst (λ c. IfOk r (λ reply. (w : World) → Comes (world_at w moment p keys) (moves (world_at w moment p keys) source destination from to c class.Queue) reply (world_at w moment new keys))) (sym is)
+    (if_ok (λ reply. (w : World) → Comes (with_places w p) (move (with_places w p) (Queue a) (Queue b) from to) reply (with_places w new))
+    (λ reply. (w : World) → Comes (world_at w moment p keys) (move (world_at w moment p keys) (Queue (queue_of source)) (Queue (queue_of destination)) from to) reply (world_at w moment new keys)) r
+    (λ reply g. λ w. subst (λ q. Comes (world_at w moment p keys) (move (world_at w moment p keys) (Queue (queue_of source)) (Queue q) from to) reply (world_at w moment new keys)) f
+    (subst (λ s. Comes (world_at w moment p keys) (move (world_at w moment p keys) (Queue s) (Queue b) from to) reply (world_at w moment new keys)) e (g (aside w moment keys)))) ok))
 
 -- ## Every action
 
@@ -138,6 +165,16 @@ exists_comes v s a names reply e f g = from_same v s v a (action.Exists names) r
 
 pub not_built : (w : World) (now : ℕ) (a : Action) → is_built a ≡ false → tells say.NotBuilt ≡ plain_outcome w now a
 not_built w now a e = ap (λ b. cond b (at_moment now (act (changed w (Passes now)) a)) (tells say.NotBuilt)) (sym e)
+
+pub not_built_script : (w : World) (now : ℕ) (c : ScriptCommand) → is_script_built c ≡ false → tells say.NotBuilt ≡ script_outcome w now c
+not_built_script w now c e = ap (λ b. cond b (at_moment now (run (changed w (Passes now)) c)) (tells say.NotBuilt)) (sym e)
+
+pub script_comes : (w mid new : World) (now : ℕ) (c : ScriptCommand) (reply : Reply) → is_script_built c ≡ true → mid ≡ passed now w → Comes mid (run mid c) reply new → Comes w (script_outcome w now c) reply new
+script_comes w mid new now c reply e f comes =
+    subst (λ b. Comes w (cond b (at_moment now (run (changed w (Passes now)) c)) (tells say.NotBuilt)) reply new) (sym e)
+    (at_passed (subst (λ m. Comes m (run m c) reply new) f comes)) where
+      at_passed : Comes (passed now w) (run (passed now w) c) reply new → Comes w (at_moment now (run (changed w (Passes now)) c)) reply new
+      at_passed k = record { reply_is = k.reply_is; new_is = k.new_is }
 
 pub built_comes : (w mid new : World) (now : ℕ) (a : Action) (reply : Reply) → is_built a ≡ true → mid ≡ passed now w → Comes mid (act mid a) reply new → Comes w (plain_outcome w now a) reply new
 built_comes w mid new now a reply e f comes =

@@ -1,44 +1,82 @@
 -- Keys that are deleted.
-use Rattle.std.proofs.Common.{◌≡◌, ◌+◌, ◌==◌, ℕ, List, [], ◌∷◌, refl, sym, ap, ◌∙◌, Bool, true, false, length}
-use Rattle.std.specs.Prelude.{cond, not}
+use Rattle.std.proofs.Common.{◌≡◌, ◌+◌, ◌==◌, ℕ, List, [], ◌∷◌, ◌++◌, refl, sym, ap, ◌∙◌, arith, Bool, map, length}
+use Rattle.std.specs.Prelude.{cond, nat_lt}
+use Rattle.std.proofs.lemmas.Cmp.{nat_list_cmp_total, tied_itself}
 use Rattle.sk_resp.specs.Spelling.{Bytes}
 use Rattle.sk_resp.specs.declared.reply.Reply.TheVariants as reply
 use Rattle.sk_resp.specs.declared.say.Say.TheVariants as say
+use Rattle.sk_cmd.specs.declared.argument.Side.TheVariants.{Left}
+use Rattle.sk_cmd.specs.declared.argument.Scored.{Scored}
 use Rattle.sk_value.specs.Keys.{Keys}
+use Rattle.sk_places.specs.declared.row.Place.TheVariants.{Queue, Set}
+use Rattle.sk_places.specs.declared.row.Row.{Row}
+use Rattle.sk_places.specs.Rows.{rows_at, take_row}
+use Rattle.sk_places.specs.Placed.{Placed, without_name, without_row, without_rows}
 use Rattle.sk_model.specs.declared.key_class.KeyClass.TheVariants as class
 use Rattle.sk_model.specs.World.{World}
-use Rattle.sk_model.specs.Change.{perform}
+use Rattle.sk_model.specs.Change.{Keeps, Moves, Take, Unnames, changed, perform}
 use Rattle.sk_model.specs.Class.{class_of, queue_of}
-use Rattle.sk_model.specs.Deletes.{delete_as, delete_each, flush}
+use Rattle.sk_model.specs.Deletes.{delete_as, delete_each, flush, take_all}
 use Rattle.sk_model.specs.Outcome.{Comes}
 use Rattle.sk_model.proofs.Good.{perform-append}
-use Rattle.sk_core.specs.Queues.{Queues, texts_of, without, world_at}
-use Rattle.sk_core.proofs.Puts.{Sorted}
-use Rattle.sk_core.proofs.Worlds.{rows_are, length_own, deleted_world, flushed_world}
+use Rattle.sk_model.proofs.Texts.{same_row}
+use Rattle.sk_core.specs.Edits.{without_queue}
+use Rattle.sk_core.specs.Whole.{with_places, world_at}
 
 abbrev pub one_if : Bool → ℕ
 one_if b = cond b 1 0
 
-abbrev no_if : Bool → ℕ
-no_if b = cond b 0 1
+-- ## Rows
+
+pub taken_world : (w : World) (rows : List Row) (p : Placed) → perform (with_places w p) (take_all rows) ≡ with_places w (without_rows rows p)
+taken_world w [] p = refl
+taken_world w (row ∷ rows) p = taken_world w rows (without_row Left row p)
+
+-- the names have no part in it
+pub apart : (rows : List Row) (names : List Bytes) (p : Placed) → without_rows rows (record p { names = names }) ≡ record (without_rows rows p) { names = names }
+apart [] names p = refl
+apart (row ∷ rows) names p = apart rows names (without_row Left row p)
+
+names_stay : (rows : List Row) (p : Placed) → (without_rows rows p).names ≡ p.names
+names_stay [] p = refl
+names_stay (row ∷ rows) p = names_stay rows (without_row Left row p)
 
 -- ## One queue
 
-pub queue_count : (w : World) (moment : ℕ) (key : Bytes) (queues : Queues) (keys : Keys) (was : Bool) → Sorted queues → class_of key ≡ class.Queue → was ≡ not (length (texts_of (queue_of key) queues) == 0)
-    → one_if was ≡ (delete_as (world_at w moment queues keys) key (class_of key)).count
-queue_count w moment key queues keys was s is e =
-    ap one_if e ∙ turned (length (texts_of (queue_of key) queues) == 0)
-    ∙ ap (λ n. no_if (n == 0)) (sym (length_own (queue_of key) (texts_of (queue_of key) queues)) ∙ ap length (sym (rows_are (queue_of key) queues s)))
-    ∙ ap (λ c. (delete_as (world_at w moment queues keys) key c).count) (sym is) where
-      turned : (b : Bool) → one_if (not b) ≡ no_if b
-      turned true = refl
-      turned false = refl
+queue_gone : (w : World) (queue : Bytes) (p : Placed) → perform (with_places w p) (take_all (rows_at (Queue queue) p.rows) ++ Unnames queue ∷ []) ≡ with_places w (without_queue queue p)
+queue_gone w queue p =
+    let rows = rows_at (Queue queue) p.rows in
+    perform-append (with_places w p) (take_all rows) (Unnames queue ∷ [])
+    ∙ ap (λ v. changed v (Unnames queue)) (taken_world w rows p)
+    ∙ ap (λ names. with_places w (record (without_rows rows p) { names = without_name queue names })) (names_stay rows p)
 
-pub queue_world : (w : World) (moment : ℕ) (key : Bytes) (queues new : Queues) (keys : Keys) → Sorted queues → class_of key ≡ class.Queue → new ≡ without (queue_of key) queues
-    → world_at w moment new keys ≡ perform (world_at w moment queues keys) (delete_as (world_at w moment queues keys) key (class_of key)).changes
-queue_world w moment key queues new keys s is e =
-    let v = world_at w moment queues keys in
-    ap (λ q. world_at w moment q keys) e ∙ sym (deleted_world v (queue_of key) queues s) ∙ ap (λ c. perform v (delete_as v key c).changes) (sym is)
+some_or_none : (n : ℕ) → one_if (nat_lt 0 n) ≡ cond (n == 0) 0 1
+some_or_none n = grind arith
+
+pub queue_count : (w : World) (moment : ℕ) (key queue : Bytes) (p : Placed) (keys : Keys) (was : Bool) → class_of key ≡ class.Queue → queue ≡ queue_of key → was ≡ nat_lt 0 (length (rows_at (Queue queue) p.rows))
+    → one_if was ≡ (delete_as (world_at w moment p keys) key (class_of key)).count
+queue_count w moment key queue p keys was is same e = ap one_if e ∙ some_or_none (length (rows_at (Queue queue) p.rows)) ∙ ap (λ q. cond (length (rows_at (Queue q) p.rows) == 0) 0 1) same ∙ ap (λ c. (delete_as (world_at w moment p keys) key c).count) (sym is)
+
+aside : World → ℕ → Keys → World
+aside w moment keys = record w { moment = moment; keys = keys }
+
+pub queue_world : (w : World) (moment : ℕ) (key queue : Bytes) (p new : Placed) (keys : Keys) → class_of key ≡ class.Queue → queue ≡ queue_of key → new ≡ without_queue queue p
+    → world_at w moment new keys ≡ perform (world_at w moment p keys) (delete_as (world_at w moment p keys) key (class_of key)).changes
+unfolding aside
+queue_world w moment key queue p new keys is same e =
+    ap (λ q. world_at w moment q keys) (e ∙ ap (λ q. without_queue q p) same) ∙ sym (queue_gone (aside w moment keys) (queue_of key) p) ∙ ap (λ c. perform (world_at w moment p keys) (delete_as (world_at w moment p keys) key c).changes) (sym is)
+
+-- ## A set of jobs
+
+pub jobs_count : (w : World) (moment : ℕ) (key : Bytes) (set : Scored) (p : Placed) (keys : Keys) (was : Bool) → class_of key ≡ class.Jobs set → was ≡ nat_lt 0 (length (rows_at (Set set) p.rows))
+    → one_if was ≡ (delete_as (world_at w moment p keys) key (class_of key)).count
+jobs_count w moment key set p keys was is e = ap one_if e ∙ some_or_none (length (rows_at (Set set) p.rows)) ∙ ap (λ c. (delete_as (world_at w moment p keys) key c).count) (sym is)
+
+pub jobs_world : (w : World) (moment : ℕ) (key : Bytes) (set : Scored) (p new : Placed) (keys : Keys) → class_of key ≡ class.Jobs set → new ≡ without_rows (rows_at (Set set) p.rows) p
+    → world_at w moment new keys ≡ perform (world_at w moment p keys) (delete_as (world_at w moment p keys) key (class_of key)).changes
+unfolding aside
+jobs_world w moment key set p new keys is e =
+    ap (λ q. world_at w moment q keys) e ∙ sym (taken_world (aside w moment keys) (rows_at (Set set) p.rows) p) ∙ ap (λ c. perform (world_at w moment p keys) (delete_as (world_at w moment p keys) key c).changes) (sym is)
 
 -- ## One key after another
 
@@ -53,8 +91,32 @@ each_world v after key keys f =
 
 -- ## All
 
-pub flush_comes : (w : World) (moment : ℕ) (queues new : Queues) (keys left : Keys) → new ≡ [] → left ≡ [] → Comes (world_at w moment queues keys) (flush (world_at w moment queues keys)) (reply.Say say.Ok) (world_at w moment new left)
-flush_comes w moment queues new keys left e f = record {
+no_rows : World → World
+no_rows w = record w { rows = [] }
+
+no_names : World → World
+no_names w = record w { names = [] }
+
+all_taken : (w : World) (rows : List Row) → w.rows ≡ rows → perform w (take_all rows) ≡ no_rows w
+unfolding no_rows
+all_taken w [] e = ap (λ r. record w { rows = r }) e
+all_taken w (row ∷ rows) e = all_taken (changed w (Moves (Take row Left))) rows (ap (take_row Left row) e ∙ grind (arith, same_row row))
+
+all_unnamed : (w : World) (names : List Bytes) → w.names ≡ names → perform w (map Unnames names) ≡ no_names w
+unfolding no_names
+all_unnamed w [] e = ap (λ n. record w { names = n }) e
+all_unnamed w (name ∷ names) e = all_unnamed (changed w (Unnames name)) names (ap (without_name name) e ∙ grind (arith, tied_itself nat_list_cmp_total name))
+
+-- all rows, names and plain keys go
+flushed : (w : World) → perform w (take_all w.rows ++ map Unnames w.names ++ Keeps [] ∷ []) ≡ record w { rows = []; names = []; keys = [] }
+unfolding no_rows no_names
+flushed w =
+    perform-append w (take_all w.rows ++ map Unnames w.names) (Keeps [] ∷ [])
+    ∙ ap (λ v. changed v (Keeps []))
+    (perform-append w (take_all w.rows) (map Unnames w.names) ∙ ap (λ v. perform v (map Unnames w.names)) (all_taken w w.rows refl) ∙ all_unnamed (no_rows w) w.names refl)
+
+pub flush_comes : (w : World) (moment : ℕ) (p new : Placed) (keys left : Keys) → new ≡ record { rows = []; names = [] } → left ≡ [] → Comes (world_at w moment p keys) (flush (world_at w moment p keys)) (reply.Say say.Ok) (world_at w moment new left)
+flush_comes w moment p new keys left e f = record {
   reply_is = refl;
-  new_is = ap (λ q. world_at w moment q left) e ∙ ap (world_at w moment []) f ∙ sym (flushed_world (world_at w moment queues keys));
+  new_is = ap (λ q. world_at w moment q left) e ∙ ap (world_at w moment (record { rows = []; names = [] })) f ∙ sym (flushed (world_at w moment p keys));
 }

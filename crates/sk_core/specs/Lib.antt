@@ -1,2 +1,3 @@
-pub mod Queues
+pub mod Edits
+pub mod Sending
 pub mod Whole

@@ -1,48 +1,84 @@
 // The commands that edit what one key holds, on a plain key, a queue or the set of the queues' names.
-ghost use Rattle.std.specs.Prelude.{◌≡◌, IfOk, OnErr};
-ghost use Rattle.std.specs.BTreeMap.{IsOrdered};
+ghost use Rattle.std.specs.Prelude.{◌≡◌, ◌≤◌, None, IfOk, OnErr};
 ghost use Rattle.sk_model.specs.Class.{class_of};
 ghost use Rattle.sk_model.specs.Outcome.{Comes};
+ghost use Rattle.sk_model.specs.Room.{most_pushes};
+ghost use Rattle.sk_model.specs.Sets.{edit_jobs};
 ghost use Rattle.sk_model.specs.Step.{edit_names, edit_queue, edits};
 ghost use Rattle.sk_model.specs.World.{World};
-ghost use Rattle.sk_value.specs.Order.{text_cmp};
-ghost use Rattle.sk_core.specs.Queues.{with_queues, world_at};
+ghost use Rattle.sk_core.specs.Whole.{with_places, with_pushed, world_pushed};
 
 use crate::key_class::{class_of, queue_of};
 use crate::names::add_names;
 use crate::plain::{do_on_keys, managed_key};
 use crate::pushes::push;
-use crate::queues::Queues;
 use crate::removals::remove;
+use crate::sets::{add_to, remove_members, remove_range, remove_scores};
+use sk_cmd::Scored;
 use sk_keys::Keys;
-use sk_model::KeyClass;
+use sk_model::{KeyClass, Limits};
+use sk_places::Places;
 use sk_resp::{Memory, Reply, Word};
 use sk_value::{Action, Edit};
 use std::alloc::Global;
 
 // An edit of a queue: LPUSH, RPUSH and LREM are allowed.
-fn edit_queue(alloc: Global, queues: &mut Queues, queue: Word, edit: Edit) -> Result<Reply, Memory>
-    requires { IsOrdered text_cmp queues.old }
-    ensures ok { IfOk result (λ reply. (w : World) → Comes (with_queues w queues.old.entries) (edit_queue (with_queues w queues.old.entries) queue edit) reply (with_queues w queues.new.entries)) }
-    ensures ordered { IsOrdered text_cmp queues.new }
-    ensures err { OnErr result (queues.new.entries ≡ queues.old.entries) }
+fn edit_queue(
+    alloc: Global,
+    limits: &Limits,
+    places: &mut Places,
+    push_count: &mut u64,
+    queue: Word,
+    edit: Edit,
+) -> Result<Reply, Memory>
+    requires closed { places.old.stood ≡ None }
+    requires few { push_count.old ≤ most_pushes }
+    ensures ok { IfOk result (λ reply. (w : World) → Comes (with_pushed w limits.now push_count.old places.old.stands) (edit_queue (with_pushed w limits.now push_count.old places.old.stands) queue edit) reply (with_pushed w limits.now push_count.new places.new.stands)) }
+    ensures closed { places.new.stood ≡ None }
+    ensures few { push_count.new ≤ most_pushes }
+    ensures err { OnErr result ((places.new ≡ places.old) × (push_count.new ≡ push_count.old)) }
 {
     match edit {
-        Edit::Push(side, texts) => push(alloc, queues, queue, side, texts),
-        Edit::Lrem(count, text) => Ok(remove(queues, &queue, count, &text)),
+        Edit::Push(end, texts) => push(alloc, limits, places, push_count, queue, end, texts),
+        Edit::Lrem(count, text) => Ok(remove(places, queue, count, &text)),
         _ => Ok(managed_key()),
     }
 }
 
 // An edit of the set of the queues' names: SADD of names is allowed.
-fn edit_names(alloc: Global, queues: &mut Queues, edit: Edit) -> Result<Reply, Memory>
-    requires { IsOrdered text_cmp queues.old }
-    ensures ok { IfOk result (λ reply. (w : World) → Comes (with_queues w queues.old.entries) (edit_names (with_queues w queues.old.entries) edit) reply (with_queues w queues.new.entries)) }
-    ensures ordered { IsOrdered text_cmp queues.new }
-    ensures err { OnErr result (queues.new.entries ≡ queues.old.entries) }
+fn edit_names(places: &mut Places, edit: Edit) -> Result<Reply, Memory>
+    requires closed { places.old.stood ≡ None }
+    ensures ok { IfOk result (λ reply. (w : World) → Comes (with_places w places.old.stands) (edit_names (with_places w places.old.stands) edit) reply (with_places w places.new.stands)) }
+    ensures closed { places.new.stood ≡ None }
+    ensures err { OnErr result (places.new ≡ places.old) }
 {
     match edit {
-        Edit::Sadd(names) => add_names(alloc, queues, names),
+        Edit::Sadd(names) => add_names(places, names),
+        _ => Ok(managed_key()),
+    }
+}
+
+// An edit of a set of jobs: ZADD on `schedule` is allowed, and what takes jobs out.
+fn edit_jobs(
+    alloc: Global,
+    limits: &Limits,
+    places: &mut Places,
+    push_count: &mut u64,
+    set: Scored,
+    edit: Edit,
+) -> Result<Reply, Memory>
+    requires closed { places.old.stood ≡ None }
+    requires few { push_count.old ≤ most_pushes }
+    ensures ok { IfOk result (λ reply. (w : World) → Comes (with_pushed w limits.now push_count.old places.old.stands) (edit_jobs (with_pushed w limits.now push_count.old places.old.stands) set edit) reply (with_pushed w limits.now push_count.new places.new.stands)) }
+    ensures closed { places.new.stood ≡ None }
+    ensures few { push_count.new ≤ most_pushes }
+    ensures err { OnErr result ((places.new ≡ places.old) × (push_count.new ≡ push_count.old)) }
+{
+    match edit {
+        Edit::Zadd(scores) => add_to(alloc, limits, places, push_count, set, scores),
+        Edit::Zrem(members) => Ok(remove_members(places, set, &members)),
+        Edit::Zremrangebyrank(first, last) => Ok(remove_range(places, set, first, last)),
+        Edit::Zremrangebyscore(least, greatest) => Ok(remove_scores(places, set, least, greatest)),
         _ => Ok(managed_key()),
     }
 }
@@ -50,21 +86,26 @@ fn edit_names(alloc: Global, queues: &mut Queues, edit: Edit) -> Result<Reply, M
 /// Edits what a key holds.
 pub fn edit(
     alloc: Global,
+    limits: &Limits,
     moment: u64,
-    queues: &mut Queues,
+    places: &mut Places,
+    push_count: &mut u64,
     keys: &mut Keys,
     key: Word,
     edit: Edit,
 ) -> Result<Reply, Memory>
-    requires { IsOrdered text_cmp queues.old }
-    ensures ok { IfOk result (λ reply. (w : World) → Comes (world_at w moment queues.old.entries keys.old) (edits (world_at w moment queues.old.entries keys.old) key edit (class_of key)) reply (world_at w moment queues.new.entries keys.new)) }
-    ensures ordered { IsOrdered text_cmp queues.new }
-    ensures err { OnErr result ((queues.new.entries ≡ queues.old.entries) × (keys.new ≡ keys.old)) }
+    requires closed { places.old.stood ≡ None }
+    requires few { push_count.old ≤ most_pushes }
+    ensures ok { IfOk result (λ reply. (w : World) → Comes (world_pushed w limits.now moment push_count.old places.old.stands keys.old) (edits (world_pushed w limits.now moment push_count.old places.old.stands keys.old) key edit (class_of key)) reply (world_pushed w limits.now moment push_count.new places.new.stands keys.new)) }
+    ensures closed { places.new.stood ≡ None }
+    ensures few { push_count.new ≤ most_pushes }
+    ensures err { OnErr result ((places.new ≡ places.old) × ((push_count.new ≡ push_count.old) × (keys.new ≡ keys.old))) }
 {
     match class_of(key.bytes()) {
         KeyClass::Plain => do_on_keys(keys, moment, Action::Edit(key, edit)),
-        KeyClass::Queue => edit_queue(alloc, queues, queue_of(key), edit),
-        KeyClass::Queues => edit_names(alloc, queues, edit),
+        KeyClass::Queue => edit_queue(alloc, limits, places, push_count, queue_of(key), edit),
+        KeyClass::Queues => edit_names(places, edit),
+        KeyClass::Jobs(set) => edit_jobs(alloc, limits, places, push_count, set, edit),
         _ => Ok(managed_key()),
     }
 }

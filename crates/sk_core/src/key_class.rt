@@ -1,9 +1,10 @@
 // What the name of a key means to the store. Nothing here takes memory.
 ghost use Rattle.std.specs.Prelude.{◌≡◌, ◌≤◌, ◌||◌, drop, length};
-ghost use Rattle.sk_model.specs.Class.{class_of, is_later, queue_of};
+ghost use Rattle.sk_model.specs.Class.{class_of, is_later, queue_of, set_of};
 ghost use Rattle.sk_model.specs.declared.key_class.KeyClass.TheVariants as KeyClass;
 ghost use Rattle.sk_payload.specs.Member.{is_name};
 
+use sk_cmd::Scored;
 use sk_model::KeyClass;
 use sk_resp::Word;
 
@@ -18,12 +19,23 @@ pub fn is_queue_name(name: &[u8]) -> bool
 fn is_later(key: &[u8]) -> bool
     ensures { result ≡ is_later key.now }
 {
-    key.starts_with(b"sq:")
-        || key.starts_with(b"stat:")
-        || key == b"schedule".as_slice()
-        || key == b"retry".as_slice()
-        || key == b"dead".as_slice()
-        || key == b"processes".as_slice()
+    key.starts_with(b"sq:") || key.starts_with(b"stat:") || key == b"processes".as_slice()
+}
+
+// The set of jobs that a key names.
+fn set_of(key: &[u8]) -> Option<Scored>
+    ensures { result ≡ set_of key.now }
+{
+    if key == b"schedule".as_slice() {
+        return Some(Scored::Schedule);
+    }
+    if key == b"retry".as_slice() {
+        return Some(Scored::Retry);
+    }
+    if key == b"dead".as_slice() {
+        return Some(Scored::Dead);
+    }
+    None
 }
 
 /// What the name of a key means.
@@ -43,7 +55,10 @@ pub fn class_of(key: &[u8]) -> KeyClass
     if is_later(key) {
         return KeyClass::Later;
     }
-    KeyClass::Plain
+    match set_of(key) {
+        Some(set) => KeyClass::Jobs(set),
+        None => KeyClass::Plain,
+    }
 }
 
 /// The name of the queue that a key means: what stands behind `queue:`.

@@ -1,132 +1,196 @@
 // The commands that read one key, on a queue and on the set of the queues' names.
-ghost use Rattle.std.specs.Prelude.{◌≡◌, ◌<◌, ◌^◌, ℕ, List, IfOk, length, map, drop, take, min};
-ghost use Rattle.std.specs.Map.{keys_of};
-ghost use Rattle.std.specs.BTreeMap.{IsOrdered};
+ghost use Rattle.std.specs.Prelude.{◌≡◌, ◌<◌, ◌^◌, ℕ, List, IfOk, length, map, drop, slice_get, take, Some};
 ghost use Rattle.std.specs.Option.{is_some};
 ghost use Rattle.sk_model.specs.Held.{held, if_any};
 ghost use Rattle.sk_model.specs.Outcome.{reply_of};
 ghost use Rattle.sk_model.specs.World.{World};
 ghost use Rattle.sk_value.specs.Keys.{how_many};
-ghost use Rattle.sk_value.specs.Order.{text_cmp};
 ghost use Rattle.sk_value.specs.declared.value.Value.TheVariants as value;
+ghost use Rattle.sk_resp.specs.Reply.{wire};
+ghost use Rattle.sk_resp.specs.Spelling.{bulk};
 ghost use Rattle.sk_value.specs.Answer.{Gives, counted, texts};
 ghost use Rattle.sk_value.specs.Lists.{range_of};
 ghost use Rattle.sk_value.specs.Values.{look_at};
-ghost use Rattle.sk_core.specs.Queues.{texts_of, world_at};
+ghost use Rattle.sk_places.specs.declared.row.Place.TheVariants.{Set};
+ghost use Rattle.sk_places.specs.Rows.{pair_of, rows_at, texts_at};
+ghost use Rattle.sk_core.specs.Whole.{world_at};
 
+use crate::jobs::Jobs;
 use crate::key_class::{class_of, queue_of};
-use crate::payloads::Payloads;
 use crate::plain::answered;
-use crate::queues::{Queues, length_of};
+use sk_cmd::Scored;
 use sk_keys::Keys;
 use sk_model::KeyClass;
+use sk_places::{Place, Places};
 use sk_resp::{Kind, Memory, Replies, Reply, Say, Word, Words};
-use sk_value::{Action, KeysFault, Look, counted, end_index, first_index, look_members};
+use sk_value::{
+    Action, KeysFault, Look, Pairs, counted, end_index, first_index, look_sorted, one_if,
+};
 use std::alloc::Global;
 
 // The texts from the first index to the last, both included.
-fn range(alloc: Global, payloads: &Payloads, first: i64, last: i64) -> Result<Reply, Memory>
-    ensures { IfOk result (λ reply. reply ≡ texts (range_of first last payloads.now)) }
+fn range(
+    alloc: Global,
+    places: &Places,
+    place: &Place,
+    first: i64,
+    last: i64,
+) -> Result<Reply, Memory>
+    ensures { IfOk result (λ reply. reply ≡ texts (range_of first last (texts_at place.now places.now.stands.rows))) }
 {
-    let count = payloads.len();
-    let part = payloads.part(alloc, first_index(first, count), end_index(last, count))?;
-    Ok(Reply::Array(Replies::new(part)))
+    let count = places.len(place);
+    let start = first_index(first, count);
+    let end = end_index(last, count);
+    let part = places.texts(alloc, place, start, end)?;
+    as_reply(alloc, part)
+}
+
+/// Texts as a reply.
+pub fn as_reply(alloc: Global, list: Vec<Word>) -> Result<Reply, Memory>
+    ensures { IfOk result (λ reply. reply ≡ texts list.items) }
+{
+    let mut replies = Vec::with_capacity(alloc, list.len())?;
+    for text in list {
+        replies.push(Reply::Bulk(text))?;
+    }
+    Ok(Reply::Array(Replies::new(replies)))
 }
 
 // What a command that reads a key answers of a queue's jobs, of which there is one at least.
-fn look_jobs(alloc: Global, payloads: &Payloads, look: &Look) -> Result<Reply, KeysFault>
-    requires { 0 < length payloads.now }
-    ensures { (now : ℕ) → Gives (look_at now look.now (if_any value.List payloads.now)) result }
+fn look_jobs(alloc: Global, places: &Places, place: &Place, look: &Look) -> Result<Reply, KeysFault>
+    requires { 0 < length (texts_at place.now places.now.stands.rows) }
+    ensures { (now : ℕ) → Gives (look_at now look.now (if_any value.List (texts_at place.now places.now.stands.rows))) result }
 {
     match look {
         Look::KindOf => Ok(Reply::Say(Say::Kind(Kind::List))),
         Look::Pttl => Ok(Reply::Int(-1)),
-        Look::Llen => Ok(counted(payloads.len())),
-        Look::Lrange(first, last) => Ok(range(alloc, payloads, *first, *last)?),
+        Look::Llen => Ok(counted(places.len(place))),
+        Look::Lrange(first, last) => Ok(range(alloc, places, place, *first, *last)?),
         _ => Err(KeysFault::WrongType),
     }
 }
 
 // What a command that reads a key answers of a queue. One without jobs is no key.
-fn look_queue(alloc: Global, queues: &Queues, queue: &Word, look: &Look) -> Result<Reply, KeysFault>
-    ensures { (now : ℕ) → Gives (look_at now look.now (if_any value.List (texts_of queue.now queues.now.entries))) result }
+fn look_queue(
+    alloc: Global,
+    places: &Places,
+    place: &Place,
+    look: &Look,
+) -> Result<Reply, KeysFault>
+    ensures { (now : ℕ) → Gives (look_at now look.now (if_any value.List (texts_at place.now places.now.stands.rows))) result }
 {
-    match queues.get(queue) {
-        None => Ok(look.absent(alloc)),
-        Some(payloads) => {
-            if payloads.len() == 0 {
-                return Ok(look.absent(alloc));
-            }
-            look_jobs(alloc, payloads, look)
-        }
-    }
-}
-
-// What it answers of the set of the queues' names.
-fn look_names(alloc: Global, queues: &Queues, look: &Look) -> Result<Reply, KeysFault>
-    ensures { (now : ℕ) → Gives (look_at now look.now (if_any value.Set (keys_of queues.now.entries))) result }
-{
-    if queues.len() == 0 {
+    if places.len(place) == 0 {
         return Ok(look.absent(alloc));
     }
-    look_some_names(alloc, queues, look)
+    look_jobs(alloc, places, place, look)
 }
 
-// The same of one name at least.
-fn look_some_names(alloc: Global, queues: &Queues, look: &Look) -> Result<Reply, KeysFault>
-    requires { 0 < length (keys_of queues.now.entries) }
-    ensures { (now : ℕ) → Gives (look_at now look.now (if_any value.Set (keys_of queues.now.entries))) result }
+// What it answers of a set of jobs. One without jobs is no key.
+fn look_set(alloc: Global, places: &Places, set: Scored, look: &Look) -> Result<Reply, KeysFault>
+    ensures { (now : ℕ) → Gives (look_at now look.now (if_any value.Sorted (map pair_of (rows_at (Set set) places.now.stands.rows)))) result }
+{
+    let jobs = Jobs { places, set };
+    if jobs.len() == 0 {
+        return Ok(look.absent(alloc));
+    }
+    match look {
+        Look::KindOf => Ok(Reply::Say(Say::Kind(Kind::Sorted))),
+        Look::Pttl => Ok(Reply::Int(-1)),
+        _ => look_sorted(alloc, &jobs, look),
+    }
+}
+
+// The name at an index.
+fn copy_name(places: &Places, at: usize) -> Result<Word, Memory>
+    requires { at < length places.now.stands.names }
+    ensures { IfOk result (λ name. slice_get places.now.stands.names at ≡ Some name) }
+{
+    match places.name_at(at) {
+        Some(name) => name.copy(),
+        None => unreachable!(),
+    }
+}
+
+// The names in order, as replies.
+#[tactic(auto, using(crate::proofs::Looking::one_more_name, crate::proofs::Looking::all_names))]
+fn copies(alloc: Global, places: &Places) -> Result<Vec<Reply>, Memory>
+    ensures { IfOk result (λ replies. map wire replies.items ≡ map bulk places.now.stands.names) }
+{
+    let count = places.name_count();
+    let mut replies = Vec::with_capacity(alloc, count)?;
+    for at in 0..count {
+        replies.push(Reply::Bulk(copy_name(places, at)?))?;
+    }
+    Ok(replies)
+}
+
+// What it answers of the set of the queues' names, of which there is one at least.
+fn look_some_names(alloc: Global, places: &Places, look: &Look) -> Result<Reply, KeysFault>
+    requires { 0 < length places.now.stands.names }
+    ensures { (now : ℕ) → Gives (look_at now look.now (if_any value.Set places.now.stands.names)) result }
 {
     match look {
         Look::KindOf => Ok(Reply::Say(Say::Kind(Kind::Set))),
         Look::Pttl => Ok(Reply::Int(-1)),
-        _ => look_members(alloc, queues, look),
+        Look::Smembers => Ok(Reply::Array(Replies::new(copies(alloc, places)?))),
+        Look::Scard => Ok(counted(places.name_count())),
+        Look::Sismember(name) => Ok(one_if(places.is_queue(name))),
+        _ => Err(KeysFault::WrongType),
     }
+}
+
+// The same of any number of names.
+fn look_names(alloc: Global, places: &Places, look: &Look) -> Result<Reply, KeysFault>
+    ensures { (now : ℕ) → Gives (look_at now look.now (if_any value.Set places.now.stands.names)) result }
+{
+    if places.name_count() == 0 {
+        return Ok(look.absent(alloc));
+    }
+    look_some_names(alloc, places, look)
 }
 
 /// Reads one key, plain or managed.
 pub fn look(
     alloc: Global,
     moment: u64,
-    queues: &Queues,
+    places: &Places,
     keys: &mut Keys,
     key: Word,
     look: Look,
 ) -> Result<Reply, Memory>
-    requires { IsOrdered text_cmp queues.now }
-    ensures ok { IfOk result (λ reply. (w : World) → reply ≡ reply_of (look_at moment look (held (world_at w moment queues.now.entries keys.old) key))) }
+    ensures ok { IfOk result (λ reply. (w : World) → reply ≡ reply_of (look_at moment look (held (world_at w moment places.now.stands keys.old) key))) }
     ensures keys { keys.new ≡ keys.old }
 {
     match class_of(key.bytes()) {
         KeyClass::Plain => answered(keys.act(moment, Action::Look(key, look))),
-        KeyClass::Queue => answered(look_queue(alloc, queues, &queue_of(key), &look)),
-        KeyClass::Queues => answered(look_names(alloc, queues, &look)),
+        KeyClass::Queue => answered(look_queue(alloc, places, &Place::Queue(queue_of(key)), &look)),
+        KeyClass::Queues => answered(look_names(alloc, places, &look)),
+        KeyClass::Jobs(set) => answered(look_set(alloc, places, set, &look)),
         _ => Ok(look.absent(alloc)),
     }
 }
 
 // Whether the key is there.
-fn has(queues: &Queues, keys: &Keys, key: Word) -> bool
-    requires { IsOrdered text_cmp queues.now }
-    ensures { (w : World) (moment : ℕ) → result ≡ is_some (held (world_at w moment queues.now.entries keys.now) key) }
+fn has(places: &Places, keys: &Keys, key: Word) -> bool
+    ensures { (w : World) (moment : ℕ) → result ≡ is_some (held (world_at w moment places.now.stands keys.now) key) }
 {
     match class_of(key.bytes()) {
         KeyClass::Plain => keys.has(&key),
-        KeyClass::Queue => length_of(queues, &queue_of(key)) > 0,
-        KeyClass::Queues => queues.len() > 0,
+        KeyClass::Queue => places.len(&Place::Queue(queue_of(key))) > 0,
+        KeyClass::Queues => places.name_count() > 0,
+        KeyClass::Jobs(set) => places.len(&Place::Set(set)) > 0,
         _ => false,
     }
 }
 
 // How many of the words name a key that is there.
-fn count_there(queues: &Queues, keys: &Keys, names: Vec<Word>) -> usize
-    requires { IsOrdered text_cmp queues.now }
-    ensures count { (w : World) (moment : ℕ) → result ≡ how_many (held (world_at w moment queues.now.entries keys.now)) names.items }
+fn count_there(places: &Places, keys: &Keys, names: Vec<Word>) -> usize
+    ensures count { (w : World) (moment : ℕ) → result ≡ how_many (held (world_at w moment places.now.stands keys.now)) names.items }
     ensures small { result < 2 ^ 63 }
 {
     let mut count = 0usize;
     for name in names {
-        if has(queues, keys, name) {
+        if has(places, keys, name) {
             count += 1;
         }
     }
@@ -134,9 +198,8 @@ fn count_there(queues: &Queues, keys: &Keys, names: Vec<Word>) -> usize
 }
 
 /// EXISTS key .. (Redis, "EXISTS")
-pub fn exists(queues: &Queues, keys: &Keys, names: Words) -> Reply
-    requires { IsOrdered text_cmp queues.now }
-    ensures { (w : World) (moment : ℕ) → result ≡ counted (how_many (held (world_at w moment queues.now.entries keys.now)) names) }
+pub fn exists(places: &Places, keys: &Keys, names: Words) -> Reply
+    ensures { (w : World) (moment : ℕ) → result ≡ counted (how_many (held (world_at w moment places.now.stands keys.now)) names) }
 {
-    counted(count_there(queues, keys, names.into_list()))
+    counted(count_there(places, keys, names.into_list()))
 }

@@ -1,34 +1,47 @@
 // SADD queues name .. (Redis, "SADD"): names of queues that have no jobs yet.
-ghost use Rattle.std.specs.Prelude.{◌≡◌, IfOk, OnErr, List, map, filter, not};
-ghost use Rattle.std.specs.BTreeMap.{IsOrdered, is_at};
+ghost use Rattle.std.specs.Prelude.{◌≡◌, None, IfOk, OnErr, OnOk};
 ghost use Rattle.std.specs.List.{list_all};
-ghost use Rattle.std.specs.Map.{lookup};
-ghost use Rattle.std.specs.Option.{is_some};
+ghost use Rattle.sk_track.specs.Steps.{edited};
 ghost use Rattle.sk_model.specs.Outcome.{Comes};
 ghost use Rattle.sk_model.specs.Queues.{add_names};
 ghost use Rattle.sk_model.specs.World.{World};
 ghost use Rattle.sk_payload.specs.Member.{is_name};
-ghost use Rattle.sk_value.specs.Order.{text_cmp};
-ghost use Rattle.sk_core.specs.Queues.{fresh_names, with_queues};
+ghost use Rattle.sk_core.specs.Edits.{all_named};
+ghost use Rattle.sk_core.specs.Whole.{with_places};
 
 use crate::key_class::is_queue_name;
-use crate::payloads::Payloads;
-use crate::queues::Queues;
+use sk_places::Places;
 use sk_resp::{Memory, Refusal, Reply, Say, Word, Words};
-use sk_value::{counted, insert_all};
-use std::alloc::Global;
+use sk_value::counted;
 
-// The names that aren't there, each with no jobs.
-fn fresh(alloc: Global, queues: &Queues, names: Vec<Word>) -> Result<Vec<(Word, Payloads)>, Memory>
-    ensures { IfOk result (λ fresh. fresh.items ≡ fresh_names names.items queues.now.entries) }
+// Adds each name in turn. After want of memory some of them stand.
+fn name_each(places: &mut Places, names: Vec<Word>) -> Result<(), Memory>
+    ensures ok { OnOk result (places.new ≡ edited (all_named names.items places.old.stands) places.old) }
+    ensures step { places.new.stood ≡ places.old.stood }
 {
-    let mut fresh = Vec::with_capacity(alloc, names.len())?;
     for name in names {
-        if !queues.contains_key(&name) {
-            fresh.push((name, Payloads::new(alloc)))?;
+        places.name_queue(&name)?;
+    }
+    Ok(())
+}
+
+// Adds each name in turn, all of them or none.
+fn name_all(places: &mut Places, names: Vec<Word>) -> Result<(), Memory>
+    requires { places.old.stood ≡ None }
+    ensures ok { OnOk result (places.new ≡ edited (all_named names.items places.old.stands) places.old) }
+    ensures err { OnErr result (places.new ≡ places.old) }
+{
+    places.begin();
+    match name_each(places, names) {
+        Ok(()) => {
+            places.commit();
+            Ok(())
+        }
+        Err(_) => {
+            places.undo();
+            Err(Memory)
         }
     }
-    Ok(fresh)
 }
 
 fn are_names(names: &[Word]) -> bool
@@ -38,17 +51,16 @@ fn are_names(names: &[Word]) -> bool
 }
 
 /// Adds the names, all of them or none, and answers how many are new. A word that is no name is refused with all others.
-pub fn add_names(alloc: Global, queues: &mut Queues, names: Words) -> Result<Reply, Memory>
-    requires { IsOrdered text_cmp queues.old }
-    ensures ok { IfOk result (λ reply. (w : World) → Comes (with_queues w queues.old.entries) (add_names (with_queues w queues.old.entries) names) reply (with_queues w queues.new.entries)) }
-    ensures ordered { IsOrdered text_cmp queues.new }
-    ensures err { OnErr result (queues.new.entries ≡ queues.old.entries) }
+pub fn add_names(places: &mut Places, names: Words) -> Result<Reply, Memory>
+    requires { places.old.stood ≡ None }
+    ensures ok { IfOk result (λ reply. (w : World) → Comes (with_places w places.old.stands) (add_names (with_places w places.old.stands) names) reply (with_places w places.new.stands)) }
+    ensures closed { places.new.stood ≡ None }
+    ensures err { OnErr result (places.new ≡ places.old) }
 {
     if !are_names(names.list()) {
         return Ok(Reply::Say(Say::Refused(Refusal::ManagedKey)));
     }
-    let fresh = fresh(alloc, queues, names.into_list())?;
-    let count = insert_all(queues, fresh)?;
-    let _count = queues.len(); // for what it says of the names' order
-    Ok(counted(count))
+    let before = places.name_count();
+    name_all(places, names.into_list())?;
+    Ok(counted(places.name_count().saturating_sub(before)))
 }

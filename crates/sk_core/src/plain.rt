@@ -5,7 +5,8 @@ ghost use Rattle.sk_model.specs.Outcome.{Comes, reply_of};
 ghost use Rattle.sk_model.specs.Step.{on_keys, on_plain};
 ghost use Rattle.sk_model.specs.World.{World};
 ghost use Rattle.sk_value.specs.Answer.{Answer, Gives, fault_say};
-ghost use Rattle.sk_core.specs.Queues.{Queues, world_at};
+ghost use Rattle.sk_places.specs.Placed.{Placed};
+ghost use Rattle.sk_core.specs.Whole.{world_at};
 
 use crate::key_class::class_of;
 use sk_cmd::SetOptions;
@@ -49,7 +50,7 @@ pub fn answered(answer: Result<Reply, KeysFault>) -> Result<Reply, Memory>
 
 /// Does an action to the plain keys. A refusal is a reply, and leaves them as they were.
 pub fn do_on_keys(keys: &mut Keys, moment: u64, action: Action) -> Result<Reply, Memory>
-    ensures ok { IfOk result (λ reply. (w : World) (queues : Queues) → Comes (world_at w moment queues keys.old) (on_keys (world_at w moment queues keys.old) action) reply (world_at w moment queues keys.new)) }
+    ensures ok { IfOk result (λ reply. (w : World) (p : Placed) → Comes (world_at w moment p keys.old) (on_keys (world_at w moment p keys.old) action) reply (world_at w moment p keys.new)) }
     ensures err { OnErr result (keys.new ≡ keys.old) }
 {
     answered(keys.act(moment, action))
@@ -62,7 +63,7 @@ fn do_on_plain(
     action: Action,
     class: KeyClass,
 ) -> Result<Reply, Memory>
-    ensures ok { IfOk result (λ reply. (w : World) (queues : Queues) → Comes (world_at w moment queues keys.old) (on_plain (world_at w moment queues keys.old) action class) reply (world_at w moment queues keys.new)) }
+    ensures ok { IfOk result (λ reply. (w : World) (p : Placed) → Comes (world_at w moment p keys.old) (on_plain (world_at w moment p keys.old) action class) reply (world_at w moment p keys.new)) }
     ensures err { OnErr result (keys.new ≡ keys.old) }
 {
     match class {
@@ -79,7 +80,7 @@ pub fn set(
     text: Word,
     options: SetOptions,
 ) -> Result<Reply, Memory>
-    ensures ok { IfOk result (λ reply. (w : World) (queues : Queues) → Comes (world_at w moment queues keys.old) (on_plain (world_at w moment queues keys.old) (Action.Set key text options) (class_of key)) reply (world_at w moment queues keys.new)) }
+    ensures ok { IfOk result (λ reply. (w : World) (p : Placed) → Comes (world_at w moment p keys.old) (on_plain (world_at w moment p keys.old) (Action.Set key text options) (class_of key)) reply (world_at w moment p keys.new)) }
     ensures err { OnErr result (keys.new ≡ keys.old) }
 {
     let class = class_of(key.bytes());
@@ -88,7 +89,7 @@ pub fn set(
 
 /// Gives a key its span of life in milliseconds, where the key is plain. Another is refused.
 pub fn expire(keys: &mut Keys, moment: u64, key: Word, millis: i64) -> Result<Reply, Memory>
-    ensures ok { IfOk result (λ reply. (w : World) (queues : Queues) → Comes (world_at w moment queues keys.old) (on_plain (world_at w moment queues keys.old) (Action.Expire key millis) (class_of key)) reply (world_at w moment queues keys.new)) }
+    ensures ok { IfOk result (λ reply. (w : World) (p : Placed) → Comes (world_at w moment p keys.old) (on_plain (world_at w moment p keys.old) (Action.Expire key millis) (class_of key)) reply (world_at w moment p keys.new)) }
     ensures err { OnErr result (keys.new ≡ keys.old) }
 {
     let class = class_of(key.bytes());

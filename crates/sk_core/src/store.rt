@@ -1,24 +1,24 @@
-// The store: an index of the queues, the plain keys, and the greatest moment that it was handed.
+// The store: the places of its jobs, the plain keys, and the greatest moment that it was handed.
 ghost use Rattle.std.specs.Prelude.{◌≡◌, ◌⊎◌, IfOk, OnErr};
 ghost use Rattle.sk_model.specs.Change.{passed};
 ghost use Rattle.sk_model.specs.Outcome.{Comes, Outcome};
-ghost use Rattle.sk_model.specs.Step.{Steps, act, plain_outcome, starves};
+ghost use Rattle.sk_model.specs.Step.{Steps, act, plain_outcome, run, script_outcome, starves};
 ghost use Rattle.sk_model.specs.World.{first};
 
-use crate::built::is_built;
+use crate::built::{is_built, is_script_built};
 use crate::deletes::{delete, flush};
 use crate::edits::edit;
 use crate::looks::{exists, look};
 use crate::moves::move_text;
 use crate::plain::{expire, set};
-use crate::queues::Queues;
-use sk_cmd::Command;
+use crate::scripts::run;
+use sk_cmd::{Command, ScriptCommand};
 use sk_keys::Keys;
 use sk_model::Limits;
+use sk_places::Places;
 use sk_resp::{Memory, Reply, Say};
 use sk_value::{Action, action_of};
 use std::alloc::Global;
-use std::collections::BTreeMap;
 use std::marker::Model;
 
 /// The last millisecond of the year 9998. A greater moment is taken for it.
@@ -30,7 +30,9 @@ pub struct Core {
     alloc: Global,
     limits: Limits,
     moment: u64,
-    queues: Queues,
+    places: Places,
+    // How many rows were ever pushed.
+    push_count: u64,
     keys: Keys,
 }
 
@@ -57,7 +59,8 @@ impl Core {
             alloc,
             limits,
             moment: 0,
-            queues: BTreeMap::new(alloc),
+            places: Places::new(alloc),
+            push_count: 0,
             keys: Keys::new(alloc),
         }
     }
@@ -75,22 +78,25 @@ impl Core {
         ensures ok { IfOk result (λ reply. Comes self.old (act self.old action) reply self.new) }
         ensures err { OnErr result (self.new ≡ self.old) }
     {
-        let (alloc, moment) = (self.alloc, self.moment);
-        let (queues, keys) = (&mut self.queues, &mut self.keys);
+        let (alloc, moment, limits) = (self.alloc, self.moment, &self.limits);
+        let (places, push_count) = (&mut self.places, &mut self.push_count);
+        let keys = &mut self.keys;
         match action {
             Action::Ping => Ok(Reply::Say(Say::Pong)),
             Action::Echo(text) => Ok(Reply::Bulk(text)),
             Action::Quit => Ok(Reply::Say(Say::Ok)),
-            Action::Look(key, how) => look(alloc, moment, queues, keys, key, how),
-            Action::Edit(key, how) => edit(alloc, moment, queues, keys, key, how),
+            Action::Look(key, how) => look(alloc, moment, places, keys, key, how),
+            Action::Edit(key, how) => {
+                edit(alloc, limits, moment, places, push_count, keys, key, how)
+            }
             Action::Set(key, text, options) => set(keys, moment, key, text, options),
             Action::Expire(key, millis) => expire(keys, moment, key, millis),
-            Action::Exists(names) => Ok(exists(queues, keys, names)),
-            Action::Delete(names) => Ok(delete(queues, keys, names)),
+            Action::Exists(names) => Ok(exists(places, keys, names)),
+            Action::Delete(names) => Ok(delete(places, keys, names)),
             Action::Move(source, destination, from, to) => {
-                move_text(alloc, moment, queues, keys, source, destination, from, to)
+                move_text(moment, places, keys, source, destination, from, to)
             }
-            Action::Flush => Ok(flush(queues, keys)),
+            Action::Flush => Ok(flush(places, keys)),
         }
     }
 
@@ -108,6 +114,28 @@ impl Core {
         }
     }
 
+    // Does what a script does. Where memory runs out nothing has changed.
+    fn run(&mut self, script: ScriptCommand) -> Result<Reply, Memory>
+        ensures ok { IfOk result (λ reply. Comes self.old (run self.old script) reply self.new) }
+        ensures err { OnErr result (self.new ≡ self.old) }
+    {
+        run(self.alloc, &mut self.places, self.moment, script)
+    }
+
+    // Does it at a moment, where it is built.
+    fn step_script(&mut self, now: u64, script: ScriptCommand) -> Reply
+        ensures { (o : Outcome) × ((o ≡ script_outcome self.old now script) ⊎ (o ≡ starves now)) × Comes self.old o result self.new }
+    {
+        if !is_script_built(&script) {
+            return Reply::Say(Say::NotBuilt);
+        }
+        self.pass(now);
+        match self.run(script) {
+            Ok(reply) => reply,
+            Err(_) => Reply::Say(Say::Oom),
+        }
+    }
+
     /// Does a command at the moment `now`, in milliseconds since 1970, as the abstract store does it, and answers its reply. The greatest moment
     /// that the store was handed counts. Where memory runs out the reply says so, and time alone has gone on.
     pub fn step(&mut self, now: u64, command: Command) -> Reply
@@ -115,7 +143,7 @@ impl Core {
     {
         match command {
             Command::Plain(command) => self.step_plain(now, action_of(command)),
-            Command::Script(_) => Reply::Say(Say::NotBuilt),
+            Command::Script(script) => self.step_script(now, script),
         }
     }
 }

@@ -10,6 +10,8 @@ use std::test::Fail;
 
 static MANAGED: &str = "-SK managed key\r\n";
 
+static FULL: &str = "-SK full\r\n";
+
 static NOT_BUILT: &str = "-SK not built\r\n";
 
 static LIMITS: Limits = Limits {
@@ -35,7 +37,16 @@ fn command(alloc: Global, line: &str) -> Result<Command, Fail> {
 }
 
 fn check_all(rt: &impl Abort, alloc: Global, rows: &[(u64, &str, &str)]) -> Result<(), Fail> {
-    let mut core = Core::new(alloc, LIMITS);
+    check_with(rt, alloc, LIMITS, rows)
+}
+
+fn check_with(
+    rt: &impl Abort,
+    alloc: Global,
+    limits: Limits,
+    rows: &[(u64, &str, &str)],
+) -> Result<(), Fail> {
+    let mut core = Core::new(alloc, limits);
     for (now, line, want) in rows {
         let reply = core.step(*now, command(alloc, line)?);
         let mut text = Vec::new(alloc);
@@ -89,8 +100,10 @@ fn managed_keys_are_kept(rt: HostRuntime) -> Result<(), Fail> {
         (0, "TYPE queue:a", "+list\r\n"),
         (0, "TYPE queues", "+set\r\n"),
         (0, "PTTL queue:a", ":-1\r\n"),
-        (0, "ZCARD schedule", NOT_BUILT),
-        (0, "DEL list retry", NOT_BUILT),
+        (0, "LLEN sq:a", NOT_BUILT),
+        (0, "ZADD retry 1 text", NOT_BUILT),
+        (0, "ZADD dead 1 text", MANAGED),
+        (0, "DEL list retry", ":1\r\n"),
     ];
     check_all(&rt, rt.alloc(), &rows)
 }
@@ -106,4 +119,92 @@ fn the_greatest_moment_counts(rt: HostRuntime) -> Result<(), Fail> {
         (1500, "GET k", "$-1\r\n"),
     ];
     check_all(&rt, rt.alloc(), &rows)
+}
+
+#[test]
+fn jobs_wait_for_their_moment(rt: HostRuntime) -> Result<(), Fail> {
+    let rows = [
+        (0, "ZADD schedule 2 b 1 c 2 a", ":3\r\n"),
+        (
+            0,
+            "ZRANGE schedule 0 -1",
+            "*3\r\n$1\r\nc\r\n$1\r\na\r\n$1\r\nb\r\n",
+        ),
+        (0, "ZADD schedule 0.5 b 3 d", ":1\r\n"),
+        (0, "ZSCORE schedule b", "$3\r\n0.5\r\n"),
+        (
+            0,
+            "ZRANGEBYSCORE schedule (0.5 2 LIMIT 1 5",
+            "*1\r\n$1\r\na\r\n",
+        ),
+        (0, "TYPE schedule", "+zset\r\n"),
+        (0, "PTTL schedule", ":-1\r\n"),
+        (0, "GET schedule", WRONG_TYPE),
+        (0, "ZREM schedule c nothing", ":1\r\n"),
+        (0, "ZREMRANGEBYRANK schedule 0 0", ":1\r\n"),
+        (0, "ZREMRANGEBYSCORE schedule 3 +inf", ":1\r\n"),
+        (0, "EXISTS schedule retry", ":1\r\n"),
+        (0, "DEL schedule", ":1\r\n"),
+        (0, "ZCARD schedule", ":0\r\n"),
+    ];
+    check_all(&rt, rt.alloc(), &rows)
+}
+
+#[test]
+fn jobs_are_sent_on(rt: HostRuntime) -> Result<(), Fail> {
+    let rows = [
+        (
+            1000,
+            "ZADD schedule 5 {\"args\":[],\"class\":\"C\",\"jid\":\"j\",\"queue\":\"q\"} 6 bare",
+            ":2\r\n",
+        ),
+        (4999, "SK.DUE schedule 10", "*4\r\n:0\r\n:0\r\n*0\r\n*0\r\n"),
+        (5000, "SK.DUE schedule 10", "*4\r\n:1\r\n:0\r\n*0\r\n*0\r\n"),
+        (5000, "LLEN queue:q", ":1\r\n"),
+        (5000, "SMEMBERS queues", "*1\r\n$1\r\nq\r\n"),
+        (7000, "SK.DUE schedule 10", "*4\r\n:0\r\n:1\r\n*0\r\n*0\r\n"),
+        (7000, "ZSCORE dead bare", "$1\r\n7\r\n"),
+        (7000, "SK.REVIVE dead bare", "-SK bad payload\r\n"),
+        (7000, "SK.REVIVE schedule bare", ":0\r\n"),
+        (7000, "SK.KILL retry bare", "*4\r\n:0\r\n:0\r\n*0\r\n*0\r\n"),
+        (
+            7000,
+            "ZADD schedule 9 {\"args\":[],\"class\":\"C\",\"jid\":\"k\",\"queue\":\"q\"}",
+            ":1\r\n",
+        ),
+        (
+            15_552_007_000,
+            "SK.KILL schedule {\"args\":[],\"class\":\"C\",\"jid\":\"k\",\"queue\":\"q\"}",
+            "*4\r\n:0\r\n:1\r\n*0\r\n*1\r\n$4\r\nbare\r\n",
+        ),
+        (
+            15_552_007_000,
+            "SK.REVIVE dead {\"args\":[],\"class\":\"C\",\"jid\":\"k\",\"queue\":\"q\"}",
+            ":1\r\n",
+        ),
+        (15_552_007_000, "LLEN queue:q", ":2\r\n"),
+        (15_552_007_000, "EXISTS dead schedule", ":0\r\n"),
+    ];
+    check_all(&rt, rt.alloc(), &rows)
+}
+
+#[test]
+fn a_push_above_the_limits_is_refused(rt: HostRuntime) -> Result<(), Fail> {
+    let limits = Limits {
+        rows: 2,
+        bytes: 10,
+        batches: 1,
+    };
+    let rows = [
+        (0, "LPUSH queue:a one two three", FULL),
+        (0, "LPUSH queue:a one two", ":2\r\n"),
+        (0, "RPUSH queue:a more", FULL),
+        (0, "ZADD schedule 1 more", FULL),
+        (0, "LREM queue:a 0 one", ":1\r\n"),
+        (0, "ZADD schedule 1 manybytes", FULL),
+        (0, "ZADD schedule 1 more", ":1\r\n"),
+        (0, "ZADD schedule 2 more", FULL),
+        (0, "EXISTS queue:a schedule", ":2\r\n"),
+    ];
+    check_with(&rt, rt.alloc(), limits, &rows)
 }

@@ -2,7 +2,7 @@ use Rattle.std.proofs.Common.{◌≡◌, ◌∷◌, ◌∙◌, ap, arith, length
 use Rattle.std.specs.Vec.Iter.{into_iter_items}
 use Rattle.sk_value.specs.Keys.{how_many}
 use Rattle.sk_model.specs.Held.{held}
-use Rattle.sk_core.specs.Queues.{world_at}
+use Rattle.sk_core.specs.Whole.{world_at}
 use Rattle.sk_core.proofs.Deleting.{one_if}
 use Rattle.sk_core.proofs.Classes.{one_more, no_more}
 use Rattle.sk_core.proofs.looks.count_there.Goals as goal
@@ -14,7 +14,7 @@ loop-name-preserved-then-has c =
     let is : into_iter_items c.loop-name.name-iterator ≡ c.in-Some.name ∷ rest = c.in-Some.ensures.steps.0 in
     record {
       counts = λ w moment.
-          let holds = held (world_at w moment c.args.queues.now.entries c.args.keys.now) in
+          let holds = held (world_at w moment c.args.places.now.stands c.args.keys.now) in
           omega (arith, was.counts w moment, ap (how_many holds) is, one_more holds c.in-Some.name rest, ap one_if (sym (c.has.ensures w moment) ∙ c.if-has.true));
       small = omega (arith, was.small, ap length is);
     }
@@ -26,13 +26,13 @@ loop-name-preserved c =
     let is : into_iter_items c.loop-name.name-iterator ≡ c.in-Some.name ∷ rest = c.in-Some.ensures.steps.0 in
     record {
       counts = λ w moment.
-          let holds = held (world_at w moment c.args.queues.now.entries c.args.keys.now) in
+          let holds = held (world_at w moment c.args.places.now.stands c.args.keys.now) in
           omega (arith, was.counts w moment, ap (how_many holds) is, one_more holds c.in-Some.name rest, ap one_if (sym (c.has.ensures w moment) ∙ c.if-has.false));
       small = omega (arith, was.small, ap length is);
     }
 
 pub returns-clause-count : goal.returns-clause-count
 returns-clause-count c = λ w moment.
-    let holds = held (world_at w moment c.args.queues.now.entries c.args.keys.now) in
+    let holds = held (world_at w moment c.args.places.now.stands c.args.keys.now) in
     let none : length (into_iter_items c.loop-name.name-iterator) ≡ 0 = search rules in
     omega (arith, c.loop-name.invariant.counts w moment, no_more holds (into_iter_items c.loop-name.name-iterator) none)

@@ -1,9 +1,22 @@
-use Rattle.std.proofs.Common.{◌∙◌, ap, sym}
+use Rattle.std.proofs.Common.{◌∙◌, ap, map, sym}
+use Rattle.sk_value.specs.declared.value.Value.TheVariants as value
+use Rattle.sk_places.specs.declared.row.Place.TheVariants.{Queue, Set}
+use Rattle.sk_places.specs.Rows.{pair_of, rows_at, texts_at}
 use Rattle.sk_model.specs.Class.{class_of}
-use Rattle.sk_core.proofs.Classes.{look_queue}
+use Rattle.sk_model.specs.Held.{if_any}
+use Rattle.sk_core.proofs.Classes.{held_jobs, held_queue, look_held}
 use Rattle.sk_core.proofs.looks.look.Goals as goal
 
 pub returns-in-Queue-clause-ok : goal.returns-in-Queue-clause-ok
 returns-in-Queue-clause-ok c =
-    look_queue c.args.moment c.args.look c.args.key c.queue_of.result c.args.queues.now.entries c.args.keys.now _ c.look_queue-in-Queue.result c.answered-in-Queue.result c.requires
-    (ap class_of (sym c.bytes.ensures) ∙ sym c.class_of.ensures ∙ c.in-Queue.is) c.queue_of.ensures (c.look_queue-in-Queue.ensures c.args.moment) c.answered-in-Queue.ensures.reply
+    let p = c.args.places.now.stands in
+    let keys = c.args.keys.now in
+    look_held c.args.moment c.args.look c.args.key p keys (if_any value.List (texts_at (Queue c.queue_of.result) p.rows)) _ c.look_queue.result c.answered-in-Queue.result
+    (λ w. held_queue w c.args.moment c.args.key c.queue_of.result p keys (ap class_of (sym c.bytes.ensures) ∙ sym c.class_of.ensures ∙ c.in-Queue.is) c.queue_of.ensures) (c.look_queue.ensures c.args.moment) c.answered-in-Queue.ensures.reply
+
+pub returns-in-Jobs-clause-ok : goal.returns-in-Jobs-clause-ok
+returns-in-Jobs-clause-ok c =
+    let p = c.args.places.now.stands in
+    let keys = c.args.keys.now in
+    look_held c.args.moment c.args.look c.args.key p keys (if_any value.Sorted (map pair_of (rows_at (Set c.in-Jobs.set) p.rows))) _ c.look_set.result c.answered-in-Jobs.result
+    (λ w. held_jobs w c.args.moment c.args.key c.in-Jobs.set p keys (ap class_of (sym c.bytes.ensures) ∙ sym c.class_of.ensures ∙ c.in-Jobs.is)) (c.look_set.ensures c.args.moment) c.answered-in-Jobs.ensures.reply

@@ -1,16 +1,37 @@
-use Rattle.std.proofs.Common.{◌∙◌, ap, subst, sym}
+use Rattle.std.proofs.Common.{◌≡◌, ◌+◌, ◌∙◌, ap, false, length, refl, subst, sym, true}
 use Rattle.sk_resp.specs.declared.reply.Reply.{Reply}
-use Rattle.sk_model.specs.declared.row.Place.TheVariants.{Queue}
+use Rattle.sk_places.specs.declared.row.Place.TheVariants.{Queue}
 use Rattle.sk_model.specs.Outcome.{Comes}
 use Rattle.sk_model.specs.Queues.{push}
-use Rattle.sk_core.specs.Queues.{pushed, with_queues}
-use Rattle.sk_core.proofs.Comes.{push_comes}
+use Rattle.sk_model.specs.Room.{bytes_of, is_full}
+use Rattle.sk_model.specs.World.{first}
+use Rattle.sk_core.specs.Edits.{all_added}
+use Rattle.sk_core.specs.Whole.{with_pushed}
+use Rattle.sk_core.proofs.Editing.{full_comes, push_comes}
+use Rattle.sk_core.proofs.Fitting.{few_pushes}
 use Rattle.sk_core.proofs.pushes.push.Goals as goal
+
+pub returns-then-is_full-clause-ok : goal.returns-then-is_full-clause-ok
+returns-then-is_full-clause-ok c = λ w.
+    let p = c.args.places.now.stands in
+    let v = with_pushed w c.args.limits.now c.args.push_count.now p in
+    let full : is_full v c.args.texts ≡ true = sym (c.is_full.ensures w c.args.texts (ap length c.list-count.ensures) (c.bytes_of-bytes.ensures ∙ ap bytes_of c.list.ensures)) ∙ c.if-is_full.true in
+    full_comes w c.args.limits.now c.args.push_count.now c.args.end (Queue c.args.queue) c.args.texts p full
 
 pub returns-clause-ok : goal.returns-clause-ok
 returns-clause-ok c = λ w.
-    let queues = c.args.queues.now.entries in
-    let new = c.push_all.new.queues.entries in
-    subst (λ (r : Reply). Comes (with_queues w queues) (push (with_queues w queues) c.args.side (Queue c.args.queue) c.args.texts) r (with_queues w new)) (sym c.counted.ensures)
-    (push_comes w c.args.side c.args.queue c.args.texts queues new c.in_ok-count.count c.requires c.in_ok-count.ensures.ordered
-    (c.in_ok-count.ensures.ok ∙ ap (λ texts. pushed c.args.side c.args.queue texts queues) (c.in_ok-payloads.ensures ∙ c.into_list.ensures)) c.in_ok-count.ensures.count.1)
+    let p = c.args.places.now.stands in
+    let limits = c.args.limits.now in
+    let count = c.args.push_count.now in
+    let new = c.push_all.new.places.stands in
+    let v = with_pushed w limits count p in
+    let room : is_full v c.args.texts ≡ false = sym (c.is_full.ensures w c.args.texts (ap length c.list-count.ensures) (c.bytes_of-bytes.ensures ∙ ap bytes_of c.list.ensures)) ∙ c.if-is_full.false in
+    let pushed : new ≡ all_added c.args.end (Queue c.args.queue) c.args.texts p = ap (λ s. s.stands) c.in_ok-push_all.ensures.ok ∙ ap (λ texts. all_added c.args.end (Queue c.args.queue) texts p) (c.in_ok-payloads.ensures ∙ c.into_list.ensures) in
+    subst (λ (r : Reply). Comes v (push v c.args.end (Queue c.args.queue) c.args.texts) r (with_pushed w limits (count + length c.list-count.result.now) new)) (sym c.counted.ensures)
+    (push_comes w limits count _ c.len.result c.args.end (Queue c.args.queue) c.args.texts p new room (ap (λ texts. count + length texts) c.list-count.ensures) pushed c.len.ensures.is)
+
+pub returns-clause-few : goal.returns-clause-few
+returns-clause-few c =
+    let w = first c.args.limits.now in
+    few_pushes w c.args.limits.now c.args.push_count.now c.args.places.now.stands c.list-count.result.now
+    (sym (c.is_full.ensures w c.list-count.result.now refl (c.bytes_of-bytes.ensures ∙ ap bytes_of (c.list.ensures ∙ sym c.list-count.ensures))) ∙ c.if-is_full.false)

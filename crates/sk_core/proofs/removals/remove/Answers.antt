@@ -1,21 +1,22 @@
-use Rattle.std.proofs.Common.{◌-◌, ◌∙◌, ap, length, subst, sym, w64}
-use Rattle.std.proofs.lemmas.Int.{to_z-of_z}
-use Rattle.sk_value.specs.Lists.{without_some}
+use Rattle.std.proofs.Common.{◌≡◌, ◌∙◌, ap, of_z, rules, subst, sym, to_z, w64}
 use Rattle.sk_resp.specs.declared.reply.Reply.{Reply}
-use Rattle.sk_model.specs.declared.row.Place.TheVariants.{Queue}
+use Rattle.sk_places.specs.declared.row.Place.TheVariants.{Queue}
+use Rattle.sk_places.specs.Placed.{without_copies}
+use Rattle.sk_places.specs.Rows.{copies_of, end_taken, number_taken, row_at}
 use Rattle.sk_model.specs.Outcome.{Comes}
 use Rattle.sk_model.specs.Queues.{remove}
-use Rattle.sk_core.specs.Queues.{set, texts_of, with_queues}
-use Rattle.sk_core.proofs.Comes.{remove_comes}
+use Rattle.sk_core.specs.Whole.{with_places}
+use Rattle.sk_core.proofs.Editing.{remove_comes}
 use Rattle.sk_core.proofs.removals.remove.Goals as goal
 
 pub returns-clause-done : goal.returns-clause-done
 returns-clause-done c = λ w.
-    let queues = c.args.queues.now.entries in
-    let new = c.remove_some.new.queues.entries in
-    let texts = texts_of c.args.queue.now queues in
-    let count = to_z-of_z w64 c.args.count c.ranges.count in
-    subst (λ (r : Reply). Comes (with_queues w queues) (remove (with_queues w queues) (Queue c.args.queue.now) c.args.count c.args.text.now) r (with_queues w new)) (sym c.counted.ensures)
-    (remove_comes w c.args.queue.now c.args.text.now c.args.count queues new c.remove_some.result c.requires
-    (c.remove_some.ensures.texts ∙ ap (λ n. set c.args.queue.now (without_some n c.args.text.now texts) queues) count)
-    (c.remove_some.ensures.count ∙ ap (λ n. length texts - length (without_some n c.args.text.now texts)) count))
+    let p = c.args.places.now.stands in
+    let new = c.remove_texts.new.self.stands in
+    let queue = Queue c.args.queue in
+    let row = row_at queue c.args.text.now in
+    let same : to_z w64 (of_z w64 c.args.count) ≡ c.args.count = search rules in
+    let number : c.remove_texts.result ≡ number_taken c.args.count (copies_of row p.rows) = c.remove_texts.ensures.count ∙ ap (λ z. number_taken z (copies_of row p.rows)) same in
+    let rest : new ≡ without_copies c.remove_texts.result (end_taken c.args.count) row p = ap (λ s. s.stands) c.remove_texts.ensures.rest ∙ ap (λ z. without_copies c.remove_texts.result (end_taken z) row p) same in
+    subst (λ (r : Reply). Comes (with_places w p) (remove (with_places w p) queue c.args.count c.args.text.now) r (with_places w new)) (sym c.counted.ensures)
+    (remove_comes w queue c.args.count c.args.text.now c.remove_texts.result p new number rest)

@@ -1,0 +1,27 @@
+use Rattle.std.proofs.Common.{◌≡◌, ◌∙◌, List, ℕ, None, ap, sym}
+use Rattle.std.specs.Prelude.{option_map}
+use Rattle.sk_places.specs.Rows.{pair_of, row_of, rows_at}
+use Rattle.sk_places.specs.declared.row.Place.TheVariants.{Set}
+use Rattle.sk_places.specs.declared.row.Row.{Row}
+use Rattle.sk_model.specs.Jobs.{bury, nothing}
+use Rattle.sk_core.specs.Sending.{with_moment}
+use Rattle.sk_core.proofs.Classes.{if_ok}
+use Rattle.sk_core.proofs.Fronts.{some_found, some_row}
+use Rattle.sk_core.proofs.Telling.{killed, none_killed}
+use Rattle.sk_core.proofs.scripts.bury_one.Goals as goal
+
+pub returns-in_default-clause-ok : goal.returns-in_default-clause-ok
+returns-in_default-clause-ok c =
+    let rows : List Row = rows_at (Set c.args.set) c.args.places.now.stands.rows in
+    let found : option_map pair_of (row_of c.args.text.now rows) ≡ None = ap (λ (t : List ℕ). option_map pair_of (row_of t rows)) (sym c.bytes.ensures) ∙ sym c.find.ensures ∙ ap (option_map (λ p. (p.0, p.1.now))) c.in_default.is in
+    if_ok _ _ c.told.result (λ reply tells. λ w. none_killed (with_moment w c.args.moment c.args.places.now.stands) (row_of c.args.text.now rows) reply (some_row _ found) (tells nothing c.nothing.ensures.none.0 c.nothing.ensures.none.1 c.nothing.ensures.texts)) c.told.ensures
+
+pub returns-clause-ok : goal.returns-clause-ok
+returns-clause-ok c =
+    let p = c.args.places.now.stands in
+    let rows : List Row = rows_at (Set c.args.set) p.rows in
+    let found = ap (λ (t : List ℕ). option_map pair_of (row_of t rows)) (sym c.bytes.ensures) ∙ sym c.find.ensures ∙ ap (option_map (λ p. (p.0, p.1.now))) c.in-Some.is in
+    let there = some_found (row_of c.args.text.now rows) _ found in
+    if_ok _ _ c.told-2.result (λ reply tells. λ w.
+    let sent = c.in_ok-report.ensures.ok w there.0 there.1 in
+    killed (with_moment w c.args.moment p) (with_moment w c.args.moment c.bury.new.places.stands) (row_of c.args.text.now rows) there.0 reply there.1 (tells (bury (with_moment w c.args.moment p) there.0) sent.moved sent.buried sent.trimmed) sent.world) c.told-2.ensures
