@@ -261,7 +261,7 @@ fn plain_keys_hold_what_redis_has(rt: HostRuntime) -> Result<(), Fail> {
         ),
         (b"ECHO x\n", b"$1\r\nx\r\n"),
         (
-            b"ZADD z 2 b 1 a\nZRANGE z 0 0 WITHSCORES\nZCARD schedule\n",
+            b"ZADD z 2 b 1 a\nZRANGE z 0 0 WITHSCORES\nLLEN sq:a\n",
             b":2\r\n*2\r\n$1\r\na\r\n$1\r\n1\r\n-SK not built\r\n",
         ),
     ];
