@@ -1,12 +1,14 @@
 -- The changes of each command are good.
-use Rattle.std.proofs.Common.{◌≡◌, ◌≤◌, ℕ, zero, suc, List, [], ◌∷◌, ◌++◌, refl, sym, ap, subst, ◌⊎◌, inl, inr, arith, Bool, true}
-use Rattle.std.specs.Prelude.{nat_abs, pos, Option, Some, None, filter, map}
-use Rattle.std.specs.List.{list_any, list_all, last_or}
+use Rattle.std.proofs.Common.{◌≡◌, ◌≤◌, ℕ, zero, suc, List, [], ◌∷◌, ◌++◌, refl, sym, subst, inl, inr, arith, ◌&&◌, ◌||◌}
+use Rattle.std.specs.Prelude.{nat_abs, pos, Option, Some, None, map}
+use Rattle.std.specs.List.{list_all}
 use Rattle.sk_resp.specs.Spelling.{Bytes}
 use Rattle.sk_cmd.specs.declared.argument.Side.{Side}
-use Rattle.sk_cmd.specs.declared.argument.Side.TheVariants.{Left, Right}
 use Rattle.sk_cmd.specs.declared.command.Command.{Command}
 use Rattle.sk_cmd.specs.declared.command.Command.TheVariants as command
+use Rattle.sk_cmd.specs.declared.command.PlainCommand.{PlainCommand}
+use Rattle.sk_cmd.specs.declared.command.ScriptCommand.{ScriptCommand}
+use Rattle.sk_cmd.specs.declared.command.ScriptCommand.TheVariants as script
 use Rattle.sk_payload.specs.Member.{is_name}
 use Rattle.sk_value.specs.declared.action.Action.{Action}
 use Rattle.sk_value.specs.declared.action.Action.TheVariants as action
@@ -15,26 +17,28 @@ use Rattle.sk_value.specs.declared.edit.Edit.TheVariants as edit
 use Rattle.sk_value.specs.Action.{action_of}
 use Rattle.sk_model.specs.declared.key_class.KeyClass.{KeyClass}
 use Rattle.sk_model.specs.declared.key_class.KeyClass.TheVariants as class
+use Rattle.sk_model.specs.declared.phase.Phase.{Phase}
+use Rattle.sk_model.specs.declared.phase.Phase.TheVariants.{Plain}
 use Rattle.sk_places.specs.declared.row.Place.{Place}
 use Rattle.sk_places.specs.declared.row.Place.TheVariants.{Queue, Set}
 use Rattle.sk_places.specs.declared.row.Row.{Row}
-use Rattle.sk_places.specs.Rows.{is_at, is_same, rows_at, row_at, row_at_end, first_row}
-use Rattle.sk_model.specs.World.{World}
+use Rattle.sk_places.specs.Rows.{is_at, rows_at, row_at, row_at_end}
+use Rattle.sk_model.specs.Phases.{is_plain as is_plain_seat}
+use Rattle.sk_model.specs.World.{World, phase_of}
 use Rattle.sk_model.specs.Change.{Add, Take, Moves, Passes, Names, Unnames, Keeps, changed, perform}
-use Rattle.sk_model.specs.Class.{class_of, queue_of}
+use Rattle.sk_model.specs.Class.{class_of, queue_of, is_plain, is_queue}
 use Rattle.sk_model.specs.Queues.{pushes, takes, copies_of, end_taken, move_row, add_names}
 use Rattle.sk_model.specs.Deletes.{take_all, delete_as, delete_each, delete, may_go, flush}
-use Rattle.sk_model.specs.Reading.{Words, Said, Refused, Sets, Asks}
-use Rattle.sk_model.specs.Run.{State, Turn, Speaks, turn}
-use Rattle.sk_model.specs.Step.{act, run, is_script_built, edits, edit_queue, edit_names, on_plain, moves, is_built, outcome}
-use Rattle.sk_model.proofs.Texts.{same_row}
-use Rattle.sk_model.proofs.Taking.{there, one_fewer, taken_at_most, first_there}
+use Rattle.sk_model.specs.Reading.{Words, Said, Refused, Sets, Sits, Cuts, Asks}
+use Rattle.sk_model.specs.Run.{State, Turn, ComesTo, Speaks, turn}
+use Rattle.sk_model.specs.Room.{is_full}
+use Rattle.sk_model.specs.Seats.{is_workers, is_for_all}
+use Rattle.sk_model.specs.Step.{act, by_seat, run, is_script_built, edits, edit_queue, edit_names, on_plain, moves, is_built, outcome}
+use Rattle.sk_model.proofs.Taking.{there, one_fewer, taken_at_most, end_there}
 use Rattle.sk_model.proofs.Going.{filter_among}
 use Rattle.sk_model.proofs.Sending.{choice, taking_good, edit_jobs_good, due_good, kill_good, revive_good}
-use Rattle.sk_model.specs.Room.{is_full}
-use Rattle.sk_cmd.specs.declared.command.ScriptCommand.{ScriptCommand}
-use Rattle.sk_cmd.specs.declared.command.ScriptCommand.TheVariants as script
-use Rattle.sk_model.proofs.Good.{Good, good_nothing, good_append, then_others, good_add, good_carry, good_take, good_passes, good_names, good_unnames, good_keeps}
+use Rattle.sk_model.proofs.Working.{where_plain_good, beat_good, join_good, work_good, start_good, fail_good, settle_good, bury_good, back_good}
+use Rattle.sk_model.proofs.Good.{Good, good_nothing, good_append, then_others, good_add, good_carry, good_take, good_turn, good_passes, good_names, good_unnames, good_keeps}
 
 -- ## Queues
 
@@ -48,23 +52,6 @@ takes_good w zero row end most = good_nothing w
 takes_good w (suc n) row end most = let some = there row n w.rows most in
     then_others w (Moves (Take row end)) (takes n row end) (good_take w row end some)
     (takes_good (changed w (Moves (Take row end))) n row end (omega (arith, most, one_fewer row end w.rows some)))
-
--- the last of the rows that pass a test is one of the rows
-pub last_there : (test : Row → Bool) (o : Option Row) (rows : List Row) (row : Row) → last_or o (filter test rows) ≡ Some row → (o ≡ Some row) ⊎ (list_any (is_same row) rows ≡ true)
-last_there test o [] row e = inl e
-last_there test o (other ∷ rows) row e = grind (arith, last_there test o rows row, last_there test (Some other) rows row, same_row)
-
-first_of : (rows : List Row) (row : Row) → first_row rows ≡ Some row → (more : List Row) × (rows ≡ row ∷ more)
-first_of [] row e = absurd (cc e)
-first_of (other ∷ rows) row e = (rows, ap (λ r. r ∷ rows) (cc e))
-
--- the row at an end of a place is there
-pub end_there : (end : Side) (place : Place) (rows : List Row) (row : Row) → row_at_end end place rows ≡ Some row → list_any (is_same row) rows ≡ true
-end_there Left place rows row e = let f = first_of (rows_at place rows) row e in first_there (is_at place) row f.0 rows f.1
-end_there Right place rows row e = one (last_there (is_at place) None rows row e) where
-  one : (None ≡ Some row) ⊎ (list_any (is_same row) rows ≡ true) → list_any (is_same row) rows ≡ true
-  one (inl f) = absurd (cc f)
-  one (inr f) = f
 
 move_row_good : (w : World) (out end : Side) (from to : Place) (found : Option Row) → row_at_end out from w.rows ≡ found → Good w (move_row found out to end).changes
 move_row_good w out end from to None e = good_nothing w
@@ -109,33 +96,17 @@ edits_good w key e class.Queue = edit_queue_good w (queue_of key) e
 edits_good w key e class.Queues = edit_names_good w e
 edits_good w key e (class.Jobs set) = edit_jobs_good w set e
 edits_good w key e class.NoQueue = good_nothing w
+edits_good w key e class.Private = good_nothing w
+edits_good w key e class.NoPrivate = good_nothing w
+edits_good w key e class.Processes = good_nothing w
 edits_good w key e class.Later = good_nothing w
 
 on_plain_good : (w : World) (a : Action) (c : KeyClass) → Good w (on_plain w a c).changes
-on_plain_good w a class.Plain = good_keeps w _
-on_plain_good w a class.Queue = good_nothing w
-on_plain_good w a class.NoQueue = good_nothing w
-on_plain_good w a class.Queues = good_nothing w
-on_plain_good w a (class.Jobs set) = good_nothing w
-on_plain_good w a class.Later = good_nothing w
+on_plain_good w a c = choice w (is_plain c) _ _ (λ y. good_keeps w _) (λ n. good_nothing w)
 
 moves_good : (w : World) (source destination : Bytes) (from to : Side) (c d : KeyClass) → Good w (moves w source destination from to c d).changes
-moves_good w source destination from to class.Plain class.Plain = good_keeps w _
-moves_good w source destination from to class.Queue class.Queue = move_row_good w from to (Queue (queue_of source)) (Queue (queue_of destination)) _ refl
-moves_good w source destination from to class.Plain class.Queue = good_nothing w
-moves_good w source destination from to class.Plain class.NoQueue = good_nothing w
-moves_good w source destination from to class.Plain class.Queues = good_nothing w
-moves_good w source destination from to class.Plain (class.Jobs set) = good_nothing w
-moves_good w source destination from to class.Plain class.Later = good_nothing w
-moves_good w source destination from to class.Queue class.Plain = good_nothing w
-moves_good w source destination from to class.Queue class.NoQueue = good_nothing w
-moves_good w source destination from to class.Queue class.Queues = good_nothing w
-moves_good w source destination from to class.Queue (class.Jobs set) = good_nothing w
-moves_good w source destination from to class.Queue class.Later = good_nothing w
-moves_good w source destination from to class.NoQueue d = good_nothing w
-moves_good w source destination from to class.Queues d = good_nothing w
-moves_good w source destination from to (class.Jobs set) d = good_nothing w
-moves_good w source destination from to class.Later d = good_nothing w
+moves_good w source destination from to c d = choice w (is_plain c && is_plain d) _ _ (λ y. good_keeps w _)
+    (λ n. choice w (is_queue c && is_queue d) _ _ (λ y. move_row_good w from to (Queue (queue_of source)) (Queue (queue_of destination)) _ refl) (λ n. good_nothing w))
 
 -- ## Whole keys
 
@@ -145,6 +116,9 @@ delete_as_good w key class.Queue = let place = Queue (queue_of key) in
     good_append w (take_all (rows_at place w.rows)) (Unnames (queue_of key) ∷ []) (taking_good w (rows_at place w.rows) (filter_among (is_at place) w.rows)) (good_unnames _ (queue_of key))
 delete_as_good w key (class.Jobs set) = taking_good w (rows_at (Set set) w.rows) (filter_among (is_at (Set set)) w.rows)
 delete_as_good w key class.NoQueue = good_nothing w
+delete_as_good w key class.Private = good_nothing w
+delete_as_good w key class.NoPrivate = good_nothing w
+delete_as_good w key class.Processes = good_nothing w
 delete_as_good w key class.Queues = good_nothing w
 delete_as_good w key class.Later = good_nothing w
 
@@ -181,41 +155,50 @@ act_good w (action.Delete keys) = delete_good w keys
 act_good w (action.Move source destination from to) = moves_good w source destination from to (class_of source) (class_of destination)
 act_good w action.Flush = flush_good w
 
-run_good : (w : World) (c : ScriptCommand) → Good w (run w c).changes
-run_good w (script.Due set limit) = due_good w set (nat_abs limit)
-run_good w (script.Revive set text) = revive_good w set text
-run_good w (script.Kill set text) = kill_good w set text
-run_good w (script.Beat ident) = good_nothing w
-run_good w (script.Join ident) = good_nothing w
-run_good w (script.Start text) = good_nothing w
-run_good w (script.Ok text) = good_nothing w
-run_good w (script.Fail text) = good_nothing w
-run_good w (script.Drop text) = good_nothing w
-run_good w (script.Bury text) = good_nothing w
-run_good w (script.Back text) = good_nothing w
-run_good w script.Rescue = good_nothing w
-run_good w (script.Upush text score) = good_nothing w
-run_good w (script.Bpush bid parent complete success death texts) = good_nothing w
-run_good w (script.Badd bid texts) = good_nothing w
-run_good w (script.Bstat bid) = good_nothing w
-run_good w (script.Lead ident) = good_nothing w
-run_good w (script.Cron ident loop slot text) = good_nothing w
-run_good w (script.Where jid) = good_nothing w
-run_good w script.Status = good_nothing w
+by_seat_good : (w : World) (seat : ℕ) (phase : Phase) (c : PlainCommand) → Good w (by_seat w seat phase c).changes
+by_seat_good w seat phase c = choice w (is_workers (action_of c)) _ _ (λ y. work_good w seat phase (action_of c))
+    (λ n. choice w (is_plain_seat phase || is_for_all c) _ _ (λ y. act_good w (action_of c)) (λ n. good_nothing w))
 
-outcome_good : (w : World) (now : ℕ) (c : Command) → Good w (outcome w now c).changes
-outcome_good w now (command.Plain c) = choice w (is_built (action_of c)) _ _
-    (λ y. then_others w (Passes now) _ (good_passes w now) (act_good (changed w (Passes now)) (action_of c))) (λ n. good_nothing w)
-outcome_good w now (command.Script c) = choice w (is_script_built c) _ _
-    (λ y. then_others w (Passes now) _ (good_passes w now) (run_good (changed w (Passes now)) c)) (λ n. good_nothing w)
+run_good : (w : World) (seat : ℕ) (phase : Phase) (c : ScriptCommand) → Good w (run w seat phase c).changes
+run_good w seat phase (script.Beat ident) = beat_good w ident
+run_good w seat phase (script.Join ident) = where_plain_good w phase _ (join_good w seat ident)
+run_good w seat phase (script.Start text) = start_good w phase text
+run_good w seat phase (script.Ok text) = settle_good w seat phase text _ _
+run_good w seat phase (script.Fail text) = fail_good w phase text
+run_good w seat phase (script.Drop text) = settle_good w seat phase text _ _
+run_good w seat phase (script.Bury text) = bury_good w seat phase text
+run_good w seat phase (script.Back text) = back_good w seat phase text
+run_good w seat phase (script.Due set limit) = where_plain_good w phase _ (due_good w set (nat_abs limit))
+run_good w seat phase (script.Revive set text) = where_plain_good w phase _ (revive_good w set text)
+run_good w seat phase (script.Kill set text) = where_plain_good w phase _ (kill_good w set text)
+run_good w seat phase script.Rescue = good_nothing w
+run_good w seat phase (script.Upush text score) = good_nothing w
+run_good w seat phase (script.Bpush bid parent complete success death texts) = good_nothing w
+run_good w seat phase (script.Badd bid texts) = good_nothing w
+run_good w seat phase (script.Bstat bid) = good_nothing w
+run_good w seat phase (script.Lead ident) = good_nothing w
+run_good w seat phase (script.Cron ident loop slot text) = good_nothing w
+run_good w seat phase (script.Where jid) = good_nothing w
+run_good w seat phase script.Status = good_nothing w
+
+outcome_good : (w : World) (seat now : ℕ) (c : Command) → Good w (outcome w seat now c).changes
+outcome_good w seat now (command.Plain c) = choice w (is_built (action_of c)) _ _
+    (λ y. then_others w (Passes now) _ (good_passes w now) (by_seat_good (changed w (Passes now)) seat (phase_of w seat) c)) (λ n. good_nothing w)
+outcome_good w seat now (command.Script c) = choice w (is_script_built c) _ _
+    (λ y. then_others w (Passes now) _ (good_passes w now) (run_good (changed w (Passes now)) seat (phase_of w seat) c)) (λ n. good_nothing w)
 
 turn_good : (s : State) (said : Said) → Good s.world (turn s said).changes
 turn_good s (Refused say) = good_nothing s.world
 turn_good s (Sets now) = good_nothing s.world
-turn_good s (Asks c) = outcome_good s.world s.now c
+turn_good s (Sits seat) = good_nothing s.world
+turn_good s (Cuts seat) = good_turn s.world seat Plain tt
+turn_good s (Asks c) = outcome_good s.world s.seat s.now c
+
+comes_good : (s : State) (said : Said) (t : Turn) → ComesTo s said t → Good s.world t.changes
+comes_good s said t (inl e) = subst (λ (u : Turn). Good s.world u.changes) (sym e) (turn_good s said)
+comes_good s said t (inr (may, e)) = subst (λ (u : Turn). Good s.world u.changes) (sym e) (good_passes s.world s.now)
 
 -- whatever words come, and wherever memory runs out
 pub good : (s : State) (words : Words) (t : Turn) → Speaks s words t → Good s.world t.changes
-good s words t (inl (said, is, e)) = subst (λ (u : Turn). Good s.world u.changes) (sym e) (turn_good s said)
-good s words t (inr (inl e)) = subst (λ (u : Turn). Good s.world u.changes) (sym e) (good_nothing s.world)
-good s words t (inr (inr e)) = subst (λ (u : Turn). Good s.world u.changes) (sym e) (good_passes s.world s.now)
+good s words t (inl (said, is, comes)) = comes_good s said t comes
+good s words t (inr (memory, e)) = subst (λ (u : Turn). Good s.world u.changes) (sym e) (good_nothing s.world)

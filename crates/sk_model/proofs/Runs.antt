@@ -36,7 +36,7 @@ copies_from : (s : State) (before gone : Bytes → ℕ) (commands : List Words) 
 copies_from s before gone [] [] so_far run = tt
 copies_from s before gone (words ∷ commands) (t ∷ turns) so_far run =
     let all : Bytes → ℕ = λ text. pushed text t.changes + before text in
-    let lost : Bytes → ℕ = λ text. taken text t.changes + gone text in
+    let lost : Bytes → ℕ = λ text. taken text s.world t.changes + gone text in
     let now : (text : Bytes) → copies text (perform s.world t.changes) + lost text ≡ all text = λ text. omega (arith, (good s words t run.0).counts text, so_far text) in
     (now, rest_of (λ more. CopiesKeptFrom (perform s.world t.changes) all lost more) t.ends (after s t) commands turns tt (copies_from (after s t) all lost commands turns now) run.1)
 copies_from s before gone [] (t ∷ turns) so_far run = absurd run

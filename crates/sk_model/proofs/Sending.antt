@@ -27,7 +27,7 @@ use Rattle.sk_model.specs.Outcome.{Outcome}
 use Rattle.sk_model.specs.Queues.{copies_of}
 use Rattle.sk_model.specs.Deletes.{take_all}
 use Rattle.sk_model.specs.Sets.{add_as, add_one, add_each, edit_jobs}
-use Rattle.sk_model.specs.Jobs.{merge, put_dead, is_old, surplus, most_dead, moment_score, bury, send, send_each, waiting_rows, due, kill, kill_row, revive, revive_row, revive_as}
+use Rattle.sk_model.specs.Jobs.{merge, put_dead, is_old, surplus, most_dead, moment_score, buried_by, bury, send, send_each, waiting_rows, due, kill, kill_row, revive, revive_row, revive_as}
 use Rattle.sk_model.proofs.Texts.{bytes_tell, same_is}
 use Rattle.sk_model.proofs.Taking.{passes}
 use Rattle.sk_model.proofs.Standing.{still_there}
@@ -55,11 +55,11 @@ row_among text row rows e =
     let first = first_is (filter test rows) row e in
     among_through (row ∷ []) (filter test rows) rows (one_of row first.0 (filter test rows) first.1) (filter_among test rows)
 
-row_there : (text : Bytes) (row : Row) (place : Place) (rows : List Row) → row_of text (rows_at place rows) ≡ Some row → list_any (is_same row) rows ≡ true
+pub row_there : (text : Bytes) (row : Row) (place : Place) (rows : List Row) → row_of text (rows_at place rows) ≡ Some row → list_any (is_same row) rows ≡ true
 row_there text row place rows e = first_among row [] rows (among_through (row ∷ []) (rows_at place rows) rows (row_among text row (rows_at place rows) e) (filter_among (is_at place) rows))
 
 -- it has the text
-row_text : (text : Bytes) (row : Row) (rows : List Row) → row_of text rows ≡ Some row → bytes_eq text row.text ≡ true
+pub row_text : (text : Bytes) (row : Row) (rows : List Row) → row_of text rows ≡ Some row → bytes_eq text row.text ≡ true
 row_text text row rows e =
     let test : Row → Bool = λ other. bytes_eq text other.text in
     let first = first_is (filter test rows) row e in
@@ -122,7 +122,7 @@ apart_by test row other passes_ fails = by_same (is_same row other) refl where
   by_same true e = sym passes_ ∙ ap test (same_is row other e) ∙ fails
   by_same false e = refl
 
-text_is : (a b : Bytes) → bytes_eq a b ≡ true → a ≡ b
+pub text_is : (a b : Bytes) → bytes_eq a b ≡ true → a ≡ b
 text_is a b e = grind (arith, bytes_tell a b)
 
 put_as_good : (w : World) (row : Row) (found : Option Row) → list_any (is_same row) w.rows ≡ true → is_at (Set Dead) row ≡ false → row_of row.text (rows_at (Set Dead) w.rows) ≡ found
@@ -141,12 +141,16 @@ surplus_among w rows all among row =
     let n : ℕ = length young - most_dead in
     omega (arith, append_count (is_same row) (filter (is_old w) rows) (take n young), take_fewer (is_same row) n young, both_parts (is_same row) (is_old w) rows, among row)
 
-bury_good : (w : World) (row : Row) → list_any (is_same row) w.rows ≡ true → is_at (Set Dead) row ≡ false → Good w (bury w row).changes
-bury_good w row there alive =
-    let after : World = perform w (put_dead w row) in
-    good_append w (put_dead w row) _ (put_as_good w row _ there alive refl)
+-- what buries a row, and the trimming of the dead set then
+pub buried_good : (w : World) (put : List Change) → Good w put → Good w (buried_by w put).changes
+buried_good w put one =
+    let after : World = perform w put in
+    good_append w put _ one
     (going_good (λ row. Moves (Trim row)) good_trim (λ w row. refl) after (surplus after (rows_at (Set Dead) after.rows))
     (surplus_among after (rows_at (Set Dead) after.rows) after.rows (filter_among (is_at (Set Dead)) after.rows)))
+
+bury_good : (w : World) (row : Row) → list_any (is_same row) w.rows ≡ true → is_at (Set Dead) row ≡ false → Good w (bury w row).changes
+bury_good w row there alive = buried_good w (put_dead w row) (put_as_good w row _ there alive refl)
 
 -- ## Rows that are sent on, one after another
 

@@ -1,11 +1,12 @@
 -- Rows that are taken one after another are there.
-use Rattle.std.proofs.Common.{◌≡◌, ◌≤◌, ◌<◌, ℕ, zero, suc, List, [], ◌∷◌, refl, arith, Bool, true, false, length}
-use Rattle.std.specs.Prelude.{filter, ℤ, pos, negsuc}
-use Rattle.std.specs.List.{list_any}
+use Rattle.std.proofs.Common.{◌≡◌, ◌≤◌, ◌<◌, ℕ, zero, suc, List, [], ◌∷◌, refl, ap, ◌⊎◌, inl, inr, arith, Bool, true, false, length}
+use Rattle.std.specs.Prelude.{filter, ℤ, pos, negsuc, Option, Some, None}
+use Rattle.std.specs.List.{list_any, last_or}
 use Rattle.sk_cmd.specs.declared.argument.Side.{Side}
 use Rattle.sk_cmd.specs.declared.argument.Side.TheVariants.{Left, Right}
 use Rattle.sk_places.specs.declared.row.Row.{Row}
-use Rattle.sk_places.specs.Rows.{is_same, without_first, without_last, take_row}
+use Rattle.sk_places.specs.declared.row.Place.{Place}
+use Rattle.sk_places.specs.Rows.{is_at, is_same, first_row, row_at_end, rows_at, without_first, without_last, take_row}
 use Rattle.sk_model.specs.Queues.{copies_of, number_taken}
 use Rattle.sk_model.proofs.Texts.{same_row}
 
@@ -54,3 +55,20 @@ passes test row more (other ∷ rows) e = grind (arith, e, passes test row more 
 pub first_there : (test : Row → Bool) (row : Row) (more rows : List Row) → filter test rows ≡ row ∷ more → list_any (is_same row) rows ≡ true
 first_there test row more [] e = absurd (cc e)
 first_there test row more (other ∷ rows) e = grind (arith, e, first_there test row more rows, same_row row)
+
+-- the last of the rows that pass a test is one of the rows
+pub last_there : (test : Row → Bool) (o : Option Row) (rows : List Row) (row : Row) → last_or o (filter test rows) ≡ Some row → (o ≡ Some row) ⊎ (list_any (is_same row) rows ≡ true)
+last_there test o [] row e = inl e
+last_there test o (other ∷ rows) row e = grind (arith, last_there test o rows row, last_there test (Some other) rows row, same_row)
+
+first_of : (rows : List Row) (row : Row) → first_row rows ≡ Some row → (more : List Row) × (rows ≡ row ∷ more)
+first_of [] row e = absurd (cc e)
+first_of (other ∷ rows) row e = (rows, ap (λ r. r ∷ rows) (cc e))
+
+-- the row at an end of a place is there
+pub end_there : (end : Side) (place : Place) (rows : List Row) (row : Row) → row_at_end end place rows ≡ Some row → list_any (is_same row) rows ≡ true
+end_there Left place rows row e = let f = first_of (rows_at place rows) row e in first_there (is_at place) row f.0 rows f.1
+end_there Right place rows row e = one (last_there (is_at place) None rows row e) where
+  one : (None ≡ Some row) ⊎ (list_any (is_same row) rows ≡ true) → list_any (is_same row) rows ≡ true
+  one (inl f) = absurd (cc f)
+  one (inr f) = f

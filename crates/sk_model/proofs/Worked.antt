@@ -34,12 +34,12 @@ use Rattle.sk_model.specs.Life.{Life, Unborn, Live, Muddled, Deleted, stands, li
 limits : Limits
 limits = record { rows = 10; bytes = 1000; batches = 1 }
 
--- a command, and the moment at which the store is handed it
+-- a client's command, and the moment at which the store is handed it
 abbrev At : Type 0
 At = ℕ × PlainCommand
 
 came : World → At → Outcome
-came w c = outcome w c.0 (Plain c.1)
+came w c = outcome w 0 c.0 (Plain c.1)
 
 replies : World → List At → List Reply
 replies w [] = []
@@ -84,12 +84,12 @@ names_of_queues = refl
 managed_keys : replies (first limits) ((0, Lpush q (codes "x" ∷ [])) ∷ (0, Get q) ∷ (0, Set q (codes "x") (record { only_new = false; expire = expire.Never })) ∷ (0, Sadd q (codes "x" ∷ []))
     ∷ (0, Lpush (codes "queue:") (codes "x" ∷ [])) ∷ (0, Llen (codes "queue:")) ∷ (0, Sadd (codes "queues") ([] ∷ [])) ∷ (0, Llen (codes "sq:x")) ∷ (0, Zcard (codes "schedule")) ∷ (0, Zcard (codes "z")) ∷ (0, Zcard q) ∷ (0, Get (codes "k")) ∷ [])
     ≡ number 1 ∷ tells say.WrongType ∷ tells (say.Refused ManagedKey) ∷ tells (say.Refused ManagedKey)
-    ∷ tells (say.Refused ManagedKey) ∷ number 0 ∷ tells (say.Refused ManagedKey) ∷ tells say.NotBuilt ∷ number 0 ∷ number 0 ∷ tells say.WrongType ∷ reply.Null ∷ []
+    ∷ tells (say.Refused ManagedKey) ∷ number 0 ∷ tells (say.Refused ManagedKey) ∷ number 0 ∷ number 0 ∷ number 0 ∷ tells say.WrongType ∷ reply.Null ∷ []
 unfolding limits came replies q r number tells class_of is_built is_utf8 chars edit_at edit_list set_at lib.Utf8.encode
 managed_keys = refl
 
 -- a key stands until its deadline, the moment never falls, and a form that isn't built lets no time pass
-deadlines : replies (first limits) ((7, Set (codes "k") (codes "v") (record { only_new = false; expire = expire.Millis (pos 5) })) ∷ (8, Pttl (codes "k")) ∷ (2, Pttl (codes "k")) ∷ (99, Zcard (codes "processes"))
+deadlines : replies (first limits) ((7, Set (codes "k") (codes "v") (record { only_new = false; expire = expire.Millis (pos 5) })) ∷ (8, Pttl (codes "k")) ∷ (2, Pttl (codes "k")) ∷ (99, Get (codes "stat:failed"))
     ∷ (11, Get (codes "k")) ∷ (12, Get (codes "k")) ∷ (0, Pttl (codes "k")) ∷ [])
     ≡ tells say.Ok ∷ number 4 ∷ number 4 ∷ tells say.NotBuilt ∷ reply.Bulk (codes "v") ∷ reply.Null ∷ reply.Int (negsuc 1) ∷ []
 unfolding limits came replies number tells class_of is_built is_utf8 chars edit_at edit_list set_at lib.Utf8.encode
@@ -106,7 +106,7 @@ other_job = codes "{\"jid\":\"k\",\"class\":\"C\",\"queue\":\"q\",\"args\":[]}"
 -- commands of either kind
 answers : World → List (ℕ × Command) → List Reply
 answers w [] = []
-answers w (c ∷ commands) = (outcome w c.0 c.1).reply ∷ answers (perform w (outcome w c.0 c.1).changes) commands
+answers w (c ∷ commands) = (outcome w 0 c.0 c.1).reply ∷ answers (perform w (outcome w 0 c.0 c.1).changes) commands
 
 schedule : Bytes
 schedule = codes "schedule"

@@ -1,5 +1,5 @@
 -- What the names of keys mean to the store.
-use Rattle.std.specs.Prelude.{Option, Some, None, Bool, true, false, ◌||◌, cond, codes, drop, nat_eq}
+use Rattle.std.specs.Prelude.{Option, Some, None, Bool, true, false, ◌++◌, cond, codes, drop, nat_eq}
 use Rattle.std.specs.List.{starts_with}
 use Rattle.std.specs.Str.{bytes_eq}
 use Rattle.sk_cmd.specs.declared.argument.Scored.{Scored}
@@ -7,15 +7,23 @@ use Rattle.sk_cmd.specs.declared.argument.Scored.TheVariants.{Schedule, Retry, D
 use Rattle.sk_resp.specs.Spelling.{Bytes}
 use Rattle.sk_payload.specs.Member.{is_name}
 use Rattle.sk_model.specs.declared.key_class.KeyClass.{KeyClass}
-use Rattle.sk_model.specs.declared.key_class.KeyClass.TheVariants.{Plain, Queue, NoQueue, Queues, Jobs, Later}
+use Rattle.sk_model.specs.declared.key_class.KeyClass.TheVariants.{Plain, Queue, NoQueue, Queues, Private, NoPrivate, Processes, Jobs, Later}
 
 -- the name behind `queue:`
 abbrev pub queue_of : Bytes → Bytes
 queue_of key = drop 6 key
 
--- one of the managed keys that aren't built yet: private lists, counters and the set of the processes
+-- the identity behind `sq:`
+abbrev pub ident_of : Bytes → Bytes
+ident_of key = drop 3 key
+
+-- the key of a process's private list
+abbrev pub private_key : Bytes → Bytes
+private_key ident = codes "sq:" ++ ident
+
+-- the managed keys that aren't built yet: the counters
 abbrev pub is_later : Bytes → Bool
-is_later key = starts_with nat_eq key (codes "sq:") || (starts_with nat_eq key (codes "stat:") || bytes_eq key (codes "processes"))
+is_later key = starts_with nat_eq key (codes "stat:")
 
 -- the set of jobs that a key names
 abbrev pub set_of : Bytes → Option Scored
@@ -27,13 +35,22 @@ class_by (Some set) = Jobs set
 
 unfoldable pub class_of : Bytes → KeyClass
 class_of key = cond (starts_with nat_eq key (codes "queue:")) (cond (is_name 255 (queue_of key)) Queue NoQueue)
-    (cond (bytes_eq key (codes "queues")) Queues (cond (is_later key) Later (class_by (set_of key))))
+    (cond (starts_with nat_eq key (codes "sq:")) (cond (is_name 255 (ident_of key)) Private NoPrivate)
+    (cond (bytes_eq key (codes "queues")) Queues (cond (bytes_eq key (codes "processes")) Processes
+    (cond (is_later key) Later (class_by (set_of key))))))
 
 -- a key of the clients' own
 abbrev pub is_plain : KeyClass → Bool
 is_plain Plain = true
-is_plain Queue = false
-is_plain NoQueue = false
-is_plain Queues = false
-is_plain (Jobs set) = false
-is_plain Later = false
+is_plain other = false
+
+-- a queue's key
+abbrev pub is_queue : KeyClass → Bool
+is_queue Queue = true
+is_queue other = false
+
+-- a key that begins with `sq:`
+abbrev pub is_private : KeyClass → Bool
+is_private Private = true
+is_private NoPrivate = true
+is_private other = false

@@ -54,6 +54,9 @@ may_go class.Plain = true
 may_go class.Queue = true
 may_go class.NoQueue = false
 may_go class.Queues = false
+may_go class.Private = false
+may_go class.NoPrivate = false
+may_go class.Processes = false
 may_go (class.Jobs set) = true
 may_go class.Later = false
 

@@ -7,10 +7,11 @@ use Rattle.sk_value.specs.declared.entry.Entry.{Entry}
 use Rattle.sk_value.specs.Keys.{at}
 use Rattle.sk_model.specs.declared.key_class.KeyClass.{KeyClass}
 use Rattle.sk_model.specs.declared.key_class.KeyClass.TheVariants as class
-use Rattle.sk_places.specs.declared.row.Place.TheVariants.{Queue, Set}
+use Rattle.sk_places.specs.declared.row.Place.TheVariants.{Queue, Private, Set}
 use Rattle.sk_places.specs.Rows.{pair_of, rows_at, texts_at}
 use Rattle.sk_model.specs.World.{World}
-use Rattle.sk_model.specs.Class.{class_of, queue_of}
+use Rattle.sk_leases.specs.Leased.{idents}
+use Rattle.sk_model.specs.Class.{class_of, queue_of, ident_of}
 
 -- a list as a value without a deadline; where it is empty there is no key
 abbrev pub if_any : {A : Type 0} → (List A → Value) → List A → Option Entry
@@ -22,6 +23,9 @@ held_as w key class.Plain = at key w.keys
 held_as w key class.Queue = if_any value.List (texts_at (Queue (queue_of key)) w.rows)
 held_as w key class.NoQueue = None
 held_as w key class.Queues = if_any value.Set w.names
+held_as w key class.Private = if_any value.List (texts_at (Private (ident_of key)) w.rows)
+held_as w key class.NoPrivate = None
+held_as w key class.Processes = if_any value.Set (idents w.moment w.leases)
 held_as w key (class.Jobs set) = if_any value.Sorted (map pair_of (rows_at (Set set) w.rows))
 held_as w key class.Later = None
 

@@ -63,11 +63,15 @@ pub record Sent : Type 0 where
 abbrev pub nothing : Sent
 nothing = record { moved = 0; buried = 0; trimmed = []; changes = [] }
 
-abbrev pub bury : World → Row → Sent
-bury w row =
-    let after : World = perform w (put_dead w row) in
+-- one is buried by these changes, and then the dead set is trimmed
+abbrev pub buried_by : World → List Change → Sent
+buried_by w put =
+    let after : World = perform w put in
     let gone : List Row = surplus after (rows_at (Set Dead) after.rows) in
-    record { moved = 0; buried = 1; trimmed = map (λ row. row.text) gone; changes = put_dead w row ++ map (λ row. Moves (Trim row)) gone }
+    record { moved = 0; buried = 1; trimmed = map (λ row. row.text) gone; changes = put ++ map (λ row. Moves (Trim row)) gone }
+
+abbrev pub bury : World → Row → Sent
+bury w row = buried_by w (put_dead w row)
 
 -- ## To the queues
 

@@ -1,3 +1,4 @@
+pub mod Phases
 pub mod World
 pub mod Change
 pub mod Outcome
@@ -8,6 +9,8 @@ pub mod Queues
 pub mod Deletes
 pub mod Sets
 pub mod Jobs
+pub mod Seats
+pub mod Workers
 pub mod Step
 pub mod Reading
 pub mod Run

@@ -1,5 +1,5 @@
 -- What the words of a command are to a pipe: a command for the store, a word of the pipe's own, or neither.
-use Rattle.std.specs.Prelude.{◌≡◌, ◌≢◌, ◌||◌, ℕ, ℤ, pos, negsuc, [], ◌∷◌, Option, Some, None, Result, Ok, Err, Bool}
+use Rattle.std.specs.Prelude.{◌≡◌, ◌≢◌, ℕ, ℤ, pos, negsuc, nat_le, cond, [], ◌∷◌, Option, Some, None, Result, Ok, Err, Bool}
 use Rattle.std.specs.Bool.{MatchBool}
 use Rattle.std.specs.Str.{str_eq_ignore_ascii_case}
 use Rattle.sk_resp.specs.Spelling.{Bytes}
@@ -21,13 +21,17 @@ pub data Said : Type 0 where
   Refused : (say : Say) → Said
   -- `SK.NOW`: the moment that the store is handed from now on
   Sets : (now : ℕ) → Said
+  -- `SK.AS`: the seat that sends what follows
+  Sits : (seat : ℕ) → Said
+  -- `SK.CUT`: a seat is cut off
+  Cuts : (seat : ℕ) → Said
   -- a command for the store
   Asks : (command : Command) → Said
 
 abbrev pub is_word : Name → Bytes → Bool
 is_word name word = str_eq_ignore_ascii_case word (spelling name)
 
--- ## SK.NOW milliseconds
+-- ## The pipe's own words: SK.NOW milliseconds, SK.AS seat, SK.CUT seat
 
 -- a moment is a number that isn't below zero
 abbrev pub moment_said : Option ℤ → Said
@@ -35,10 +39,20 @@ moment_said (Some (pos n)) = Sets n
 moment_said (Some (negsuc n)) = Refused say.NotInt
 moment_said None = Refused say.NotInt
 
-abbrev pub IsMoment : Words → Said → Type 0
-IsMoment [] said = said ≡ Refused (say.Arity Now)
-IsMoment (text ∷ []) said = (n : Option ℤ) × IsInt text n × (said ≡ moment_said n)
-IsMoment (text ∷ more ∷ words) said = said ≡ Refused (say.Arity Now)
+abbrev pub last_seat : ℕ
+last_seat = 4294967295
+
+-- and a seat one of 32 bits
+abbrev pub seat_said : (ℕ → Said) → Option ℤ → Said
+seat_said says (Some (pos n)) = cond (nat_le n last_seat) (says n) (Refused say.NotInt)
+seat_said says (Some (negsuc n)) = Refused say.NotInt
+seat_said says None = Refused say.NotInt
+
+-- one number follows the name
+abbrev pub IsNumber : Name → (Option ℤ → Said) → Words → Said → Type 0
+IsNumber name meant [] said = said ≡ Refused (say.Arity name)
+IsNumber name meant (text ∷ []) said = (n : Option ℤ) × IsInt text n × (said ≡ meant n)
+IsNumber name meant (text ∷ more ∷ words) said = said ≡ Refused (say.Arity name)
 
 -- ## Commands for the store
 
@@ -52,11 +66,9 @@ IsAsked words said = (r : Result Command CmdFault) × IsRead words r × (r ≢ E
 
 -- ## All words
 
--- The other two words of a pipe aren't built yet, whatever follows them.
-abbrev pub is_later_word : Bytes → Bool
-is_later_word word = is_word As word || is_word Cut word
-
 abbrev pub IsSaid : Words → Said → Type 0
 IsSaid [] said = IsAsked [] said
-IsSaid (word ∷ words) said = MatchBool (is_word Now word) (IsMoment words said)
-    (MatchBool (is_later_word word) (said ≡ Refused say.NotBuilt) (IsAsked (word ∷ words) said))
+IsSaid (word ∷ words) said = MatchBool (is_word Now word) (IsNumber Now moment_said words said)
+    (MatchBool (is_word As word) (IsNumber As (seat_said Sits) words said)
+    (MatchBool (is_word Cut word) (IsNumber Cut (seat_said Cuts) words said)
+    (IsAsked (word ∷ words) said)))

@@ -1,33 +1,38 @@
 -- Runs of commands over a pipe, one after another.
-use Rattle.std.specs.Prelude.{◌≡◌, ◌⊎◌, ℕ, List, [], ◌∷◌, map, Bool, true, false, ◌||◌}
+use Rattle.std.specs.Prelude.{◌≡◌, ◌⊎◌, ℕ, List, [], ◌∷◌, Err, map, Bool, true, false, ◌||◌, ◌&&◌}
 use Rattle.std.specs.Bool.{MatchBool}
 use Rattle.sk_resp.specs.declared.reply.Reply.{Reply}
 use Rattle.sk_resp.specs.declared.reply.Reply.TheVariants as reply
 use Rattle.sk_resp.specs.declared.say.Say.TheVariants as say
+use Rattle.sk_cmd.specs.declared.cmd_fault.CmdFault.TheVariants.{Memory}
+use Rattle.sk_cmd.specs.Table.{IsRead}
 use Rattle.sk_cmd.specs.declared.command.Command.{Command}
 use Rattle.sk_cmd.specs.declared.command.Command.TheVariants as command
 use Rattle.sk_cmd.specs.declared.command.PlainCommand.TheVariants as plain
 use Rattle.sk_model.specs.declared.limits.Limits.{Limits}
 use Rattle.sk_model.specs.World.{World, first as first_world}
 use Rattle.sk_model.specs.Change.{Change, Passes, perform}
-use Rattle.sk_model.specs.Step.{outcome}
-use Rattle.sk_model.specs.Reading.{Words, Said, Refused, Sets, Asks, IsSaid}
+use Rattle.sk_model.specs.Outcome.{Outcome}
+use Rattle.sk_model.specs.Step.{outcome, cut, may_starve}
+use Rattle.sk_model.specs.Reading.{Words, Said, Refused, Sets, Sits, Cuts, Asks, IsSaid}
 
 -- ## One command
 
--- the store, and the moment that a pipe hands it
+-- the store, the seat that acts, and the moment that a pipe hands it
 pub record State : Type 0 where
   pub world : World
+  pub seat : ℕ
   pub now : ℕ
 
 abbrev pub first : Limits → State
-first limits = record { world = first_world limits; now = 0 }
+first limits = record { world = first_world limits; seat = 0; now = 0 }
 
 -- What a command of a pipe came to.
 pub record Turn : Type 0 where
   pub reply : Reply
   pub changes : List Change
-  -- the moment that the store is handed from then on
+  -- the seat that acts from then on, and the moment that the store is handed
+  pub seat : ℕ
   pub now : ℕ
   -- whether the pipe ends with it
   pub ends : Bool
@@ -38,21 +43,44 @@ quits (command.Plain plain.Quit) = true
 quits (command.Plain plain.Shutdown) = true
 quits other = false
 
+abbrev pub is_ok : Reply → Bool
+is_ok (reply.Say say.Ok) = true
+is_ok other = false
+
+-- a reply after which the pipe goes on, at the same seat and moment
+abbrev pub stays : State → Reply → List Change → Turn
+stays s reply changes = record { reply = reply; changes = changes; seat = s.seat; now = s.now; ends = false }
+
+-- A QUIT or SHUTDOWN that is answered `+OK` ends the pipe.
+abbrev pub asked : State → Command → Outcome → Turn
+asked s c o = record (stays s o.reply o.changes) { ends = quits c && is_ok o.reply }
+
 abbrev pub turn : State → Said → Turn
-turn s (Refused say) = record { reply = reply.Say say; changes = []; now = s.now; ends = false }
-turn s (Sets now) = record { reply = reply.Say say.Ok; changes = []; now = now; ends = false }
-turn s (Asks c) = record { reply = (outcome s.world s.now c).reply; changes = (outcome s.world s.now c).changes; now = s.now; ends = quits c }
+turn s (Refused say) = stays s (reply.Say say) []
+turn s (Sets now) = record (stays s (reply.Say say.Ok) []) { now = now }
+turn s (Sits seat) = record (stays s (reply.Say say.Ok) []) { seat = seat }
+turn s (Cuts seat) = stays s (cut seat).reply (cut seat).changes
+turn s (Asks c) = asked s c (outcome s.world s.seat s.now c)
 
 -- there is no memory for it
 abbrev pub starved : State → List Change → Turn
-starved s changes = record { reply = reply.Say say.Oom; changes = changes; now = s.now; ends = false }
+starved s changes = stays s (reply.Say say.Oom) changes
 
--- The words come to this turn. A command may starve: then nothing changes, or time alone goes on.
+-- There may be no memory for a command, but for a release. There is for the pipe's own words, a cut among them.
+abbrev pub may_starve_at : State → Said → Bool
+may_starve_at s (Asks c) = may_starve s.world s.seat c
+may_starve_at s other = false
+
+-- What is said comes to this turn. A command may starve: then time alone goes on.
+abbrev pub ComesTo : State → Said → Turn → Type 0
+ComesTo s said t = (t ≡ turn s said) ⊎ ((may_starve_at s said ≡ true) × (t ≡ starved s (Passes s.now ∷ [])))
+
+-- The words come to this turn. Where there is no memory to read them, nothing changes.
 abbrev pub Speaks : State → Words → Turn → Type 0
-Speaks s words t = ((said : Said) × IsSaid words said × (t ≡ turn s said)) ⊎ ((t ≡ starved s []) ⊎ (t ≡ starved s (Passes s.now ∷ [])))
+Speaks s words t = ((said : Said) × IsSaid words said × ComesTo s said t) ⊎ (IsRead words (Err Memory) × (t ≡ starved s []))
 
 abbrev pub after : State → Turn → State
-after s t = record { world = perform s.world t.changes; now = t.now }
+after s t = record { world = perform s.world t.changes; seat = t.seat; now = t.now }
 
 -- ## Runs
 

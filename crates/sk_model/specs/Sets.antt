@@ -15,7 +15,7 @@ use Rattle.sk_places.specs.declared.row.Place.TheVariants.{Set}
 use Rattle.sk_places.specs.declared.row.Row.{Row}
 use Rattle.sk_places.specs.Rows.{rows_at, row_in, row_of, pair_of}
 use Rattle.sk_model.specs.World.{World}
-use Rattle.sk_model.specs.Change.{Change, Moves, Add, Carry, changed, perform}
+use Rattle.sk_model.specs.Change.{Change, Moves, Add, Carry, PutBack, changed, perform}
 use Rattle.sk_model.specs.Outcome.{Outcome, refuses}
 use Rattle.sk_model.specs.Deletes.{take_all}
 use Rattle.sk_model.specs.Queues.{length_at}
@@ -47,6 +47,14 @@ abbrev pub add_to : World → List Pair → Scored → Outcome
 add_to w pairs Schedule = add w Schedule pairs
 add_to w pairs Retry = refuses ManagedKey
 add_to w pairs Dead = refuses ManagedKey
+
+-- A worker's text is put back. One that is there gets the score.
+abbrev pub put_as : Scored → Pair → Option Row → Change
+put_as set pair None = Moves (PutBack (row_in set pair))
+put_as set pair (Some row) = Moves (Carry row Left (Set set) pair.0 Left)
+
+abbrev pub put_back : World → Scored → Pair → Change
+put_back w set pair = put_as set pair (row_of pair.1 (rows_at (Set set) w.rows))
 
 -- ## What takes rows away
 

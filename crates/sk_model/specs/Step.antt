@@ -1,13 +1,16 @@
 -- One command for the store: from the world, to a reply and changes.
-use Rattle.std.specs.Prelude.{◌≡◌, ◌⊎◌, ℕ, [], ◌∷◌, List, Bool, true, false, cond, not, ◌&&◌, nat_abs}
+use Rattle.std.specs.Prelude.{◌≡◌, ◌⊎◌, ℕ, [], ◌∷◌, List, Bool, true, false, cond, not, ◌&&◌, ◌||◌, nat_abs}
 use Rattle.std.specs.List.{list_all}
 use Rattle.sk_resp.specs.Spelling.{Bytes}
 use Rattle.sk_resp.specs.declared.reply.Reply.TheVariants as reply
 use Rattle.sk_resp.specs.declared.say.Say.TheVariants as say
-use Rattle.sk_resp.specs.declared.refusal.Refusal.TheVariants.{ManagedKey}
+use Rattle.sk_resp.specs.declared.refusal.Refusal.TheVariants.{ManagedKey, OutOfTurn}
 use Rattle.sk_cmd.specs.declared.argument.Side.{Side}
 use Rattle.sk_cmd.specs.declared.command.Command.{Command}
 use Rattle.sk_cmd.specs.declared.command.Command.TheVariants as command
+use Rattle.sk_cmd.specs.declared.command.PlainCommand.{PlainCommand}
+use Rattle.sk_cmd.specs.declared.command.ScriptCommand.{ScriptCommand}
+use Rattle.sk_cmd.specs.declared.command.ScriptCommand.TheVariants as script
 use Rattle.sk_value.specs.declared.action.Action.{Action}
 use Rattle.sk_value.specs.declared.action.Action.TheVariants as action
 use Rattle.sk_value.specs.declared.edit.Edit.{Edit}
@@ -19,33 +22,28 @@ use Rattle.sk_value.specs.Values.{look_at}
 use Rattle.sk_value.specs.Apply.{applied, Applied}
 use Rattle.sk_model.specs.declared.key_class.KeyClass.{KeyClass}
 use Rattle.sk_model.specs.declared.key_class.KeyClass.TheVariants as class
+use Rattle.sk_model.specs.declared.phase.End.TheVariants.{Returned, Discarded}
+use Rattle.sk_model.specs.declared.phase.Phase.{Phase}
+use Rattle.sk_model.specs.declared.phase.Phase.TheVariants.{Plain}
 use Rattle.sk_places.specs.declared.row.Place.TheVariants.{Queue}
-use Rattle.sk_model.specs.World.{World}
-use Rattle.sk_model.specs.Change.{Passes, Keeps, changed}
-use Rattle.sk_model.specs.Class.{class_of, queue_of}
+use Rattle.sk_model.specs.Phases.{is_plain as is_plain_seat}
+use Rattle.sk_model.specs.World.{World, phase_of}
+use Rattle.sk_model.specs.Change.{Passes, Keeps, Turns, changed}
+use Rattle.sk_model.specs.Class.{class_of, queue_of, is_plain, is_queue}
 use Rattle.sk_model.specs.Held.{held}
 use Rattle.sk_model.specs.Outcome.{Outcome, says, tells, refuses, reply_of}
 use Rattle.sk_model.specs.Queues.{push, remove, move, add_names}
 use Rattle.sk_model.specs.Sets.{edit_jobs}
 use Rattle.sk_model.specs.Jobs.{due, kill, revive}
-use Rattle.sk_cmd.specs.declared.argument.Scored.TheVariants.{Retry}
-use Rattle.sk_cmd.specs.declared.command.ScriptCommand.{ScriptCommand}
-use Rattle.sk_cmd.specs.declared.command.ScriptCommand.TheVariants as script
 use Rattle.sk_model.specs.Deletes.{delete, flush}
+use Rattle.sk_model.specs.Seats.{is_workers, is_for_all, releases, where_plain}
+use Rattle.sk_model.specs.Workers.{beat, join, work, start, fired, settle, fail, bury, back}
 
 -- ## Which commands are built
 
 abbrev pub names_later : KeyClass → Bool
 names_later class.Later = true
-names_later class.Plain = false
-names_later class.Queue = false
-names_later class.NoQueue = false
-names_later class.Queues = false
-names_later (class.Jobs set) = false
-
-abbrev pub is_retry : KeyClass → Bool
-is_retry (class.Jobs Retry) = true
-is_retry other = false
+names_later other = false
 
 -- the keys that an action names
 abbrev pub keys_of : Action → List Bytes
@@ -61,14 +59,9 @@ keys_of (action.Delete keys) = keys
 keys_of (action.Move source destination from to) = source ∷ destination ∷ []
 keys_of action.Flush = []
 
--- ZADD on `retry` is a worker's.
-abbrev pub is_workers : Action → Bool
-is_workers (action.Edit key (edit.Zadd pairs)) = is_retry (class_of key)
-is_workers other = false
-
--- A command is built unless it names a key that isn't built yet, or is a worker's.
+-- A command is built unless it names a key that isn't built yet.
 unfoldable pub is_built : Action → Bool
-is_built a = not (is_workers a) && list_all (λ key. not (names_later (class_of key))) (keys_of a)
+is_built a = list_all (λ key. not (names_later (class_of key))) (keys_of a)
 
 -- ## Keys of the clients' own
 
@@ -78,8 +71,7 @@ on_keys w a = let done : Applied = applied w.moment a w.keys in record { reply =
 
 -- A write on a managed key that isn't listed here is refused.
 abbrev pub on_plain : World → Action → KeyClass → Outcome
-on_plain w a class.Plain = on_keys w a
-on_plain w a other = refuses ManagedKey
+on_plain w a c = cond (is_plain c) (on_keys w a) (refuses ManagedKey)
 
 -- ## Edits
 
@@ -99,14 +91,16 @@ edits w key e class.Plain = on_keys w (action.Edit key e)
 edits w key e class.Queue = edit_queue w (queue_of key) e
 edits w key e class.Queues = edit_names w e
 edits w key e class.NoQueue = refuses ManagedKey
+edits w key e class.Private = refuses ManagedKey
+edits w key e class.NoPrivate = refuses ManagedKey
+edits w key e class.Processes = refuses ManagedKey
 edits w key e (class.Jobs set) = edit_jobs w set e
 edits w key e class.Later = refuses ManagedKey
 
 -- LMOVE goes between two queues, or between two plain keys.
 abbrev pub moves : World → Bytes → Bytes → Side → Side → KeyClass → KeyClass → Outcome
-moves w source destination from to class.Plain class.Plain = on_keys w (action.Move source destination from to)
-moves w source destination from to class.Queue class.Queue = move w (Queue (queue_of source)) (Queue (queue_of destination)) from to
-moves w source destination from to _ _ = refuses ManagedKey
+moves w source destination from to c d = cond (is_plain c && is_plain d) (on_keys w (action.Move source destination from to))
+    (cond (is_queue c && is_queue d) (move w (Queue (queue_of source)) (Queue (queue_of destination)) from to) (refuses ManagedKey))
 
 -- ## Every action
 
@@ -123,40 +117,69 @@ act w (action.Delete keys) = delete w keys
 act w (action.Move source destination from to) = moves w source destination from to (class_of source) (class_of destination)
 act w action.Flush = flush w
 
+-- What a seat in this phase sends: a worker's command, or one that all seats may send, or, from a Plain seat, any other.
+abbrev pub by_seat : World → ℕ → Phase → PlainCommand → Outcome
+by_seat w seat phase c = cond (is_workers (action_of c)) (work w seat phase (action_of c))
+    (cond (is_plain_seat phase || is_for_all c) (act w (action_of c)) (refuses OutOfTurn))
+
+-- ## The commands of the store's own
+
+abbrev pub is_script_built : ScriptCommand → Bool
+is_script_built script.Rescue = false
+is_script_built (script.Upush text score) = false
+is_script_built (script.Bpush bid parent complete success death texts) = false
+is_script_built (script.Badd bid texts) = false
+is_script_built (script.Bstat bid) = false
+is_script_built (script.Lead ident) = false
+is_script_built (script.Cron ident loop slot text) = false
+is_script_built (script.Where jid) = false
+is_script_built script.Status = false
+is_script_built other = true
+
+abbrev pub run : World → ℕ → Phase → ScriptCommand → Outcome
+run w seat phase (script.Beat ident) = beat ident
+run w seat phase (script.Join ident) = where_plain phase (join w seat ident)
+run w seat phase (script.Start text) = start phase text
+run w seat phase (script.Ok text) = settle seat phase text Returned fired
+run w seat phase (script.Fail text) = fail phase text
+run w seat phase (script.Drop text) = settle seat phase text Discarded (reply.Say say.Ok)
+run w seat phase (script.Bury text) = bury w seat phase text
+run w seat phase (script.Back text) = back w seat phase text
+run w seat phase (script.Due set limit) = where_plain phase (due w set (nat_abs limit))
+run w seat phase (script.Revive set text) = where_plain phase (revive w set text)
+run w seat phase (script.Kill set text) = where_plain phase (kill w set text)
+run w seat phase other = tells say.NotBuilt
+
 -- ## The step
 
 -- what is done at a moment
 abbrev pub at_moment : ℕ → Outcome → Outcome
 at_moment now o = record o { changes = Passes now ∷ o.changes }
 
-abbrev pub plain_outcome : World → ℕ → Action → Outcome
-plain_outcome w now a = cond (is_built a) (at_moment now (act (changed w (Passes now)) a)) (tells say.NotBuilt)
+abbrev pub plain_outcome : World → ℕ → ℕ → PlainCommand → Outcome
+plain_outcome w seat now c = cond (is_built (action_of c)) (at_moment now (by_seat (changed w (Passes now)) seat (phase_of w seat) c)) (tells say.NotBuilt)
 
-abbrev pub is_script_built : ScriptCommand → Bool
-is_script_built (script.Due set limit) = true
-is_script_built (script.Revive set text) = true
-is_script_built (script.Kill set text) = true
-is_script_built other = false
+abbrev pub script_outcome : World → ℕ → ℕ → ScriptCommand → Outcome
+script_outcome w seat now c = cond (is_script_built c) (at_moment now (run (changed w (Passes now)) seat (phase_of w seat) c)) (tells say.NotBuilt)
 
--- what a command of the store's own comes to; one that isn't built is told so below
-abbrev pub run : World → ScriptCommand → Outcome
-run w (script.Due set limit) = due w set (nat_abs limit)
-run w (script.Revive set text) = revive w set text
-run w (script.Kill set text) = kill w set text
-run w other = tells say.NotBuilt
+-- What the store makes of a command that a seat hands it at a moment. A form that isn't built leaves the world as it is.
+abbrev pub outcome : World → ℕ → ℕ → Command → Outcome
+outcome w seat now (command.Plain c) = plain_outcome w seat now c
+outcome w seat now (command.Script c) = script_outcome w seat now c
 
-abbrev pub script_outcome : World → ℕ → ScriptCommand → Outcome
-script_outcome w now c = cond (is_script_built c) (at_moment now (run (changed w (Passes now)) c)) (tells say.NotBuilt)
-
--- What the store makes of a command that it is handed at a moment. A form that isn't built leaves the world as it is.
-abbrev pub outcome : World → ℕ → Command → Outcome
-outcome w now (command.Plain c) = plain_outcome w now (action_of c)
-outcome w now (command.Script c) = script_outcome w now c
+-- The seat is cut off: it is Plain from then on, and nothing else changes. Not even time goes on.
+abbrev pub cut : ℕ → Outcome
+cut seat = record { reply = reply.Say say.Ok; changes = Turns seat Plain ∷ [] }
 
 -- there is no memory for it: time goes on, and nothing else changes
 abbrev pub starves : ℕ → Outcome
 starves now = record { reply = reply.Say say.Oom; changes = Passes now ∷ [] }
 
+-- whether there may be no memory for the command: there is always some for a release
+abbrev pub may_starve : World → ℕ → Command → Bool
+may_starve w seat (command.Plain c) = not (releases (phase_of w seat) (action_of c))
+may_starve w seat (command.Script c) = true
+
 -- From the world, the command comes to this outcome. It may starve.
-abbrev pub Steps : World → ℕ → Command → Outcome → Type 0
-Steps w now c o = (o ≡ outcome w now c) ⊎ (o ≡ starves now)
+abbrev pub Steps : World → ℕ → ℕ → Command → Outcome → Type 0
+Steps w seat now c o = (o ≡ outcome w seat now c) ⊎ ((may_starve w seat c ≡ true) × (o ≡ starves now))

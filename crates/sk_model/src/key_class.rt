@@ -12,8 +12,14 @@ pub enum KeyClass {
     NoQueue,
     /// `queues`: the set of the queues' names.
     Queues,
+    /// `sq:` and a name of at most 255 bytes: the private list of the worker process of this identity.
+    Private,
+    /// `sq:` and what is no name. Nothing is ever there.
+    NoPrivate,
+    /// `processes`: the set of the identities of the processes whose heartbeats stand.
+    Processes,
     /// `schedule`, `retry`, `dead`: a set of jobs with scores.
     Jobs(Scored),
-    /// Another of the keys that the store manages. These aren't built yet.
+    /// `stat:` and more: a counter. These aren't built yet.
     Later,
 }

@@ -4,7 +4,9 @@
 mod key_class;
 mod laws;
 mod limits;
+mod phase;
 
 pub use key_class::KeyClass;
 pub use laws::{live_jobs_stand, nothing_is_lost, words_have_one_reading};
 pub use limits::Limits;
+pub use phase::{End, Phase};

@@ -1,0 +1,148 @@
+-- Which jobs are kept after a change.
+use Rattle.std.proofs.Common.{◌≡◌, ℕ, ℤ, sym, ap, subst, refl, ◌∙◌, arith, Bool, true, false, cond}
+use Rattle.std.specs.List.{list_any}
+use Rattle.std.specs.Ordering.{nat_cmp, is_eq}
+use Rattle.std.proofs.lemmas.Bool.Decides.{nat_tests}
+use Rattle.sk_resp.specs.Spelling.{Bytes}
+use Rattle.sk_cmd.specs.declared.argument.Side.{Side}
+use Rattle.sk_cmd.specs.declared.argument.Side.TheVariants.{Left}
+use Rattle.sk_payload.specs.Head.{names}
+use Rattle.sk_places.specs.declared.row.Place.{Place}
+use Rattle.sk_places.specs.declared.row.Place.TheVariants.{Private}
+use Rattle.sk_places.specs.declared.row.Row.{Row}
+use Rattle.sk_places.specs.Rows.{is_same, row_at, take_row}
+use Rattle.sk_model.specs.declared.phase.End.{End}
+use Rattle.sk_model.specs.declared.phase.End.TheVariants as end
+use Rattle.sk_model.specs.declared.phase.Phase.{Phase}
+use Rattle.sk_model.specs.declared.phase.Phase.TheVariants.{Plain, Idle, Held, Put, Settled}
+use Rattle.sk_model.specs.World.{World, phase_of}
+use Rattle.sk_model.specs.Phases.{phase_in, has}
+use Rattle.sk_model.specs.Change.{Add, Carry, Merge, PutBack, Free, Moves, Turns, carried, freed, moved, changed}
+use Rattle.sk_model.specs.Life.{Life, Unborn, Live, Muddled, Returned, Discarded, Deleted, Trimmed, IsKept, is_newer, outranks, fresh, ended, freed_life, life_after, life_of}
+use Rattle.sk_model.proofs.Standing.{some, some-put_row, some-take_row, some-others, some-merged, some_weaker}
+use Rattle.sk_model.proofs.Turned.{has_some, phase_turned}
+
+-- Where no text is lost and no seat turns, a job is kept on.
+pub kept_by_texts : (w v : World) (jid : Bytes) → ((test : Bytes → Bool) → some test w.rows ≡ true → some test v.rows ≡ true) → v.phases ≡ w.phases → IsKept w jid → IsKept v jid
+kept_by_texts w v jid texts phases k = record {
+  standing = texts (λ text. names text jid) k.standing;
+  newer = λ seat ident held is named. texts (is_newer held jid) (k.newer seat ident held (ap (λ ps. phase_in ps seat) (sym phases) ∙ is) named);
+}
+
+-- no life is live after its end
+ended_not_live : (end life : Life) → (end ≡ Live → ⊥) → ended end life ≡ Live → ⊥
+ended_not_live end Unborn other live = cc live
+ended_not_live end Live other live = other live
+ended_not_live end Muddled other live = cc live
+ended_not_live end Returned other live = cc live
+ended_not_live end Discarded other live = cc live
+ended_not_live end Deleted other live = cc live
+ended_not_live end Trimmed other live = cc live
+
+-- ## A row comes
+
+comes_on : (w : World) (row : Row) (end : Side) (jid : Bytes) → IsKept w jid → IsKept (moved w (Add row end)) jid
+comes_on w row end jid k = kept_by_texts w (moved w (Add row end)) jid (λ test stood. some-put_row test end row w.rows ∙ grind (arith, stood)) refl k
+
+-- a fresh job is in no seat's hands
+fresh_kept : (w : World) (row : Row) (end : Side) (jid : Bytes) → names row.text jid ≡ true → fresh w jid ≡ true → IsKept (moved w (Add row end)) jid
+fresh_kept w row end jid named new = record {
+  standing = some-put_row (λ text. names text jid) end row w.rows ∙ grind (arith, named);
+  newer = λ seat ident held is of_it.
+      let has_it : has jid (phase_of w seat) ≡ true = ap (has jid) is ∙ of_it in
+      let seen = has_some w.phases seat jid has_it in
+      grind (arith, seen, new);
+}
+
+pub kept_add : (w : World) (row : Row) (end : Side) (jid : Bytes) (life : Life) → (life ≡ Live → IsKept w jid) → life_after w jid life (Moves (Add row end)) ≡ Live → IsKept (moved w (Add row end)) jid
+kept_add w row end jid life was live = by_name (names row.text jid) (fresh w jid) refl refl live where
+  by_name : (named new : Bool) → names row.text jid ≡ named → fresh w jid ≡ new → cond named (cond new Live (ended Muddled life)) life ≡ Live → IsKept (moved w (Add row end)) jid
+  by_name true true e f live = fresh_kept w row end jid e f
+  by_name true false e f live = absurd (ended_not_live Muddled life (λ m. cc m) live)
+  by_name false new e f live = comes_on w row end jid (was live)
+
+pub kept_put : (w : World) (row : Row) (jid : Bytes) → IsKept w jid → IsKept (moved w (PutBack row)) jid
+kept_put w row jid k = kept_by_texts w (moved w (PutBack row)) jid (λ test stood. some-put_row test Left row w.rows ∙ grind (arith, stood)) refl k
+
+-- ## A row goes to another place, or becomes one with another
+
+pub kept_carry : (w : World) (row : Row) (from : Side) (to : Place) (score : ℤ) (end : Side) (jid : Bytes) → IsKept w jid → IsKept (moved w (Carry row from to score end)) jid
+kept_carry w row from to score end jid k =
+    kept_by_texts w (moved w (Carry row from to score end)) jid (λ test stood. some-put_row test end (carried row to score) (take_row from row w.rows) ∙ some-take_row test from row w.rows stood) refl k
+
+pub kept_merge : (w : World) (row other : Row) (jid : Bytes) → row.text ≡ other.text → is_same row other ≡ false → list_any (is_same other) w.rows ≡ true → IsKept w jid → IsKept (moved w (Merge row)) jid
+kept_merge w row other jid e apart there k = kept_by_texts w (moved w (Merge row)) jid (λ test stood. some-merged test row other w.rows e apart there stood) refl k
+
+-- ## A row goes
+
+-- one of another job
+other_goes : (w : World) (row : Row) (from : Side) (jid : Bytes) → names row.text jid ≡ false → IsKept w jid → IsKept (record w { rows = take_row from row w.rows }) jid
+other_goes w row from jid other k = record {
+  standing = some-others (λ text. names text jid) from row w.rows other k.standing;
+  newer = λ seat ident held is named. some-others (is_newer held jid) from row w.rows (grind (arith, other)) (k.newer seat ident held is named);
+}
+
+-- or one of the job, which ends it
+pub kept_gone : (w : World) (row : Row) (from : Side) (jid : Bytes) (life end : Life) → (end ≡ Live → ⊥) → (life ≡ Live → IsKept w jid) → cond (names row.text jid) (ended end life) life ≡ Live → IsKept (record w { rows = take_row from row w.rows }) jid
+kept_gone w row from jid life end over was live = by_name (names row.text jid) refl live where
+  by_name : (named : Bool) → names row.text jid ≡ named → cond named (ended end life) life ≡ Live → IsKept (record w { rows = take_row from row w.rows }) jid
+  by_name true e live = absurd (ended_not_live end life over live)
+  by_name false e live = other_goes w row from jid e (was live)
+
+-- ## A worker releases what it has put back
+
+-- nothing is newer than itself
+not_newer : (held jid : Bytes) → is_newer held jid held ≡ false
+not_newer held jid = grind (arith, nat_tests)
+
+module _ (w : World) (seat : ℕ) (ident held jid : Bytes) (is : phase_of w seat ≡ Put ident held) (k : IsKept w jid) where
+  -- a newer row of the job outlives the release
+  newer_left : names held jid ≡ true → some (is_newer held jid) (take_row Left (row_at (Private ident) held) w.rows) ≡ true
+  newer_left named = some-others (is_newer held jid) Left (row_at (Private ident) held) w.rows (not_newer held jid) (k.newer seat ident held is named)
+
+  -- what the test looks for is left, where it isn't in the payload, or else is in all that is newer
+  left_by_release : (test : Bytes → Bool) → (test held ≡ true → (names held jid ≡ true) × ((text : Bytes) → is_newer held jid text ≡ true → test text ≡ true)) → some test w.rows ≡ true
+      → some test (take_row Left (row_at (Private ident) held) w.rows) ≡ true
+  left_by_release test newer stood = by_test (test held) refl where
+    by_test : (b : Bool) → test held ≡ b → some test (take_row Left (row_at (Private ident) held) w.rows) ≡ true
+    by_test true e = some_weaker (is_newer held jid) test (take_row Left (row_at (Private ident) held) w.rows) (newer e).1 (newer_left (newer e).0)
+    by_test false e = some-others test Left (row_at (Private ident) held) w.rows e stood
+
+  released_put : IsKept (freed w (Put ident held)) jid
+  released_put = record {
+    standing = left_by_release (λ text. names text jid) (λ y. (y, λ text m. grind (arith, m))) k.standing;
+    newer = λ other ident' held' is' named'. left_by_release (is_newer held' jid) (λ y. (grind (arith, y), λ text m. grind (arith, nat_tests, y, m))) (k.newer other ident' held' is' named');
+  }
+
+not_live : (e : End) → life_of e ≡ Live → ⊥
+not_live end.Returned live = cc live
+not_live end.Discarded live = cc live
+
+freed_kept : (w : World) (seat : ℕ) (phase : Phase) (jid : Bytes) (life : Life) → phase_of w seat ≡ phase → (life ≡ Live → IsKept w jid) → freed_life phase jid life ≡ Live → IsKept (freed w phase) jid
+freed_kept w seat Plain jid before is was live = was live
+freed_kept w seat (Idle ident) jid before is was live = was live
+freed_kept w seat (Held ident held) jid before is was live = was live
+freed_kept w seat (Put ident held) jid before is was live = released_put w seat ident held jid is (was live)
+freed_kept w seat (Settled ident held end) jid before is was live = kept_gone w (row_at (Private ident) held) Left jid before (life_of end) (not_live end) was live
+
+pub kept_free : (w : World) (seat : ℕ) (jid : Bytes) (life : Life) → (life ≡ Live → IsKept w jid) → life_after w jid life (Moves (Free seat)) ≡ Live → IsKept (moved w (Free seat)) jid
+kept_free w seat jid life was live = freed_kept w seat (phase_of w seat) jid life refl was live
+
+-- ## A seat turns
+
+-- a seat that has put a payload back needs a newer row of the job
+abbrev pub Ready : World → Phase → Type 0
+Ready w Plain = Unit {0}
+Ready w (Idle ident) = Unit {0}
+Ready w (Held ident held) = Unit {0}
+Ready w (Put ident held) = (jid : Bytes) → names held jid ≡ true → outranks w held jid ≡ true
+Ready w (Settled ident held end) = Unit {0}
+
+pub kept_turn : (w : World) (seat : ℕ) (phase : Phase) (jid : Bytes) → Ready w phase → IsKept w jid → IsKept (changed w (Turns seat phase)) jid
+kept_turn w seat phase jid ready k = record {
+  standing = k.standing;
+  newer = λ other ident held is named. by_seat other ident held named (is_eq (nat_cmp other seat)) (sym (phase_turned w.phases seat other phase) ∙ is);
+} where
+  by_seat : (other : ℕ) (ident held : Bytes) → names held jid ≡ true → (same : Bool) → cond same phase (phase_of w other) ≡ Put ident held → outranks w held jid ≡ true
+  by_seat other ident held named true is = subst (Ready w) is ready jid named
+  by_seat other ident held named false is = k.newer other ident held is named

@@ -1,0 +1,161 @@
+-- Worked commands of workers, computed from the definitions.
+use Rattle.std.proofs.Common.{◌≡◌, ℕ, ℤ, ◌*◌, List, [], ◌∷◌, refl, true}
+use Rattle.std.specs.Prelude.{codes, pos, negsuc, map}
+use Rattle.std.specs.Str.{is_utf8, chars}
+use Rattle.std.specs.Fmt.{digits}
+use Rattle.serde_json.proofs.OnLiterals.{serde_json_on_literals}
+use Rattle.sk_resp.specs.Spelling.{Bytes, bulk}
+use Rattle.sk_resp.specs.Reply.{wire}
+use Rattle.sk_resp.specs.declared.reply.Reply.{Reply}
+use Rattle.sk_resp.specs.declared.reply.Reply.TheVariants as reply
+use Rattle.sk_resp.specs.declared.refusal.Refusal.TheVariants.{NotWorker, OutOfTurn, NoProcess, BadPayload}
+use Rattle.sk_resp.specs.declared.say.Say.{Say}
+use Rattle.sk_resp.specs.declared.say.Say.TheVariants as say
+use Rattle.sk_payload.specs.Head.{head, head_of_value, head_of_object}
+use Rattle.sk_payload.specs.Follows.{follows}
+use Rattle.sk_cmd.specs.declared.argument.Side.TheVariants.{Left, Right}
+use Rattle.sk_cmd.specs.declared.command.Command.{Command}
+use Rattle.sk_cmd.specs.declared.command.Command.TheVariants.{Plain, Script}
+use Rattle.sk_cmd.specs.declared.command.PlainCommand.TheVariants.{Lpush, Lrange, Llen, Lrem, Lmove, Smembers, Shutdown, Zadd, Zrange, Zscore, Del, Flushall}
+use Rattle.sk_cmd.specs.declared.command.ScriptCommand.TheVariants as script
+use Rattle.sk_leases.specs.Lists.{put}
+use Rattle.sk_value.specs.Apply.{edit_at}
+use Rattle.sk_value.specs.Lists.{edit_list}
+use Rattle.sk_model.specs.declared.limits.Limits.{Limits}
+use Rattle.sk_model.specs.World.{World, first}
+use Rattle.sk_model.specs.Change.{perform}
+use Rattle.sk_model.specs.Class.{class_of}
+use Rattle.sk_model.specs.Outcome.{Outcome}
+use Rattle.sk_model.specs.Step.{is_built, outcome, cut}
+use Rattle.sk_model.specs.Life.{Life, Unborn, Live, Muddled, Returned, Discarded, Deleted, life_through}
+
+-- What comes to a store.
+data Event : Type 0 where
+  By : (seat now : ℕ) → (command : Command) → Event
+  Off : (seat : ℕ) → Event
+
+came : World → Event → Outcome
+came w (By seat now c) = outcome w seat now c
+came w (Off seat) = cut seat
+
+replies : World → List Event → List Reply
+replies w [] = []
+replies w (e ∷ events) = (came w e).reply ∷ replies (perform w (came w e).changes) events
+
+life_of : World → Bytes → Life → List Event → Life
+life_of w jid before [] = before
+life_of w jid before (e ∷ events) = life_of (perform w (came w e).changes) jid (life_through w jid before (came w e).changes) events
+
+limits : Limits
+limits = record { rows = 10; bytes = 1000; batches = 1 }
+
+number : ℕ → Reply
+number n = reply.Int (pos n)
+
+texts : List Bytes → Reply
+texts list = reply.Array (map bulk list)
+
+tells : Say → Reply
+tells say = reply.Say say
+
+q : Bytes
+q = codes "queue:q"
+
+w1 : Bytes
+w1 = codes "w:1"
+
+list : Bytes
+list = codes "sq:w:1"
+
+retries : Bytes
+retries = codes "retry"
+
+-- a job, and its text after a first failure
+job : Bytes
+job = codes "{\"jid\":\"j\",\"class\":\"C\",\"queue\":\"q\",\"args\":[]}"
+
+failed : Bytes
+failed = codes "{\"jid\":\"j\",\"class\":\"C\",\"queue\":\"q\",\"args\":[],\"retry_count\":0}"
+
+-- the seat joins the process and fetches
+beats : ℕ → Event
+beats seat = By seat 0 (Script (script.Beat w1))
+
+joins : ℕ → Event
+joins seat = By seat 0 (Script (script.Join w1))
+
+fetches : ℕ → Event
+fetches seat = By seat 0 (Plain (Lmove q list Right Left))
+
+releases : ℕ → Bytes → Event
+releases seat text = By seat 0 (Plain (Lrem list (pos 1) text))
+
+-- before a fetch no job can be told of, and no seat joins a process without a heartbeat
+before_a_fetch : replies (first limits) (joins 1 ∷ By 1 0 (Script (script.Start job)) ∷ beats 1 ∷ By 1 0 (Plain (Smembers (codes "processes"))) ∷ joins 1 ∷ fetches 1 ∷ By 1 0 (Script (script.Start job)) ∷ joins 1 ∷ releases 1 job
+    ∷ By 1 0 (Plain (Lpush q (job ∷ []))) ∷ By 1 0 (Plain (Del (q ∷ []))) ∷ By 1 0 (Plain Shutdown) ∷ fetches 1 ∷ By 1 0 (Script (script.Start (codes "x"))) ∷ By 1 0 (Script (script.Start job)) ∷ [])
+    ≡ tells (say.Refused NoProcess) ∷ tells (say.Refused NotWorker) ∷ tells say.Ok ∷ texts (w1 ∷ []) ∷ tells say.Ok ∷ reply.Null ∷ tells (say.Refused OutOfTurn) ∷ tells (say.Refused OutOfTurn) ∷ tells (say.Refused OutOfTurn)
+    ∷ number 1 ∷ tells (say.Refused OutOfTurn) ∷ tells (say.Refused OutOfTurn) ∷ reply.Bulk job ∷ tells (say.Refused OutOfTurn) ∷ tells say.Ok ∷ []
+unfolding put came replies limits number texts tells q w1 list job beats joins fetches releases serde_json_on_literals head head_of_value head_of_object is_utf8 chars digits class_of is_built edit_at edit_list lib.Utf8.encode
+before_a_fetch = refl
+
+-- a retry's score, and the reply of a command on callbacks of which none fell due
+at_second : ℕ → ℤ
+at_second n = pos (n * 1000000)
+
+nothing_due : Reply
+nothing_due = texts []
+
+report : ℕ → ℕ → Reply
+report moved buried = reply.Array (wire (number moved) ∷ wire (number buried) ∷ wire (texts []) ∷ wire (texts []) ∷ [])
+
+-- Two workers of one process hold the same bytes. Each fails, puts its text back and releases one row; the text is there once, with the later score.
+twins : replies (first limits) (By 0 0 (Plain (Lpush q (job ∷ job ∷ []))) ∷ beats 1 ∷ joins 1 ∷ joins 2 ∷ fetches 1 ∷ fetches 2 ∷ By 1 0 (Script (script.Fail job)) ∷ By 1 0 (Plain (Zadd retries ((at_second 100, failed) ∷ []))) ∷ releases 1 job
+    ∷ By 0 0 (Plain (Lrange list (pos 0) (negsuc 0))) ∷ By 2 0 (Script (script.Fail job)) ∷ By 2 0 (Plain (Zadd retries ((at_second 101, failed) ∷ []))) ∷ releases 2 job ∷ By 0 0 (Plain (Llen list)) ∷ By 0 0 (Plain (Zrange retries (pos 0) (negsuc 0) true)) ∷ [])
+    ≡ number 2 ∷ tells say.Ok ∷ tells say.Ok ∷ tells say.Ok ∷ reply.Bulk job ∷ reply.Bulk job ∷ nothing_due ∷ number 1 ∷ number 1
+    ∷ texts (job ∷ []) ∷ nothing_due ∷ number 0 ∷ number 1 ∷ number 0 ∷ texts (failed ∷ codes "101" ∷ []) ∷ []
+unfolding put came replies limits number texts tells nothing_due at_second q w1 list retries job failed beats joins fetches releases follows serde_json_on_literals head head_of_value head_of_object is_utf8 chars digits class_of is_built edit_at edit_list lib.Utf8.encode
+twins = refl
+
+-- a worker releases nothing before it has put its job back, puts back only what follows it, and one text alone
+released_last : replies (first limits) (By 0 0 (Plain (Lpush q (job ∷ []))) ∷ beats 1 ∷ joins 1 ∷ fetches 1 ∷ releases 1 job ∷ By 1 0 (Plain (Zadd retries ((at_second 1, job) ∷ []))) ∷ By 1 0 (Plain (Zadd retries ((at_second 1, failed) ∷ (at_second 2, failed) ∷ [])))
+    ∷ By 0 0 (Plain (Zadd retries ((at_second 1, failed) ∷ []))) ∷ By 0 0 (Plain (Lrem list (pos 1) job)) ∷ By 1 0 (Plain (Zadd retries ((at_second 1, failed) ∷ []))) ∷ releases 1 failed ∷ By 1 0 (Plain (Lrem list (pos 0) job)) ∷ releases 1 job ∷ releases 1 job ∷ [])
+    ≡ number 1 ∷ tells say.Ok ∷ tells say.Ok ∷ reply.Bulk job ∷ tells (say.Refused OutOfTurn) ∷ tells (say.Refused OutOfTurn) ∷ tells (say.Refused OutOfTurn)
+    ∷ tells (say.Refused NotWorker) ∷ tells (say.Refused NotWorker) ∷ number 1 ∷ tells (say.Refused OutOfTurn) ∷ tells (say.Refused OutOfTurn) ∷ number 1 ∷ tells (say.Refused OutOfTurn) ∷ []
+unfolding put came replies limits number texts tells at_second q w1 list retries job failed beats joins fetches releases follows serde_json_on_literals head head_of_value head_of_object is_utf8 chars digits class_of is_built edit_at edit_list lib.Utf8.encode
+released_last = refl
+
+-- a job that is given back comes first again; without a head it can't be, and is buried as it is
+given_back : replies (first limits) (By 0 0 (Plain (Lpush q (job ∷ codes "x" ∷ []))) ∷ beats 1 ∷ joins 1 ∷ fetches 1 ∷ By 1 0 (Script (script.Back job)) ∷ By 1 0 (Plain (Lrange q (pos 0) (negsuc 0))) ∷ fetches 1 ∷ By 1 0 (Script (script.Drop job)) ∷ releases 1 job
+    ∷ fetches 1 ∷ By 1 0 (Script (script.Back (codes "x"))) ∷ By 1 7 (Script (script.Bury (codes "x"))) ∷ releases 1 (codes "x") ∷ By 1 0 (Plain (Zscore (codes "dead") (codes "x"))) ∷ By 1 0 (Plain (Llen list)) ∷ [])
+    ≡ number 2 ∷ tells say.Ok ∷ tells say.Ok ∷ reply.Bulk job ∷ number 1 ∷ texts (codes "x" ∷ job ∷ []) ∷ reply.Bulk job ∷ tells say.Ok ∷ number 1
+    ∷ reply.Bulk (codes "x") ∷ tells (say.Refused BadPayload) ∷ report 0 1 ∷ number 1 ∷ reply.Bulk (codes "0.007") ∷ number 0 ∷ []
+unfolding put came replies limits number texts tells report q w1 list retries job failed beats joins fetches releases follows serde_json_on_literals head head_of_value head_of_object is_utf8 chars digits class_of is_built edit_at edit_list lib.Utf8.encode
+given_back = refl
+
+-- a seat that is cut off leaves its job in the private list, and a heartbeat stands for a minute
+cut_off : replies (first limits) (By 0 0 (Plain (Lpush q (job ∷ []))) ∷ beats 1 ∷ joins 1 ∷ fetches 1 ∷ Off 1 ∷ By 1 59999 (Plain (Lrange list (pos 0) (negsuc 0))) ∷ joins 1 ∷ Off 1 ∷ By 0 60000 (Plain (Smembers (codes "processes"))) ∷ joins 1 ∷ By 0 0 (Plain (Llen list)) ∷ [])
+    ≡ number 1 ∷ tells say.Ok ∷ tells say.Ok ∷ reply.Bulk job ∷ tells say.Ok ∷ texts (job ∷ []) ∷ tells say.Ok ∷ tells say.Ok ∷ texts [] ∷ tells (say.Refused NoProcess) ∷ number 1 ∷ []
+unfolding put came replies limits number texts tells q w1 list job beats joins fetches releases serde_json_on_literals head head_of_value head_of_object is_utf8 chars digits class_of is_built edit_at edit_list lib.Utf8.encode
+cut_off = refl
+
+-- ## Lives
+
+-- what becomes of the job, once it is pushed and a worker has fetched it
+Becomes : List Event → Life → Type 0
+Becomes events life = life_of (first limits) (codes "j") Unborn (By 0 0 (Plain (Lpush q (job ∷ []))) ∷ beats 1 ∷ joins 1 ∷ fetches 1 ∷ events) ≡ life
+
+-- A job lives until the release of a worker that is done with it.
+ends_once : Becomes [] Live × Becomes (By 1 0 (Script (script.Ok job)) ∷ []) Live × Becomes (By 1 0 (Script (script.Ok job)) ∷ releases 1 job ∷ []) Returned × Becomes (By 1 0 (Script (script.Drop job)) ∷ releases 1 job ∷ []) Discarded
+    × Becomes (By 1 0 (Script (script.Ok job)) ∷ Off 1 ∷ []) Live
+unfolding put Becomes came life_of limits q w1 list job beats joins fetches releases serde_json_on_literals head head_of_value head_of_object is_utf8 chars digits class_of is_built edit_at edit_list lib.Utf8.encode
+ends_once = (refl, refl, refl, refl, refl)
+
+-- put back and released, it lives on; so it does where it is given back, and where it is pushed again it doesn't
+lives_on : Becomes (By 1 0 (Plain (Zadd retries ((at_second 1, failed) ∷ []))) ∷ releases 1 job ∷ []) Live × Becomes (By 1 0 (Script (script.Back job)) ∷ []) Live × Becomes (By 2 0 (Plain (Lpush q (job ∷ []))) ∷ []) Muddled
+unfolding put Becomes came life_of limits q w1 list retries job failed beats joins fetches releases at_second follows serde_json_on_literals head head_of_value head_of_object is_utf8 chars digits class_of is_built edit_at edit_list lib.Utf8.encode
+lives_on = (refl, refl, refl)
+
+-- A job in a worker's hands isn't pushed afresh, though no row of it is left.
+in_hands : Becomes (By 0 0 (Plain Flushall) ∷ By 0 0 (Plain (Lpush q (job ∷ []))) ∷ []) Deleted × Becomes (By 0 0 (Plain Flushall) ∷ By 1 0 (Script (script.Ok job)) ∷ releases 1 job ∷ By 0 0 (Plain (Lpush q (job ∷ []))) ∷ []) Live
+unfolding put Becomes came life_of limits q w1 list job beats joins fetches releases serde_json_on_literals head head_of_value head_of_object is_utf8 chars digits class_of is_built edit_at edit_list lib.Utf8.encode
+in_hands = (refl, refl)
