@@ -1,5 +1,5 @@
 -- Commands on keys of each class.
-use Rattle.std.proofs.Common.{◌≡◌, ◌+◌, ℕ, List, [], ◌∷◌, refl, sym, ap, subst, ◌∙◌, arith, Bool, true, false, length, map}
+use Rattle.std.proofs.Common.{◌≡◌, ◌==◌, ◌+◌, ℕ, List, [], ◌∷◌, refl, sym, ap, subst, ◌∙◌, arith, ℤ, pos, ◌&&◌, Bool, true, false, not, length, map}
 use Rattle.std.specs.Prelude.{Option, Result, Ok, Err, IfOk, nat_lt, cond}
 use Rattle.std.specs.Option.{is_some}
 use Rattle.sk_resp.specs.Spelling.{Bytes}
@@ -19,19 +19,32 @@ use Rattle.sk_value.specs.declared.entry.Entry.{Entry}
 use Rattle.sk_value.specs.Keys.{Keys, how_many}
 use Rattle.sk_value.specs.Values.{look_at}
 use Rattle.sk_model.specs.declared.key_class.KeyClass.TheVariants as class
-use Rattle.sk_places.specs.declared.row.Place.TheVariants.{Queue, Set}
+use Rattle.sk_places.specs.declared.row.Place.TheVariants.{Private, Queue, Set}
 use Rattle.sk_places.specs.Rows.{pair_of, rows_at, texts_at}
 use Rattle.sk_places.specs.Placed.{Placed}
 use Rattle.sk_model.specs.declared.limits.Limits.{Limits}
-use Rattle.sk_model.specs.World.{World}
-use Rattle.sk_model.specs.Class.{class_of, queue_of}
+use Rattle.sk_leases.specs.Leased.{Leased, idents}
+use Rattle.sk_model.specs.World.{World, phase_of}
+use Rattle.sk_model.specs.Class.{class_of, ident_of, is_private, private_key, queue_of}
 use Rattle.sk_model.specs.Held.{if_any, held, held_as}
 use Rattle.sk_model.specs.Change.{Passes, passed, changed}
-use Rattle.sk_model.specs.Outcome.{Comes, reply_of, tells}
+use Rattle.sk_cmd.specs.declared.command.PlainCommand.{PlainCommand}
+use Rattle.sk_value.specs.Action.{action_of}
+use Rattle.std.specs.Ordering.{int_cmp, is_eq}
+use Rattle.std.specs.Str.{bytes_eq}
+use Rattle.std.proofs.lemmas.Slice.Eq.{bytes_eq-Decides}
+use Rattle.sk_payload.specs.Member.{is_name}
+use Rattle.sk_value.specs.declared.edit.Edit.TheVariants as edit
+use Rattle.sk_model.specs.declared.key_class.KeyClass.{KeyClass}
+use Rattle.sk_model.specs.declared.phase.Phase.{Phase}
+use Rattle.sk_model.specs.declared.phase.Phase.TheVariants.{Plain, Idle, Held, Put, Settled}
+use Rattle.sk_model.specs.Seats.{is_release, is_workers, releases, works_on}
+use Rattle.sk_model.specs.Workers.{work}
+use Rattle.sk_model.specs.Outcome.{Comes, Outcome, reply_of, tells}
 use Rattle.sk_model.specs.Queues.{move}
 use Rattle.sk_model.specs.Sets.{edit_jobs}
-use Rattle.sk_model.specs.Step.{act, run, script_outcome, is_script_built, at_moment, is_built, plain_outcome, on_keys, edit_queue, edit_names, edits, moves}
-use Rattle.sk_core.specs.Whole.{with_places, with_pushed, world_at, world_pushed}
+use Rattle.sk_model.specs.Step.{act, by_seat, run, script_outcome, is_script_built, at_moment, is_built, plain_outcome, on_keys, edit_queue, edit_names, edits, moves}
+use Rattle.sk_core.specs.Whole.{with_leases, with_places, with_pushed, world_at, world_pushed}
 use Rattle.sk_core.proofs.Deleting.{one_if}
 
 -- what follows for a result that is there
@@ -47,16 +60,26 @@ held_queue w moment key queue p keys is e = ap (held_as (world_at w moment p key
 pub held_jobs : (w : World) (moment : ℕ) (key : Bytes) (set : Scored) (p : Placed) (keys : Keys) → class_of key ≡ class.Jobs set → held (world_at w moment p keys) key ≡ if_any value.Sorted (map pair_of (rows_at (Set set) p.rows))
 held_jobs w moment key set p keys is = ap (held_as (world_at w moment p keys) key) is
 
+pub held_private : (w : World) (moment : ℕ) (key ident : Bytes) (p : Placed) (keys : Keys) → class_of key ≡ class.Private → ident ≡ ident_of key → held (world_at w moment p keys) key ≡ if_any value.List (texts_at (Private ident) p.rows)
+held_private w moment key ident p keys is e = ap (held_as (world_at w moment p keys) key) is ∙ ap (λ i. if_any value.List (texts_at (Private i) p.rows)) (sym e)
+
+pub held_processes : (w : World) (moment : ℕ) (key : Bytes) (p : Placed) (keys : Keys) → class_of key ≡ class.Processes → held (world_at w moment p keys) key ≡ if_any value.Set (idents moment w.leases)
+held_processes w moment key p keys is = ap (held_as (world_at w moment p keys) key) is
+
 pub there_if_any : {A B : Type 0} (make : List B → Value) (f : A → B) (xs : List A) → is_some (if_any make (map f xs)) ≡ nat_lt 0 (length xs)
 there_if_any make f [] = grind arith
 there_if_any make f (x ∷ xs) = grind arith
 
+pub some_if_any : {B : Type 0} (make : List B → Value) (xs : List B) → is_some (if_any make xs) ≡ not (length xs == 0)
+some_if_any make [] = grind arith
+some_if_any make (x ∷ xs) = grind arith
+
 -- what is read of a key that holds this
-pub look_held : (moment : ℕ) (look : Look) (key : Bytes) (p : Placed) (keys : Keys) (holds : Option Entry) (E : Type 0) (answer : Answer) (r : Result Reply E) → ((w : World) → held (world_at w moment p keys) key ≡ holds)
+pub look_held : (moment : ℕ) (look : Look) (key : Bytes) (p : Placed) (leases : Leased) (keys : Keys) (holds : Option Entry) (E : Type 0) (answer : Answer) (r : Result Reply E) → ((w : World) → held (world_at (with_leases w leases) moment p keys) key ≡ holds)
     → Gives (look_at moment look holds) answer → IfOk r (λ reply. (due : Answer) → Gives due answer → reply ≡ reply_of due)
-    → IfOk r (λ reply. (w : World) → reply ≡ reply_of (look_at moment look (held (world_at w moment p keys) key)))
-look_held moment look key p keys holds E answer r is gives replies =
-    if_ok (λ reply. (due : Answer) → Gives due answer → reply ≡ reply_of due) (λ reply. (w : World) → reply ≡ reply_of (look_at moment look (held (world_at w moment p keys) key))) r
+    → IfOk r (λ reply. (w : World) → reply ≡ reply_of (look_at moment look (held (world_at (with_leases w leases) moment p keys) key)))
+look_held moment look key p leases keys holds E answer r is gives replies =
+    if_ok (λ reply. (due : Answer) → Gives due answer → reply ≡ reply_of due) (λ reply. (w : World) → reply ≡ reply_of (look_at moment look (held (world_at (with_leases w leases) moment p keys) key))) r
     (λ reply f. λ w. f _ gives ∙ ap (λ o. reply_of (look_at moment look o)) (sym (is w))) replies
 
 -- one word more to count
@@ -158,27 +181,68 @@ pub from_every : (v s after : World) (a b : Action) (Q : World → Reply → Typ
     → IfOk r (λ reply. (w : World) → Q w reply) → IfOk r (λ reply. Comes s (act s a) reply after)
 from_every v s after a b Q E r e f gives ok = if_ok (λ reply. (w : World) → Q w reply) (λ reply. Comes s (act s a) reply after) r (λ reply q. from_same v s after a b reply e f (gives reply (q v))) ok
 
-pub exists_comes : (v s : World) (a : Action) (names : List Bytes) (reply : Reply) → v ≡ s → a ≡ action.Exists names → reply ≡ counted (how_many (held v) names) → Comes s (act s a) reply v
-exists_comes v s a names reply e f g = from_same v s v a (action.Exists names) reply e f (record { reply_is = g; new_is = refl })
+-- ## Every script
+
+pub run_same : (v s after : World) (seat : ℕ) (a b : ScriptCommand) (reply : Reply) → v ≡ s → a ≡ b → Comes v (run v seat (phase_of v seat) b) reply after → Comes s (run s seat (phase_of s seat) a) reply after
+run_same v s after seat a b reply e f comes = subst (λ u. Comes u (run u seat (phase_of u seat) a) reply after) e (subst (λ c. Comes v (run v seat (phase_of v seat) c) reply after) (sym f) comes)
+
+pub run_every : (v s after : World) (seat : ℕ) (a b : ScriptCommand) (Q : World → Reply → Type 0) (E : Type 0) (r : Result Reply E) → v ≡ s → a ≡ b → ((reply : Reply) → Q v reply → Comes v (run v seat (phase_of v seat) b) reply after)
+    → IfOk r (λ reply. (w : World) → Q w reply) → IfOk r (λ reply. Comes s (run s seat (phase_of s seat) a) reply after)
+run_every v s after seat a b Q E r e f gives ok = if_ok (λ reply. (w : World) → Q w reply) (λ reply. Comes s (run s seat (phase_of s seat) a) reply after) r (λ reply q. run_same v s after seat a b reply e f (gives reply (q v))) ok
+
+-- ## A worker's command on keys
+
+pub work_every : (v s after : World) (seat : ℕ) (a : Action) (Q : World → Reply → Type 0) (E : Type 0) (r : Result Reply E) → v ≡ s → ((reply : Reply) → Q v reply → Comes v (work v seat (phase_of v seat) a) reply after)
+    → IfOk r (λ reply. (w : World) → Q w reply) → IfOk r (λ reply. Comes s (work s seat (phase_of s seat) a) reply after)
+work_every v s after seat a Q E r e gives ok =
+    if_ok (λ reply. (w : World) → Q w reply) (λ reply. Comes s (work s seat (phase_of s seat) a) reply after) r (λ reply q. subst (λ u. Comes u (work u seat (phase_of u seat) a) reply after) e (gives reply (q v))) ok
+
+either_private : (b : Bool) → is_private (cond b class.Private class.NoPrivate) ≡ true
+either_private true = refl
+either_private false = refl
+
+listed : (ident : Bytes) → is_private (class_of (private_key ident)) ≡ true
+unfolding class_of
+listed ident = either_private (is_name 255 (ident_of (private_key ident)))
+
+takes : (k : KeyClass) (count : ℤ) (text : Bytes) → is_private k ≡ true → works_on k (edit.Lrem count text) ≡ true
+takes k count text e = grind (arith, e)
+
+-- a release is a worker's command
+no_release : (ident held : Bytes) (a : Action) → is_workers a ≡ false → is_release ident held a ≡ false
+no_release ident held (action.Edit key (edit.Lrem count text)) other = by_key (bytes_eq key (private_key ident)) refl where
+  by_key : (b : Bool) → bytes_eq key (private_key ident) ≡ b → b && (is_eq (int_cmp count (pos 1)) && bytes_eq text held) ≡ false
+  by_key true same =
+      let is : key ≡ private_key ident = (bytes_eq-Decides key (private_key ident)).0 same in
+      absurd (cc (takes (class_of key) count text (ap (λ k. is_private (class_of k)) is ∙ listed ident), other))
+  by_key false same = refl
+no_release ident held a other = grind (arith, other)
+
+pub releases_not : (phase : Phase) (a : Action) → is_workers a ≡ false → releases phase a ≡ false
+releases_not Plain a other = refl
+releases_not (Idle ident) a other = refl
+releases_not (Held ident held) a other = refl
+releases_not (Put ident held) a other = no_release ident held a other
+releases_not (Settled ident held end) a other = no_release ident held a other
 
 -- ## The step
 
-pub not_built : (w : World) (now : ℕ) (a : Action) → is_built a ≡ false → tells say.NotBuilt ≡ plain_outcome w now a
-not_built w now a e = ap (λ b. cond b (at_moment now (act (changed w (Passes now)) a)) (tells say.NotBuilt)) (sym e)
+pub not_built : (w : World) (seat now : ℕ) (c : PlainCommand) → is_built (action_of c) ≡ false → tells say.NotBuilt ≡ plain_outcome w seat now c
+not_built w seat now c e = ap (λ b. cond b (at_moment now (by_seat (changed w (Passes now)) seat (phase_of w seat) c)) (tells say.NotBuilt)) (sym e)
 
-pub not_built_script : (w : World) (now : ℕ) (c : ScriptCommand) → is_script_built c ≡ false → tells say.NotBuilt ≡ script_outcome w now c
-not_built_script w now c e = ap (λ b. cond b (at_moment now (run (changed w (Passes now)) c)) (tells say.NotBuilt)) (sym e)
+pub not_built_script : (w : World) (seat now : ℕ) (c : ScriptCommand) → is_script_built c ≡ false → tells say.NotBuilt ≡ script_outcome w seat now c
+not_built_script w seat now c e = ap (λ b. cond b (at_moment now (run (changed w (Passes now)) seat (phase_of w seat) c)) (tells say.NotBuilt)) (sym e)
 
-pub script_comes : (w mid new : World) (now : ℕ) (c : ScriptCommand) (reply : Reply) → is_script_built c ≡ true → mid ≡ passed now w → Comes mid (run mid c) reply new → Comes w (script_outcome w now c) reply new
-script_comes w mid new now c reply e f comes =
-    subst (λ b. Comes w (cond b (at_moment now (run (changed w (Passes now)) c)) (tells say.NotBuilt)) reply new) (sym e)
-    (at_passed (subst (λ m. Comes m (run m c) reply new) f comes)) where
-      at_passed : Comes (passed now w) (run (passed now w) c) reply new → Comes w (at_moment now (run (changed w (Passes now)) c)) reply new
-      at_passed k = record { reply_is = k.reply_is; new_is = k.new_is }
+-- what comes about at the moment comes about where that is still to be handed in
+at_passed : (w new : World) (now : ℕ) (o : Outcome) (reply : Reply) → Comes (passed now w) o reply new → Comes w (at_moment now o) reply new
+at_passed w new now o reply k = record { reply_is = k.reply_is; new_is = k.new_is }
 
-pub built_comes : (w mid new : World) (now : ℕ) (a : Action) (reply : Reply) → is_built a ≡ true → mid ≡ passed now w → Comes mid (act mid a) reply new → Comes w (plain_outcome w now a) reply new
-built_comes w mid new now a reply e f comes =
-    subst (λ b. Comes w (cond b (at_moment now (act (changed w (Passes now)) a)) (tells say.NotBuilt)) reply new) (sym e)
-    (at_passed (subst (λ m. Comes m (act m a) reply new) f comes)) where
-      at_passed : Comes (passed now w) (act (passed now w) a) reply new → Comes w (at_moment now (act (changed w (Passes now)) a)) reply new
-      at_passed c = record { reply_is = c.reply_is; new_is = c.new_is }
+pub script_comes : (w mid new : World) (seat now : ℕ) (c : ScriptCommand) (reply : Reply) → is_script_built c ≡ true → mid ≡ passed now w → Comes mid (run mid seat (phase_of mid seat) c) reply new → Comes w (script_outcome w seat now c) reply new
+script_comes w mid new seat now c reply e f comes =
+    subst (λ b. Comes w (cond b (at_moment now (run (changed w (Passes now)) seat (phase_of w seat) c)) (tells say.NotBuilt)) reply new) (sym e)
+    (at_passed w new now (run (passed now w) seat (phase_of w seat) c) reply (subst (λ m. Comes m (run m seat (phase_of m seat) c) reply new) f comes))
+
+pub built_comes : (w mid new : World) (seat now : ℕ) (c : PlainCommand) (reply : Reply) → is_built (action_of c) ≡ true → mid ≡ passed now w → Comes mid (by_seat mid seat (phase_of mid seat) c) reply new → Comes w (plain_outcome w seat now c) reply new
+built_comes w mid new seat now c reply e f comes =
+    subst (λ b. Comes w (cond b (at_moment now (by_seat (changed w (Passes now)) seat (phase_of w seat) c)) (tells say.NotBuilt)) reply new) (sym e)
+    (at_passed w new now (by_seat (passed now w) seat (phase_of w seat) c) reply (subst (λ m. Comes m (by_seat m seat (phase_of m seat) c) reply new) f comes))

@@ -2,13 +2,13 @@
 ghost use Rattle.std.specs.Prelude.{◌≡◌, not};
 ghost use Rattle.std.specs.List.{list_all};
 ghost use Rattle.sk_model.specs.Class.{class_of};
-ghost use Rattle.sk_model.specs.Step.{is_built, is_retry, is_script_built, is_workers, keys_of, names_later};
+ghost use Rattle.sk_model.specs.Step.{is_built, is_script_built, keys_of, names_later};
 
 use crate::key_class::class_of;
-use sk_cmd::{Scored, ScriptCommand};
+use sk_cmd::ScriptCommand;
 use sk_model::KeyClass;
 use sk_resp::Word;
-use sk_value::{Action, Edit};
+use sk_value::Action;
 
 // The key isn't one of those that aren't built yet.
 fn is_known(key: &[u8]) -> bool
@@ -26,32 +26,12 @@ fn are_known(keys: &[Word]) -> bool
     keys.iter().all(|key| is_known(key.bytes()))
 }
 
-// The key is the set of the jobs that failed and wait.
-fn is_retry(key: &[u8]) -> bool
-    ensures { result ≡ is_retry (class_of key.now) }
-{
-    match class_of(key) {
-        KeyClass::Jobs(Scored::Retry) => true,
-        _ => false,
-    }
-}
-
-// ZADD on `retry` is a worker's, and there are no workers yet.
-fn is_workers(action: &Action) -> bool
-    ensures { result ≡ is_workers action.now }
-{
-    match action {
-        Action::Edit(key, Edit::Zadd(_)) => is_retry(key.bytes()),
-        _ => false,
-    }
-}
-
 /// No command is built yet on a key that isn't.
 #[tactic(auto, unfolding(sk_model::specs::Step::is_built))]
 pub fn is_built(action: &Action) -> bool
     ensures { result ≡ is_built action.now }
 {
-    !is_workers(action) && names_known(action)
+    names_known(action)
 }
 
 // No key is one of those that aren't built yet.
@@ -77,7 +57,15 @@ pub fn is_script_built(script: &ScriptCommand) -> bool
     ensures { result ≡ is_script_built script.now }
 {
     match script {
-        ScriptCommand::Due(_, _) | ScriptCommand::Revive(_, _) | ScriptCommand::Kill(_, _) => true,
-        _ => false,
+        ScriptCommand::Rescue
+        | ScriptCommand::Upush(_, _)
+        | ScriptCommand::Bpush(..)
+        | ScriptCommand::Badd(_, _)
+        | ScriptCommand::Bstat(_)
+        | ScriptCommand::Lead(_)
+        | ScriptCommand::Cron(..)
+        | ScriptCommand::Where(_)
+        | ScriptCommand::Status => false,
+        _ => true,
     }
 }

@@ -34,8 +34,8 @@ fn oldest(moment: u64) -> Score
     Score::of_micros(moment as i64 * 1000 - KEPT_FOR)
 }
 
-// How many jobs the dead set drops. They stand in front.
-fn surplus_count(places: &Places, moment: u64) -> usize
+/// How many jobs the dead set drops. They stand in front.
+pub fn surplus_count(places: &Places, moment: u64) -> usize
     requires { moment ≤ last_moment }
     ensures is { (w : World) → surplus (with_moment w moment places.now.stands) (rows_at (Set Dead) places.now.stands.rows) ≡ take result (rows_at (Set Dead) places.now.stands.rows) }
     ensures within { result ≤ length (rows_at (Set Dead) places.now.stands.rows) }
@@ -61,8 +61,8 @@ fn take_first(places: &mut Places, place: &Place) -> Result<Word, Memory>
     Ok(text)
 }
 
-// Takes the first so many jobs out of a place, and gives their texts.
-fn take_front(
+/// Takes the first so many jobs out of a place, and gives their texts. After want of memory some of them are gone.
+pub fn take_front(
     alloc: Global,
     places: &mut Places,
     place: &Place,

@@ -1,6 +1,7 @@
 // What the name of a key means to the store. Nothing here takes memory.
-ghost use Rattle.std.specs.Prelude.{◌≡◌, ◌≤◌, ◌||◌, drop, length};
-ghost use Rattle.sk_model.specs.Class.{class_of, is_later, queue_of, set_of};
+ghost use Rattle.std.specs.Prelude.{◌≡◌, ◌≤◌, ◌&&◌, ◌||◌, drop, length};
+ghost use Rattle.sk_model.specs.Class.{class_of, ident_of, is_later, is_queue as names_queue, private_key, queue_of, set_of};
+ghost use Rattle.std.specs.Str.{bytes_eq};
 ghost use Rattle.sk_model.specs.declared.key_class.KeyClass.TheVariants as KeyClass;
 ghost use Rattle.sk_payload.specs.Member.{is_name};
 
@@ -8,7 +9,7 @@ use sk_cmd::Scored;
 use sk_model::KeyClass;
 use sk_resp::Word;
 
-/// A name of a queue: 1 to 255 bytes of UTF-8 text without control characters.
+/// A name of a queue or the identity of a process: 1 to 255 bytes of UTF-8 text without control characters.
 pub fn is_queue_name(name: &[u8]) -> bool
     ensures { result ≡ is_name 255 name.now }
 {
@@ -19,7 +20,7 @@ pub fn is_queue_name(name: &[u8]) -> bool
 fn is_later(key: &[u8]) -> bool
     ensures { result ≡ is_later key.now }
 {
-    key.starts_with(b"sq:") || key.starts_with(b"stat:") || key == b"processes".as_slice()
+    key.starts_with(b"stat:")
 }
 
 // The set of jobs that a key names.
@@ -49,8 +50,17 @@ pub fn class_of(key: &[u8]) -> KeyClass
         }
         return KeyClass::NoQueue;
     }
+    if key.starts_with(b"sq:") {
+        if is_queue_name(&key[3..]) {
+            return KeyClass::Private;
+        }
+        return KeyClass::NoPrivate;
+    }
     if key == b"queues".as_slice() {
         return KeyClass::Queues;
+    }
+    if key == b"processes".as_slice() {
+        return KeyClass::Processes;
     }
     if is_later(key) {
         return KeyClass::Later;
@@ -61,17 +71,48 @@ pub fn class_of(key: &[u8]) -> KeyClass
     }
 }
 
-/// The name of the queue that a key means: what stands behind `queue:`.
-pub fn queue_of(key: Word) -> Word
-    ensures { result ≡ queue_of key }
+// What stands behind the first bytes of a key, so many.
+fn behind(key: Word, count: usize) -> Word
+    ensures { result ≡ drop count key }
 {
     let mut bytes = key.into_bytes();
-    let rest = bytes.len().saturating_sub(6);
+    let rest = bytes.len().saturating_sub(count);
     if rest == 0 {
         bytes.clear();
         return Word::new(bytes);
     }
-    bytes.copy_within(6.., 0);
+    bytes.copy_within(count.., 0);
     bytes.truncate(rest);
     Word::new(bytes)
+}
+
+/// The name of the queue that a key means: what stands behind `queue:`.
+pub fn queue_of(key: Word) -> Word
+    ensures { result ≡ queue_of key }
+{
+    behind(key, 6)
+}
+
+/// The identity of the process whose private list a key means: what stands behind `sq:`.
+pub fn ident_of(key: Word) -> Word
+    ensures { result ≡ ident_of key }
+{
+    behind(key, 3)
+}
+
+/// The key is that of a queue.
+pub fn is_queue(key: &[u8]) -> bool
+    ensures { result ≡ names_queue (class_of key.now) }
+{
+    match class_of(key) {
+        KeyClass::Queue => true,
+        _ => false,
+    }
+}
+
+/// The key is that of the private list of this process.
+pub fn is_list_of(ident: &[u8], key: &[u8]) -> bool
+    ensures { result ≡ bytes_eq key.now (private_key ident.now) }
+{
+    key.starts_with(b"sq:") && &key[3..] == ident
 }

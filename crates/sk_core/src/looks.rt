@@ -9,17 +9,20 @@ ghost use Rattle.sk_value.specs.declared.value.Value.TheVariants as value;
 ghost use Rattle.sk_resp.specs.Reply.{wire};
 ghost use Rattle.sk_resp.specs.Spelling.{bulk};
 ghost use Rattle.sk_value.specs.Answer.{Gives, counted, texts};
+ghost use Rattle.sk_leases.specs.Leased.{idents};
 ghost use Rattle.sk_value.specs.Lists.{range_of};
+ghost use Rattle.sk_value.specs.Sets.{is_member};
 ghost use Rattle.sk_value.specs.Values.{look_at};
 ghost use Rattle.sk_places.specs.declared.row.Place.TheVariants.{Set};
 ghost use Rattle.sk_places.specs.Rows.{pair_of, rows_at, texts_at};
-ghost use Rattle.sk_core.specs.Whole.{world_at};
+ghost use Rattle.sk_core.specs.Whole.{with_leases, world_at};
 
 use crate::jobs::Jobs;
-use crate::key_class::{class_of, queue_of};
+use crate::key_class::{class_of, ident_of, queue_of};
 use crate::plain::answered;
 use sk_cmd::Scored;
 use sk_keys::Keys;
+use sk_leases::Leases;
 use sk_model::KeyClass;
 use sk_places::{Place, Places};
 use sk_resp::{Kind, Memory, Replies, Reply, Say, Word, Words};
@@ -149,57 +152,119 @@ fn look_names(alloc: Global, places: &Places, look: &Look) -> Result<Reply, Keys
     look_some_names(alloc, places, look)
 }
 
+// What it answers of the identities of the processes that are alive, of which there is one at least.
+fn look_some_idents(alloc: Global, idents: Vec<Word>, look: &Look) -> Result<Reply, KeysFault>
+    requires { 0 < length idents.items }
+    ensures { (now : ℕ) → Gives (look_at now look.now (if_any value.Set idents.items)) result }
+{
+    match look {
+        Look::KindOf => Ok(Reply::Say(Say::Kind(Kind::Set))),
+        Look::Pttl => Ok(Reply::Int(-1)),
+        Look::Smembers => Ok(as_reply(alloc, idents)?),
+        Look::Scard => Ok(counted(idents.len())),
+        Look::Sismember(ident) => Ok(one_if(is_among(ident, &idents))),
+        _ => Err(KeysFault::WrongType),
+    }
+}
+
+// The word is one of these.
+fn is_among(word: &Word, words: &[Word]) -> bool
+    ensures { result ≡ is_member word.now words.now }
+{
+    words.iter().any(|other| word.cmp(other).is_eq())
+}
+
+// The same of any number of processes.
+fn look_idents(alloc: Global, moment: u64, leases: &Leases, look: &Look) -> Result<Reply, KeysFault>
+    ensures { (now : ℕ) → Gives (look_at now look.now (if_any value.Set (idents moment leases.now.stands))) result }
+{
+    let list = leases.idents(alloc, moment)?;
+    if list.is_empty() {
+        return Ok(look.absent(alloc));
+    }
+    look_some_idents(alloc, list, look)
+}
+
 /// Reads one key, plain or managed.
 pub fn look(
     alloc: Global,
     moment: u64,
     places: &Places,
+    leases: &Leases,
     keys: &mut Keys,
     key: Word,
     look: Look,
 ) -> Result<Reply, Memory>
-    ensures ok { IfOk result (λ reply. (w : World) → reply ≡ reply_of (look_at moment look (held (world_at w moment places.now.stands keys.old) key))) }
+    ensures ok { IfOk result (λ reply. (w : World) → reply ≡ reply_of (look_at moment look (held (world_at (with_leases w leases.now.stands) moment places.now.stands keys.old) key))) }
     ensures keys { keys.new ≡ keys.old }
 {
     match class_of(key.bytes()) {
         KeyClass::Plain => answered(keys.act(moment, Action::Look(key, look))),
         KeyClass::Queue => answered(look_queue(alloc, places, &Place::Queue(queue_of(key)), &look)),
         KeyClass::Queues => answered(look_names(alloc, places, &look)),
+        KeyClass::Private => {
+            answered(look_queue(alloc, places, &Place::Private(ident_of(key)), &look))
+        }
+        KeyClass::Processes => answered(look_idents(alloc, moment, leases, &look)),
         KeyClass::Jobs(set) => answered(look_set(alloc, places, set, &look)),
         _ => Ok(look.absent(alloc)),
     }
 }
 
 // Whether the key is there.
-fn has(places: &Places, keys: &Keys, key: Word) -> bool
-    ensures { (w : World) (moment : ℕ) → result ≡ is_some (held (world_at w moment places.now.stands keys.now) key) }
+fn has(
+    alloc: Global,
+    moment: u64,
+    places: &Places,
+    leases: &Leases,
+    keys: &Keys,
+    key: Word,
+) -> Result<bool, Memory>
+    ensures { IfOk result (λ there. (w : World) → there ≡ is_some (held (world_at (with_leases w leases.now.stands) moment places.now.stands keys.now) key)) }
 {
     match class_of(key.bytes()) {
-        KeyClass::Plain => keys.has(&key),
-        KeyClass::Queue => places.len(&Place::Queue(queue_of(key))) > 0,
-        KeyClass::Queues => places.name_count() > 0,
-        KeyClass::Jobs(set) => places.len(&Place::Set(set)) > 0,
-        _ => false,
+        KeyClass::Plain => Ok(keys.has(&key)),
+        KeyClass::Queue => Ok(places.len(&Place::Queue(queue_of(key))) > 0),
+        KeyClass::Queues => Ok(places.name_count() > 0),
+        KeyClass::Private => Ok(places.len(&Place::Private(ident_of(key))) > 0),
+        KeyClass::Processes => Ok(!leases.idents(alloc, moment)?.is_empty()),
+        KeyClass::Jobs(set) => Ok(places.len(&Place::Set(set)) > 0),
+        _ => Ok(false),
     }
 }
 
 // How many of the words name a key that is there.
-fn count_there(places: &Places, keys: &Keys, names: Vec<Word>) -> usize
-    ensures count { (w : World) (moment : ℕ) → result ≡ how_many (held (world_at w moment places.now.stands keys.now)) names.items }
-    ensures small { result < 2 ^ 63 }
+fn count_there(
+    alloc: Global,
+    moment: u64,
+    places: &Places,
+    leases: &Leases,
+    keys: &Keys,
+    names: Vec<Word>,
+) -> Result<usize, Memory>
+    ensures count { IfOk result (λ count. (w : World) → count ≡ how_many (held (world_at (with_leases w leases.now.stands) moment places.now.stands keys.now)) names.items) }
+    ensures small { IfOk result (λ count. count < 2 ^ 63) }
 {
     let mut count = 0usize;
     for name in names {
-        if has(places, keys, name) {
+        if has(alloc, moment, places, leases, keys, name)? {
             count += 1;
         }
     }
-    count
+    Ok(count)
 }
 
 /// EXISTS key .. (Redis, "EXISTS")
-pub fn exists(places: &Places, keys: &Keys, names: Words) -> Reply
-    ensures { (w : World) (moment : ℕ) → result ≡ counted (how_many (held (world_at w moment places.now.stands keys.now)) names) }
+pub fn exists(
+    alloc: Global,
+    moment: u64,
+    places: &Places,
+    leases: &Leases,
+    keys: &Keys,
+    names: Words,
+) -> Result<Reply, Memory>
+    ensures { IfOk result (λ reply. (w : World) → reply ≡ counted (how_many (held (world_at (with_leases w leases.now.stands) moment places.now.stands keys.now)) names)) }
 {
-    counted(count_there(places, keys, names.into_list()))
+    let count = count_there(alloc, moment, places, leases, keys, names.into_list())?;
+    Ok(counted(count))
 }

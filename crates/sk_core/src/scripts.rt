@@ -9,20 +9,34 @@ ghost use Rattle.sk_places.specs.declared.row.Place.TheVariants.{Set};
 ghost use Rattle.sk_places.specs.declared.row.Row.{Row};
 ghost use Rattle.sk_model.specs.Jobs.{Sent, due, kill, kill_row, moment_score, reports, revive, send_each};
 ghost use Rattle.sk_model.specs.Outcome.{Comes};
-ghost use Rattle.sk_model.specs.Step.{run};
+ghost use Rattle.sk_model.specs.Seats.{where_plain};
 ghost use Rattle.sk_model.specs.World.{World};
+ghost use Rattle.sk_core.specs.Scripts.{sent};
 ghost use Rattle.sk_core.specs.Sending.{with_moment};
 
 use crate::dead::bury;
 use crate::looks::as_reply;
 use crate::report::Report;
+use crate::runs::refused;
 use crate::sending::{queue_of, send_front};
 use sk_base::{Bound, Score};
-use sk_cmd::{Scored, ScriptCommand, Side};
+use sk_cmd::{Scored, Side};
+use sk_model::Phase;
 use sk_places::{Place, Places};
 use sk_resp::{Memory, Refusal, Replies, Reply, Say, Word};
 use sk_value::counted;
 use std::alloc::Global;
+
+/// A script on a set of jobs.
+#[derive(Drop)]
+pub enum SetScript {
+    /// `SK.DUE schedule|retry limit`
+    Due(Scored, i64),
+    /// `SK.REVIVE schedule|retry|dead payload`
+    Revive(Scored, Word),
+    /// `SK.KILL schedule|retry payload`
+    Kill(Scored, Word),
+}
 
 // What is told where nothing was sent on.
 fn nothing(alloc: Global) -> Report
@@ -36,8 +50,8 @@ fn nothing(alloc: Global) -> Report
     }
 }
 
-// How many were moved and buried, the callbacks that fell due, of which there are none yet, and the texts that the dead set dropped.
-fn told(alloc: Global, report: Report) -> Result<Reply, Memory>
+/// How many were moved and buried, the callbacks that fell due, of which there are none yet, and the texts that the dead set dropped.
+pub fn told(alloc: Global, report: Report) -> Result<Reply, Memory>
     requires few { report.moved + report.buried < 2 ^ 63 }
     ensures { IfOk result (λ reply. (sent : Sent) → report.moved ≡ sent.moved → report.buried ≡ sent.buried → report.trimmed.items ≡ sent.trimmed → reply ≡ (reports sent).reply) }
 {
@@ -158,40 +172,39 @@ fn revive(alloc: Global, places: &mut Places, set: Scored, text: &Word) -> Resul
     Ok(counted(1))
 }
 
-// Does what a script does. After want of memory some of it is done.
-fn run_open(
+// Does what the script does. After want of memory some of it is done.
+fn send_open(
     alloc: Global,
     places: &mut Places,
     moment: u64,
-    script: ScriptCommand,
+    script: SetScript,
 ) -> Result<Reply, Memory>
     requires early { moment ≤ last_moment }
-    ensures ok { IfOk result (λ reply. (w : World) → Comes (with_moment w moment places.old.stands) (run (with_moment w moment places.old.stands) script) reply (with_moment w moment places.new.stands)) }
+    ensures ok { IfOk result (λ reply. (w : World) → Comes (with_moment w moment places.old.stands) (sent (with_moment w moment places.old.stands) script) reply (with_moment w moment places.new.stands)) }
     ensures step { places.new.stood ≡ places.old.stood }
 {
     match script {
-        ScriptCommand::Due(set, limit) => due(alloc, places, moment, set, limit),
-        ScriptCommand::Revive(set, text) => revive(alloc, places, set, &text),
-        ScriptCommand::Kill(set, text) => kill(alloc, places, moment, set, &text),
-        _ => Ok(Reply::Say(Say::NotBuilt)),
+        SetScript::Due(set, limit) => due(alloc, places, moment, set, limit),
+        SetScript::Revive(set, text) => revive(alloc, places, set, &text),
+        SetScript::Kill(set, text) => kill(alloc, places, moment, set, &text),
     }
 }
 
-/// Does what a script does, all of it or nothing.
-pub fn run(
+// Does what the script does, all of it or nothing.
+fn send_whole(
     alloc: Global,
     places: &mut Places,
     moment: u64,
-    script: ScriptCommand,
+    script: SetScript,
 ) -> Result<Reply, Memory>
     requires early { moment ≤ last_moment }
     requires closed { places.old.stood ≡ None }
-    ensures ok { IfOk result (λ reply. (w : World) → Comes (with_moment w moment places.old.stands) (run (with_moment w moment places.old.stands) script) reply (with_moment w moment places.new.stands)) }
+    ensures ok { IfOk result (λ reply. (w : World) → Comes (with_moment w moment places.old.stands) (sent (with_moment w moment places.old.stands) script) reply (with_moment w moment places.new.stands)) }
     ensures closed { places.new.stood ≡ None }
     ensures err { OnErr result (places.new ≡ places.old) }
 {
     places.begin();
-    match run_open(alloc, places, moment, script) {
+    match send_open(alloc, places, moment, script) {
         Ok(reply) => {
             places.commit();
             Ok(reply)
@@ -200,5 +213,25 @@ pub fn run(
             places.undo();
             Err(Memory)
         }
+    }
+}
+
+/// Does what the script does, all of it or nothing, where the seat is no worker's. Another's is refused.
+pub fn send(
+    alloc: Global,
+    places: &mut Places,
+    moment: u64,
+    phase: &Phase,
+    script: SetScript,
+) -> Result<Reply, Memory>
+    requires early { moment ≤ last_moment }
+    requires closed { places.old.stood ≡ None }
+    ensures ok { IfOk result (λ reply. (w : World) → Comes (with_moment w moment places.old.stands) (where_plain phase.now (sent (with_moment w moment places.old.stands) script)) reply (with_moment w moment places.new.stands)) }
+    ensures closed { places.new.stood ≡ None }
+    ensures err { OnErr result (places.new ≡ places.old) }
+{
+    match phase {
+        Phase::Plain => send_whole(alloc, places, moment, script),
+        _ => Ok(refused(Refusal::OutOfTurn)),
     }
 }

@@ -12,6 +12,12 @@ static MANAGED: &str = "-SK managed key\r\n";
 
 static FULL: &str = "-SK full\r\n";
 
+static NOT_WORKER: &str = "-SK not a worker seat\r\n";
+
+static OUT_OF_TURN: &str = "-SK out of turn\r\n";
+
+static NO_PROCESS: &str = "-SK no such process\r\n";
+
 static NOT_BUILT: &str = "-SK not built\r\n";
 
 static LIMITS: Limits = Limits {
@@ -48,10 +54,30 @@ fn check_with(
 ) -> Result<(), Fail> {
     let mut core = Core::new(alloc, limits);
     for (now, line, want) in rows {
-        let reply = core.step(*now, command(alloc, line)?);
+        let reply = core.step(0, *now, command(alloc, line)?);
         let mut text = Vec::new(alloc);
         write_reply(alloc, &reply, &mut text)?;
         assert_eq!(rt; text.as_slice(), want.as_bytes());
+    }
+    Ok(())
+}
+
+// Each row is a seat, a moment, a command and its reply. The seat is cut off where the command is CUT.
+fn check_seats(
+    rt: &impl Abort,
+    alloc: Global,
+    rows: &[(u32, u64, &str, &str)],
+) -> Result<(), Fail> {
+    let mut core = Core::new(alloc, LIMITS);
+    for (seat, now, line, want) in rows {
+        if *line == "CUT" {
+            core.cut(*seat);
+        } else {
+            let reply = core.step(*seat, *now, command(alloc, line)?);
+            let mut text = Vec::new(alloc);
+            write_reply(alloc, &reply, &mut text)?;
+            assert_eq!(rt; text.as_slice(), want.as_bytes());
+        }
     }
     Ok(())
 }
@@ -100,8 +126,9 @@ fn managed_keys_are_kept(rt: HostRuntime) -> Result<(), Fail> {
         (0, "TYPE queue:a", "+list\r\n"),
         (0, "TYPE queues", "+set\r\n"),
         (0, "PTTL queue:a", ":-1\r\n"),
-        (0, "LLEN sq:a", NOT_BUILT),
-        (0, "ZADD retry 1 text", NOT_BUILT),
+        (0, "LLEN sq:a", ":0\r\n"),
+        (0, "GET stat:failed", NOT_BUILT),
+        (0, "ZADD retry 1 text", NOT_WORKER),
         (0, "ZADD dead 1 text", MANAGED),
         (0, "DEL list retry", ":1\r\n"),
     ];
@@ -207,4 +234,118 @@ fn a_push_above_the_limits_is_refused(rt: HostRuntime) -> Result<(), Fail> {
         (0, "EXISTS queue:a schedule", ":2\r\n"),
     ];
     check_with(&rt, rt.alloc(), limits, &rows)
+}
+
+#[test]
+fn a_worker_fetches_a_job_and_releases_it(rt: HostRuntime) -> Result<(), Fail> {
+    let rows = [
+        (
+            0,
+            0,
+            "LPUSH queue:q {\"args\":[],\"class\":\"C\",\"jid\":\"j\",\"queue\":\"q\"}",
+            ":1\r\n",
+        ),
+        (1, 0, "LMOVE queue:q sq:w RIGHT LEFT", NOT_WORKER),
+        (1, 0, "SK.JOIN w", NO_PROCESS),
+        (0, 0, "SK.BEAT w", "+OK\r\n"),
+        (0, 0, "SMEMBERS processes", "*1\r\n$1\r\nw\r\n"),
+        (1, 0, "SK.JOIN w", "+OK\r\n"),
+        (
+            1,
+            0,
+            "LMOVE queue:q sq:w RIGHT LEFT",
+            "$45\r\n{\"args\":[],\"class\":\"C\",\"jid\":\"j\",\"queue\":\"q\"}\r\n",
+        ),
+        (0, 0, "LLEN sq:w", ":1\r\n"),
+        (1, 0, "SK.OK other", OUT_OF_TURN),
+        (
+            1,
+            0,
+            "SK.START {\"args\":[],\"class\":\"C\",\"jid\":\"j\",\"queue\":\"q\"}",
+            "+OK\r\n",
+        ),
+        (
+            1,
+            0,
+            "SK.OK {\"args\":[],\"class\":\"C\",\"jid\":\"j\",\"queue\":\"q\"}",
+            "*0\r\n",
+        ),
+        (
+            1,
+            0,
+            "LREM sq:w 1 {\"args\":[],\"class\":\"C\",\"jid\":\"j\",\"queue\":\"q\"}",
+            ":1\r\n",
+        ),
+        (0, 0, "EXISTS sq:w processes", ":1\r\n"),
+        (1, 0, "LMOVE queue:q sq:w RIGHT LEFT", "$-1\r\n"),
+        (1, 0, "CUT", ""),
+        (1, 0, "LMOVE queue:q sq:w RIGHT LEFT", NOT_WORKER),
+        (2, 60_000, "SK.JOIN w", NO_PROCESS),
+        (0, 60_000, "EXISTS processes", ":0\r\n"),
+    ];
+    check_seats(&rt, rt.alloc(), &rows)
+}
+
+#[test]
+fn a_failed_job_is_put_back(rt: HostRuntime) -> Result<(), Fail> {
+    let rows = [
+        (
+            0,
+            0,
+            "LPUSH queue:q {\"args\":[],\"class\":\"C\",\"jid\":\"j\",\"queue\":\"q\"} bare",
+            ":2\r\n",
+        ),
+        (0, 0, "SK.BEAT w", "+OK\r\n"),
+        (1, 0, "SK.JOIN w", "+OK\r\n"),
+        (
+            1,
+            0,
+            "LMOVE queue:q sq:w RIGHT LEFT",
+            "$45\r\n{\"args\":[],\"class\":\"C\",\"jid\":\"j\",\"queue\":\"q\"}\r\n",
+        ),
+        (
+            1,
+            0,
+            "SK.BACK {\"args\":[],\"class\":\"C\",\"jid\":\"j\",\"queue\":\"q\"}",
+            ":1\r\n",
+        ),
+        (0, 0, "LLEN queue:q", ":2\r\n"),
+        (
+            1,
+            0,
+            "LMOVE queue:q sq:w RIGHT LEFT",
+            "$45\r\n{\"args\":[],\"class\":\"C\",\"jid\":\"j\",\"queue\":\"q\"}\r\n",
+        ),
+        (
+            1,
+            0,
+            "SK.FAIL {\"args\":[],\"class\":\"C\",\"jid\":\"j\",\"queue\":\"q\"}",
+            "*0\r\n",
+        ),
+        (
+            1,
+            0,
+            "ZADD retry 9 {\"args\":[],\"class\":\"C\",\"jid\":\"j\",\"queue\":\"q\"}",
+            OUT_OF_TURN,
+        ),
+        (
+            1,
+            0,
+            "ZADD retry 9 {\"args\":[],\"class\":\"C\",\"jid\":\"j\",\"queue\":\"q\",\"retry_count\":0}",
+            ":1\r\n",
+        ),
+        (
+            1,
+            0,
+            "LREM sq:w 1 {\"args\":[],\"class\":\"C\",\"jid\":\"j\",\"queue\":\"q\"}",
+            ":1\r\n",
+        ),
+        (0, 0, "ZCARD retry", ":1\r\n"),
+        (1, 0, "LMOVE queue:q sq:w RIGHT LEFT", "$4\r\nbare\r\n"),
+        (1, 0, "SK.BACK bare", "-SK bad payload\r\n"),
+        (1, 7000, "SK.BURY bare", "*4\r\n:0\r\n:1\r\n*0\r\n*0\r\n"),
+        (1, 7000, "LREM sq:w 1 bare", ":1\r\n"),
+        (0, 7000, "ZSCORE dead bare", "$1\r\n7\r\n"),
+    ];
+    check_seats(&rt, rt.alloc(), &rows)
 }

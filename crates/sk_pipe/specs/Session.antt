@@ -1,9 +1,8 @@
 -- What one command does to a pipe.
-use Rattle.std.specs.Prelude.{◌≡◌, ◌⊎◌, [], ◌∷◌}
+use Rattle.std.specs.Prelude.{◌≡◌}
 use Rattle.sk_cmd.specs.declared.command.Command.{Command}
-use Rattle.sk_model.specs.Change.{Passes}
 use Rattle.sk_model.specs.Reading.{Words, Asks}
-use Rattle.sk_model.specs.Run.{State, Turn, Speaks, turn, starved, after}
+use Rattle.sk_model.specs.Run.{State, Turn, ComesTo, Speaks, after}
 use Rattle.sk_pipe.specs.declared.session.Answer.{Answer}
 
 -- The turn came about: this was answered, and it led from the old state to the new one.
@@ -18,4 +17,4 @@ Spoke old words answer new = (t : Turn) × Speaks old words t × IsTurn old t an
 
 -- The command came to its turn, or starved.
 abbrev pub Asked : State → Command → Answer → State → Type 0
-Asked old command answer new = (t : Turn) × ((t ≡ turn old (Asks command)) ⊎ (t ≡ starved old (Passes old.now ∷ []))) × IsTurn old t answer new
+Asked old command answer new = (t : Turn) × ComesTo old (Asks command) t × IsTurn old t answer new

@@ -1,6 +1,6 @@
-// What a pipe keeps from command to command: the store, and the moment that it is handed. A command is read, and then done.
-ghost use Rattle.std.specs.Prelude.{◌≡◌, ◌↔◌, IsTrue, false};
-ghost use Rattle.sk_model.specs.Run.{first, quits};
+// What a pipe keeps from command to command: the store, the acting seat, and the moment that the store is handed. A command is read, and then done.
+ghost use Rattle.std.specs.Prelude.{◌≡◌, ◌&&◌, false};
+ghost use Rattle.sk_model.specs.Run.{first, is_ok, quits};
 
 use crate::reading::{Said, read_words};
 use sk_cmd::{Command, PlainCommand};
@@ -18,11 +18,12 @@ pub struct Answer {
     pub ends: bool,
 }
 
-/// What a pipe keeps from command to command. Contracts see the world of its store and the moment.
+/// What a pipe keeps from command to command. Contracts see the world of its store, the acting seat and the moment.
 #[derive(Drop)]
 pub struct Session {
     alloc: Global,
     store: Core,
+    seat: u32,
     now: u64,
 }
 
@@ -31,7 +32,7 @@ impl Model for Session {
 
     ghost Value = { State };
 
-    ghost view = { λ s. record { world = s.store; now = s.now } };
+    ghost view = { λ s. record { world = s.store; seat = s.seat; now = s.now } };
 }
 
 // A QUIT or SHUTDOWN.
@@ -46,7 +47,7 @@ fn quits(command: &Command) -> bool
 
 // The command is a QUIT or SHUTDOWN, and the reply to it is `+OK`.
 fn is_accepted(quits: bool, reply: &Reply) -> bool
-    ensures { IsTrue result ↔ (IsTrue quits × (reply.now ≡ Reply.Say Say.Ok)) }
+    ensures { result ≡ (quits && is_ok reply.now) }
 {
     quits && matches!(reply, Reply::Say(Say::Ok))
 }
@@ -64,13 +65,14 @@ fn tells(say: Say) -> Answer
 impl Session {
     ghost use Rattle.sk_pipe.specs.Session.{Asked, Spoke};
 
-    /// An empty store with these limits, at the moment 0. Takes no memory.
+    /// An empty store with these limits, with seat 0 acting, at the moment 0. Takes no memory.
     pub fn new(alloc: Global, limits: Limits) -> Self
         ensures { result ≡ first limits }
     {
         Session {
             alloc,
             store: Core::new(alloc, limits),
+            seat: 0,
             now: 0,
         }
     }
@@ -80,7 +82,7 @@ impl Session {
         ensures { Asked self.old command result self.new }
     {
         let quits = quits(&command);
-        let reply = self.store.step(self.now, command);
+        let reply = self.store.step(self.seat, self.now, command);
         let ends = is_accepted(quits, &reply);
         Answer { reply, ends }
     }
@@ -93,6 +95,14 @@ impl Session {
             Ok(Said::Refused(say)) => tells(say),
             Ok(Said::Sets(now)) => {
                 self.now = now;
+                tells(Say::Ok)
+            }
+            Ok(Said::Sits(seat)) => {
+                self.seat = seat;
+                tells(Say::Ok)
+            }
+            Ok(Said::Cuts(seat)) => {
+                self.store.cut(seat);
                 tells(Say::Ok)
             }
             Ok(Said::Asks(command)) => self.ask(command),

@@ -155,7 +155,7 @@ fn moments_are_numbers_that_are_not_below_zero(rt: HostRuntime) -> Result<(), Fa
     let alloc = rt.alloc();
     let arity = b"-ERR wrong number of arguments for 'sk.now' command\r\n".as_slice();
     let range = b"-ERR value is not an integer or out of range\r\n".as_slice();
-    let rows: [(&[u8], &[u8]); 12] = [
+    let rows: [(&[u8], &[u8]); 14] = [
         (b"SK.NOW 0\n", b"+OK\r\n"),
         (b"sk.Now 1700000000000\n", b"+OK\r\n"),
         (b"SK.NOW 9223372036854775807\n", b"+OK\r\n"),
@@ -166,8 +166,10 @@ fn moments_are_numbers_that_are_not_below_zero(rt: HostRuntime) -> Result<(), Fa
         (b"SK.NOW 01\n", range),
         (b"SK.NOW 1.5\n", range),
         (b"SK.NOW x\n", range),
-        (b"SK.AS 0\n", b"-SK not built\r\n"),
-        (b"sk.cut\n", b"-SK not built\r\n"),
+        (b"SK.AS 4294967295\n", b"+OK\r\n"),
+        (b"SK.AS 4294967296\n", range),
+        (b"sk.cut 7\n", b"+OK\r\n"),
+        (b"SK.CUT -1\n", range),
     ];
     for (input, want) in rows {
         let (status, text) = ran(alloc, &["pipe"], input, 0)?;
@@ -261,7 +263,7 @@ fn plain_keys_hold_what_redis_has(rt: HostRuntime) -> Result<(), Fail> {
         ),
         (b"ECHO x\n", b"$1\r\nx\r\n"),
         (
-            b"ZADD z 2 b 1 a\nZRANGE z 0 0 WITHSCORES\nLLEN sq:a\n",
+            b"ZADD z 2 b 1 a\nZRANGE z 0 0 WITHSCORES\nGET stat:failed\n",
             b":2\r\n*2\r\n$1\r\na\r\n$1\r\n1\r\n-SK not built\r\n",
         ),
     ];

@@ -3,12 +3,12 @@ use Rattle.std.specs.Vec.Iter.{into_iter_items, into_iter_len}
 use Rattle.sk_model.specs.Held.{held}
 use Rattle.sk_model.specs.World.{World}
 use Rattle.sk_value.specs.Keys.{how_many}
-use Rattle.sk_core.specs.Whole.{world_at}
+use Rattle.sk_core.specs.Whole.{with_leases, world_at}
 use Rattle.sk_core.proofs.looks.count_there.Given as goal
 
 -- those counted, and those that are left
 abbrev pub invariant-loop-name : goal.invariant-loop-name
 invariant-loop-name l = record {
-  counts : (w : World) (moment : ℕ) → l.count + how_many (held (world_at w moment l.places.stands l.keys)) (into_iter_items l.name-iterator) ≡ how_many (held (world_at w moment l.places.stands l.keys)) l.fn.names.items;
+  counts : (w : World) → l.count + how_many (held (world_at (with_leases w l.leases.stands) l.moment l.places.stands l.keys)) (into_iter_items l.name-iterator) ≡ how_many (held (world_at (with_leases w l.leases.stands) l.moment l.places.stands l.keys)) l.fn.names.items;
   small : l.count + into_iter_len l.name-iterator ≤ vec_len l.fn.names;
 }

@@ -2,9 +2,9 @@ use Rattle.std.proofs.Common.{◌∙◌, ap}
 use Rattle.sk_value.specs.Answer.{counted}
 use Rattle.sk_value.specs.Keys.{how_many}
 use Rattle.sk_model.specs.Held.{held}
-use Rattle.sk_core.specs.Whole.{world_at}
+use Rattle.sk_core.specs.Whole.{with_leases, world_at}
 use Rattle.sk_core.proofs.looks.exists.Goals as goal
 
 pub returns : goal.returns
-returns c = λ w moment.
-    c.counted.ensures ∙ ap counted (c.count_there.ensures.count w moment ∙ ap (how_many (held (world_at w moment c.args.places.now.stands c.args.keys.now))) c.into_list.ensures)
+returns c = λ w.
+    c.counted.ensures ∙ ap counted (c.in_ok-count.ensures.count w ∙ ap (how_many (held (world_at (with_leases w c.args.leases.now.stands) c.args.moment c.args.places.now.stands c.args.keys.now))) c.into_list.ensures)
