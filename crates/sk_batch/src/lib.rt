@@ -22,6 +22,7 @@ pub use batch_fault::BatchFault;
 pub use batch_stat::BatchStat;
 pub use batches::Batches;
 pub use callbacks::Callbacks;
+pub use event::Event;
 pub use firing::{Firing, Kind};
 pub use member::{Mark, Marks, Member};
 pub use std::alloc::AllocError as Memory;

@@ -1,15 +1,1 @@
-pub mod BuriedText
-pub mod Burying
-pub mod Classes
-pub mod Coming
-pub mod Deleting
-pub mod Editing
-pub mod Fitting
-pub mod Fronts
-pub mod Looking
-pub mod OnKeys
-pub mod Scores
-pub mod Seating
-pub mod SentOn
-pub mod Telling
-pub mod Working
+mod Stepping

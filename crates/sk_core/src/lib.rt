@@ -1,36 +1,9 @@
-//! The store: it does what the abstract store does, over the places of its jobs and the plain keys.
+//! The store: all that it keeps, and each command handed to what does it.
 #![tactic(auto)]
 
 mod built;
-mod burials;
-mod dead;
-mod deletes;
-mod edits;
-mod fetches;
-mod jobs;
-mod key_class;
-mod looks;
-mod moves;
-mod names;
-mod plain;
-mod processes;
-mod pushes;
-mod releases;
-mod removals;
-mod report;
-mod retries;
+mod parts;
 mod rights;
-mod room;
-mod runs;
-mod scripts;
-mod seats;
-mod sending;
-mod sets;
 mod store;
-mod turn;
-mod workers;
 
 pub use store::Core;
-
-#[cfg(test)]
-mod tests;

@@ -5,8 +5,8 @@ ghost use Rattle.sk_model.specs.Phases.{is_plain};
 ghost use Rattle.sk_model.specs.Seats.{adds, adds_on, is_workers, works_on};
 ghost use Rattle.sk_model.specs.declared.key_class.KeyClass.TheVariants as KeyClass;
 
-use crate::key_class::class_of;
 use sk_cmd::Scored;
+use sk_keyspace::class_of;
 use sk_model::{KeyClass, Phase};
 use sk_value::{Action, Edit};
 

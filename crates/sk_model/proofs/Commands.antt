@@ -1,5 +1,5 @@
 -- The changes of each command are good.
-use Rattle.std.proofs.Common.{◌≡◌, ◌≤◌, ℕ, zero, suc, List, [], ◌∷◌, ◌++◌, refl, sym, subst, inl, inr, arith, ◌&&◌, ◌||◌}
+use Rattle.std.proofs.Common.{◌≡◌, ◌≤◌, ℕ, zero, suc, List, [], ◌∷◌, ◌++◌, refl, sym, subst, inl, inr, arith, Bool, true, false, cond, ◌&&◌, ◌||◌}
 use Rattle.std.specs.Prelude.{nat_abs, pos, Option, Some, None, map}
 use Rattle.std.specs.List.{list_all}
 use Rattle.sk_resp.specs.Spelling.{Bytes}
@@ -24,28 +24,38 @@ use Rattle.sk_places.specs.declared.row.Place.TheVariants.{Queue, Set}
 use Rattle.sk_places.specs.declared.row.Row.{Row}
 use Rattle.sk_places.specs.Rows.{is_at, rows_at, row_at, row_at_end}
 use Rattle.sk_model.specs.Phases.{is_plain as is_plain_seat}
+use Rattle.sk_lives.specs.declared.origin.Origin.TheVariants.{Outside}
 use Rattle.sk_model.specs.World.{World, phase_of}
 use Rattle.sk_model.specs.Change.{Add, Take, Moves, Passes, Names, Unnames, Keeps, changed, perform}
 use Rattle.sk_model.specs.Class.{class_of, queue_of, is_plain, is_queue}
-use Rattle.sk_model.specs.Queues.{pushes, takes, copies_of, end_taken, move_row, add_names}
+use Rattle.sk_model.specs.Queues.{pushes, takes, move_row, add_names}
+use Rattle.sk_places.specs.Rows.{copies_of, end_taken}
 use Rattle.sk_model.specs.Deletes.{take_all, delete_as, delete_each, delete, may_go, flush}
+use Rattle.sk_model.specs.Outcome.{Outcome}
+use Rattle.sk_model.specs.Life.{IsSound}
 use Rattle.sk_model.specs.Reading.{Words, Said, Refused, Sets, Sits, Cuts, Asks}
 use Rattle.sk_model.specs.Run.{State, Turn, ComesTo, Speaks, turn}
 use Rattle.sk_model.specs.Room.{is_full}
 use Rattle.sk_model.specs.Seats.{is_workers, is_for_all}
-use Rattle.sk_model.specs.Step.{act, by_seat, run, is_script_built, edits, edit_queue, edit_names, on_plain, moves, is_built, outcome}
+use Rattle.sk_model.specs.Step.{Steps, act, by_seat, cut, run, is_script_built, edits, edit_queue, edit_names, on_plain, moves, outcome}
 use Rattle.sk_model.proofs.Taking.{there, one_fewer, taken_at_most, end_there}
 use Rattle.sk_model.proofs.Going.{filter_among}
 use Rattle.sk_model.proofs.Sending.{choice, taking_good, edit_jobs_good, due_good, kill_good, revive_good}
-use Rattle.sk_model.proofs.Working.{where_plain_good, beat_good, join_good, work_good, start_good, fail_good, settle_good, bury_good, back_good}
-use Rattle.sk_model.proofs.Good.{Good, good_nothing, good_append, then_others, good_add, good_carry, good_take, good_turn, good_passes, good_names, good_unnames, good_keeps}
+use Rattle.sk_model.proofs.Rescuing.{rescue_good}
+use Rattle.sk_model.proofs.Working.{where_plain_good, beat_good, join_good, work_good, start_good, fail_good, ok_good, drop_good, bury_good, back_good}
+use Rattle.sk_model.proofs.Making.{batch_push_lawful, batch_add_lawful}
+use Rattle.sk_model.specs.Batches.{batch_of, tells_stat}
+use Rattle.sk_batch.specs.Stat.{stat}
+use Rattle.sk_batch.specs.declared.batch_stat.BatchStat.{BatchStat}
+use Rattle.sk_model.specs.Once.{is_dead_set}
+use Rattle.sk_model.proofs.Good.{Good, Lawful, lawful_passes, good_nothing, good_append, then_others, good_add, good_carry, good_take, good_turn, good_passes, good_names, good_unnames, good_keeps}
 
 -- ## Queues
 
 pub push_good : (w : World) (end : Side) (place : Place) (texts : List Bytes) → Good w (pushes end place texts)
 push_good w end place [] = good_nothing w
-push_good w end place (text ∷ texts) = let one = Moves (Add (row_at place text) end) in
-    then_others w one (pushes end place texts) (good_add w (row_at place text) end) (push_good (changed w one) end place texts)
+push_good w end place (text ∷ texts) = let one = Moves (Add (row_at place text) end Outside) in
+    then_others w one (pushes end place texts) (good_add w (row_at place text) end Outside) (push_good (changed w one) end place texts)
 
 pub takes_good : (w : World) (n : ℕ) (row : Row) (end : Side) → n ≤ copies_of row w.rows → Good w (takes n row end)
 takes_good w zero row end most = good_nothing w
@@ -53,9 +63,9 @@ takes_good w (suc n) row end most = let some = there row n w.rows most in
     then_others w (Moves (Take row end)) (takes n row end) (good_take w row end some)
     (takes_good (changed w (Moves (Take row end))) n row end (omega (arith, most, one_fewer row end w.rows some)))
 
-move_row_good : (w : World) (out end : Side) (from to : Place) (found : Option Row) → row_at_end out from w.rows ≡ found → Good w (move_row found out to end).changes
-move_row_good w out end from to None e = good_nothing w
-move_row_good w out end from to (Some row) e = good_carry w row out to (pos 0) end (end_there out from w.rows row e)
+move_row_good : (w : World) (out end : Side) (from to : Place) (found : Option Row) → is_dead_set to ≡ false → row_at_end out from w.rows ≡ found → Good w (move_row found out to end).changes
+move_row_good w out end from to None alive e = good_nothing w
+move_row_good w out end from to (Some row) alive e = good_carry w row out to (pos 0) end (end_there out from w.rows row e) alive
 
 names_good : (w : World) (names : List Bytes) → Good w (map Names names)
 names_good w [] = good_nothing w
@@ -99,14 +109,14 @@ edits_good w key e class.NoQueue = good_nothing w
 edits_good w key e class.Private = good_nothing w
 edits_good w key e class.NoPrivate = good_nothing w
 edits_good w key e class.Processes = good_nothing w
-edits_good w key e class.Later = good_nothing w
+edits_good w key e class.Counter = good_nothing w
 
 on_plain_good : (w : World) (a : Action) (c : KeyClass) → Good w (on_plain w a c).changes
 on_plain_good w a c = choice w (is_plain c) _ _ (λ y. good_keeps w _) (λ n. good_nothing w)
 
 moves_good : (w : World) (source destination : Bytes) (from to : Side) (c d : KeyClass) → Good w (moves w source destination from to c d).changes
 moves_good w source destination from to c d = choice w (is_plain c && is_plain d) _ _ (λ y. good_keeps w _)
-    (λ n. choice w (is_queue c && is_queue d) _ _ (λ y. move_row_good w from to (Queue (queue_of source)) (Queue (queue_of destination)) _ refl) (λ n. good_nothing w))
+    (λ n. choice w (is_queue c && is_queue d) _ _ (λ y. move_row_good w from to (Queue (queue_of source)) (Queue (queue_of destination)) _ refl refl) (λ n. good_nothing w))
 
 -- ## Whole keys
 
@@ -120,7 +130,7 @@ delete_as_good w key class.Private = good_nothing w
 delete_as_good w key class.NoPrivate = good_nothing w
 delete_as_good w key class.Processes = good_nothing w
 delete_as_good w key class.Queues = good_nothing w
-delete_as_good w key class.Later = good_nothing w
+delete_as_good w key class.Counter = good_nothing w
 
 delete_each_good : (w : World) (keys : List Bytes) → Good w (delete_each w keys).changes
 delete_each_good w [] = good_nothing w
@@ -159,46 +169,66 @@ by_seat_good : (w : World) (seat : ℕ) (phase : Phase) (c : PlainCommand) → G
 by_seat_good w seat phase c = choice w (is_workers (action_of c)) _ _ (λ y. work_good w seat phase (action_of c))
     (λ n. choice w (is_plain_seat phase || is_for_all c) _ _ (λ y. act_good w (action_of c)) (λ n. good_nothing w))
 
-run_good : (w : World) (seat : ℕ) (phase : Phase) (c : ScriptCommand) → Good w (run w seat phase c).changes
-run_good w seat phase (script.Beat ident) = beat_good w ident
-run_good w seat phase (script.Join ident) = where_plain_good w phase _ (join_good w seat ident)
-run_good w seat phase (script.Start text) = start_good w phase text
-run_good w seat phase (script.Ok text) = settle_good w seat phase text _ _
-run_good w seat phase (script.Fail text) = fail_good w phase text
-run_good w seat phase (script.Drop text) = settle_good w seat phase text _ _
-run_good w seat phase (script.Bury text) = bury_good w seat phase text
-run_good w seat phase (script.Back text) = back_good w seat phase text
-run_good w seat phase (script.Due set limit) = where_plain_good w phase _ (due_good w set (nat_abs limit))
-run_good w seat phase (script.Revive set text) = where_plain_good w phase _ (revive_good w set text)
-run_good w seat phase (script.Kill set text) = where_plain_good w phase _ (kill_good w set text)
-run_good w seat phase script.Rescue = good_nothing w
-run_good w seat phase (script.Upush text score) = good_nothing w
-run_good w seat phase (script.Bpush bid parent complete success death texts) = good_nothing w
-run_good w seat phase (script.Badd bid texts) = good_nothing w
-run_good w seat phase (script.Bstat bid) = good_nothing w
-run_good w seat phase (script.Lead ident) = good_nothing w
-run_good w seat phase (script.Cron ident loop slot text) = good_nothing w
-run_good w seat phase (script.Where jid) = good_nothing w
-run_good w seat phase script.Status = good_nothing w
+-- a batch's numbers change nothing
+stat_good : (w : World) (found : Option BatchStat) → Good w (tells_stat found).changes
+stat_good w None = good_nothing w
+stat_good w (Some s) = good_nothing w
 
-outcome_good : (w : World) (seat now : ℕ) (c : Command) → Good w (outcome w seat now c).changes
-outcome_good w seat now (command.Plain c) = choice w (is_built (action_of c)) _ _
-    (λ y. then_others w (Passes now) _ (good_passes w now) (by_seat_good (changed w (Passes now)) seat (phase_of w seat) c)) (λ n. good_nothing w)
-outcome_good w seat now (command.Script c) = choice w (is_script_built c) _ _
-    (λ y. then_others w (Passes now) _ (good_passes w now) (run_good (changed w (Passes now)) seat (phase_of w seat) c)) (λ n. good_nothing w)
+run_lawful : (w : World) (seat : ℕ) (phase : Phase) (c : ScriptCommand) → Lawful w (run w seat phase c).changes
+run_lawful w seat phase (script.Beat ident) = (beat_good w ident).lawful
+run_lawful w seat phase (script.Join ident) = (where_plain_good w phase _ (join_good w seat ident)).lawful
+run_lawful w seat phase (script.Start text) = (start_good w phase text).lawful
+run_lawful w seat phase (script.Ok text) = (ok_good w seat phase text).lawful
+run_lawful w seat phase (script.Fail text) = (fail_good w phase text).lawful
+run_lawful w seat phase (script.Drop text) = (drop_good w seat phase text).lawful
+run_lawful w seat phase (script.Bury text) = (bury_good w seat phase text).lawful
+run_lawful w seat phase (script.Back text) = (back_good w seat phase text).lawful
+run_lawful w seat phase (script.Due set limit) = (where_plain_good w phase _ (due_good w set (nat_abs limit))).lawful
+run_lawful w seat phase (script.Revive set text) = (where_plain_good w phase _ (revive_good w set text)).lawful
+run_lawful w seat phase (script.Kill set text) = (where_plain_good w phase _ (kill_good w set text)).lawful
+run_lawful w seat phase script.Rescue = (where_plain_good w phase _ (rescue_good w)).lawful
+run_lawful w seat phase (script.Upush text score) = (good_nothing w).lawful
+run_lawful w seat phase (script.Bpush bid parent complete success death texts) = batch_push_lawful w (batch_of bid parent complete success death) texts
+run_lawful w seat phase (script.Badd bid texts) = batch_add_lawful w bid texts
+run_lawful w seat phase (script.Bstat bid) = (stat_good w (stat bid w.batches)).lawful
+run_lawful w seat phase (script.Lead ident) = (good_nothing w).lawful
+run_lawful w seat phase (script.Cron ident loop slot text) = (good_nothing w).lawful
+run_lawful w seat phase (script.Where jid) = (good_nothing w).lawful
+run_lawful w seat phase script.Status = (good_nothing w).lawful
 
-turn_good : (s : State) (said : Said) → Good s.world (turn s said).changes
-turn_good s (Refused say) = good_nothing s.world
-turn_good s (Sets now) = good_nothing s.world
-turn_good s (Sits seat) = good_nothing s.world
-turn_good s (Cuts seat) = good_turn s.world seat Plain tt
-turn_good s (Asks c) = outcome_good s.world s.seat s.now c
+whichever : (w : World) (b : Bool) (one other : Outcome) → Lawful w one.changes → Lawful w other.changes → Lawful w (cond b one other).changes
+whichever w true one other f g = f
+whichever w false one other f g = g
 
-comes_good : (s : State) (said : Said) (t : Turn) → ComesTo s said t → Good s.world t.changes
-comes_good s said t (inl e) = subst (λ (u : Turn). Good s.world u.changes) (sym e) (turn_good s said)
-comes_good s said t (inr (may, e)) = subst (λ (u : Turn). Good s.world u.changes) (sym e) (good_passes s.world s.now)
+outcome_lawful : (w : World) (seat now : ℕ) (c : Command) → Lawful w (outcome w seat now c).changes
+outcome_lawful w seat now (command.Plain c) = lawful_passes w now _ (by_seat_good (changed w (Passes now)) seat (phase_of w seat) c).lawful
+outcome_lawful w seat now (command.Script c) = whichever w (is_script_built c) _ _ (lawful_passes w now _ (run_lawful (changed w (Passes now)) seat (phase_of w seat) c)) (good_nothing w).lawful
+
+-- ## What a store owes to the laws
+
+-- a sound world stays sound, whatever command a seat sends and wherever memory runs out
+pub step_sound : (w : World) (seat now : ℕ) (c : Command) (o : Outcome) → Steps w seat now c o → IsSound w → IsSound (perform w o.changes)
+step_sound w seat now c o (inl e) s = subst (λ (u : Outcome). IsSound (perform w u.changes)) (sym e) ((outcome_lawful w seat now c).keeps.sound s)
+step_sound w seat now c o (inr (may, e)) s = subst (λ (u : Outcome). IsSound (perform w u.changes)) (sym e) ((good_passes w now).lawful.keeps.sound s)
+
+-- and where a seat is cut off
+pub cut_sound : (w : World) (seat : ℕ) → IsSound w → IsSound (perform w (cut seat).changes)
+cut_sound w seat s = (good_turn w seat Plain tt).lawful.keeps.sound s
+
+-- ## Words
+
+turn_lawful : (s : State) (said : Said) → Lawful s.world (turn s said).changes
+turn_lawful s (Refused say) = (good_nothing s.world).lawful
+turn_lawful s (Sets now) = (good_nothing s.world).lawful
+turn_lawful s (Sits seat) = (good_nothing s.world).lawful
+turn_lawful s (Cuts seat) = (good_turn s.world seat Plain tt).lawful
+turn_lawful s (Asks c) = outcome_lawful s.world s.seat s.now c
+
+comes_lawful : (s : State) (said : Said) (t : Turn) → ComesTo s said t → Lawful s.world t.changes
+comes_lawful s said t (inl e) = subst (λ (u : Turn). Lawful s.world u.changes) (sym e) (turn_lawful s said)
+comes_lawful s said t (inr (may, e)) = subst (λ (u : Turn). Lawful s.world u.changes) (sym e) (good_passes s.world s.now).lawful
 
 -- whatever words come, and wherever memory runs out
-pub good : (s : State) (words : Words) (t : Turn) → Speaks s words t → Good s.world t.changes
-good s words t (inl (said, is, comes)) = comes_good s said t comes
-good s words t (inr (memory, e)) = subst (λ (u : Turn). Good s.world u.changes) (sym e) (good_nothing s.world)
+pub lawful : (s : State) (words : Words) (t : Turn) → Speaks s words t → Lawful s.world t.changes
+lawful s words t (inl (said, is, comes)) = comes_lawful s said t comes
+lawful s words t (inr (memory, e)) = subst (λ (u : Turn). Lawful s.world u.changes) (sym e) (good_nothing s.world).lawful

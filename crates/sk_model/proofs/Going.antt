@@ -5,7 +5,7 @@ use Rattle.std.specs.List.{list_any}
 use Rattle.sk_cmd.specs.declared.argument.Side.TheVariants.{Left}
 use Rattle.sk_places.specs.declared.row.Row.{Row}
 use Rattle.sk_places.specs.Rows.{is_same, insert_after, take_row}
-use Rattle.sk_model.specs.Queues.{copies_of}
+use Rattle.sk_places.specs.Rows.{copies_of}
 use Rattle.sk_model.specs.World.{World}
 use Rattle.sk_model.specs.Change.{Change, changed}
 use Rattle.sk_model.proofs.Texts.{same_row, same_is}

@@ -1,114 +1,174 @@
 -- What the changes of every command owe to the laws. Proved for each kind of change, and for one list of changes after another.
-use Rattle.std.proofs.Common.{◌≡◌, ℕ, ℤ, ◌+◌, List, [], ◌∷◌, ◌++◌, refl, sym, ap, subst, ◌∙◌, arith, true, false}
+use Rattle.std.proofs.Common.{◌≡◌, ℕ, ℤ, ◌+◌, List, [], ◌∷◌, ◌++◌, refl, sym, ap, subst, ◌∙◌, arith, Bool, true, false, not, ◌&&◌, ◌||◌}
 use Rattle.std.specs.List.{list_any}
 use Rattle.sk_resp.specs.Spelling.{Bytes}
 use Rattle.sk_places.specs.declared.row.Place.{Place}
 use Rattle.sk_places.specs.declared.row.Row.{Row}
 use Rattle.sk_cmd.specs.declared.argument.Side.{Side}
-use Rattle.sk_cmd.specs.declared.argument.Side.TheVariants.{Left}
 use Rattle.sk_value.specs.Keys.{Keys}
-use Rattle.sk_places.specs.Rows.{is_same, take_row}
+use Rattle.sk_places.specs.Rows.{is_same}
+use Rattle.sk_batch.specs.Batched.{Batched}
+use Rattle.sk_batch.specs.declared.firing.Kind.TheVariants.{Death}
 use Rattle.sk_model.specs.declared.phase.Phase.{Phase}
-use Rattle.sk_model.specs.World.{World, phase_of}
-use Rattle.sk_model.specs.Change.{Add, Carry, Take, Trim, Merge, PutBack, Free, Change, Moves, Passes, Names, Unnames, Keeps, Turns, Beats, carried, changed, perform}
-use Rattle.sk_model.specs.Laws.{copies, pushed, taken}
-use Rattle.sk_model.specs.Life.{Life, Live, Deleted, Trimmed, IsKept, life_after, life_through}
-use Rattle.sk_model.proofs.Copies.{copies-put_row, copies-take_row, copies-freed}
-use Rattle.sk_model.proofs.Kept.{Ready, kept_by_texts, kept_add, kept_carry, kept_put, kept_gone, kept_merge, kept_free, kept_turn}
+use Rattle.sk_model.specs.World.{World}
+use Rattle.sk_model.specs.Change.{Add, Carry, Take, Trim, PutBack, Free, Change, Moves, Passes, Names, Unnames, Keeps, Turns, Beats, Counts, Recovers, Forgets, changed, perform}
+use Rattle.sk_lives.specs.Lives.{one_if}
+use Rattle.sk_model.specs.Once.{CallsFollow, times, buries, is_dead_set}
+use Rattle.sk_lives.specs.declared.origin.Origin.{Origin}
+use Rattle.sk_model.proofs.Kept.{Ready}
+use Rattle.sk_model.proofs.Marked.{Sane}
+pub use Rattle.sk_model.proofs.Fired.{perform-append}
+use Rattle.sk_model.proofs.Fired.{was_fired, all_quiet, quiet_batches, quiet_times, times-append}
+use Rattle.sk_model.proofs.Leads.{Leads, StaysWhole, leads_own, leads_same, leads_then}
+use Rattle.sk_model.proofs.Calls.{calls-append, calls_quiet}
+use Rattle.sk_model.proofs.Keeps.{KeepsJobs, keeps_nothing, keeps_append, keeps_others, keeps_add, keeps_put, keeps_carry, keeps_take, keeps_trim, keeps_free, keeps_turn, keeps_passes, keeps_names, keeps_unnames, keeps_keeps, keeps_beats, keeps_counts, keeps_recovers, keeps_forgets}
 
+-- a member of the batch was buried, and death was fired
+abbrev pub has_died : Batched → Bytes → Bool
+has_died s b = was_fired Death b s.batches
+
+-- Death is fired where a member is buried for the first time.
+pub record Deaths (w : World) (changes : List Change) : Type 0 where
+  pub once : Sane w.batches → (b : Bytes) → times Death b changes ≡ one_if (buries b w changes && not (has_died w.batches b))
+  pub died : Sane w.batches → (b : Bytes) → has_died (perform w changes).batches b ≡ has_died w.batches b || buries b w changes
+
+-- what all laws ask
+pub record Lawful (w : World) (changes : List Change) : Type 0 where
+  pub keeps : KeepsJobs w changes
+  pub leads : Leads w.batches (perform w changes).batches (λ kind b. times kind b changes)
+  pub deaths : Deaths w changes
+  pub calls : Sane w.batches → CallsFollow w changes
+
+-- the same, where no batch gets jobs
 pub record Good (w : World) (changes : List Change) : Type 0 where
-  -- a job that is live afterwards is kept, where it was kept if it was live before
-  pub lives : (jid : Bytes) (life : Life) → (life ≡ Live → IsKept w jid) → life_through w jid life changes ≡ Live → IsKept (perform w changes) jid
-  -- a text stands as often as before, once more for each time that it is brought, and once less for each row of it that is taken
-  pub counts : (text : Bytes) → copies text (perform w changes) + taken text w changes ≡ pushed text changes + copies text w
+  pub lawful : Lawful w changes
+  pub stays : StaysWhole w.batches (perform w changes).batches
 
-pub perform-append : (w : World) (a b : List Change) → perform w (a ++ b) ≡ perform (perform w a) b
-perform-append w [] b = refl
-perform-append w (change ∷ a) b = perform-append (changed w change) a b
+-- ## One list of changes after another
 
-pushed-append : (text : Bytes) (a b : List Change) → pushed text (a ++ b) ≡ pushed text a + pushed text b
-pushed-append text [] b = omega arith
-pushed-append text (change ∷ a) b = omega (arith, pushed-append text a b)
+pub buries-append : (b : Bytes) (w : World) (one more : List Change) → buries b w (one ++ more) ≡ buries b w one || buries b (perform w one) more
+buries-append b w [] more = refl
+buries-append b w (change ∷ one) more = grind (arith, buries-append b (changed w change) one more)
 
-taken-append : (text : Bytes) (w : World) (a b : List Change) → taken text w (a ++ b) ≡ taken text w a + taken text (perform w a) b
-taken-append text w [] b = omega arith
-taken-append text w (change ∷ a) b = omega (arith, taken-append text (changed w change) a b)
+dies_once : (x y d : Bool) (l m n : ℕ) → l ≡ m + n → m ≡ one_if (x && not d) → n ≡ one_if (y && not (d || x)) → l ≡ one_if ((x || y) && not d)
+dies_once x y d l m n sum one more = grind (arith, sum, one, more)
 
-life_through-append : (w : World) (jid : Bytes) (was : Life) (a b : List Change) → life_through w jid was (a ++ b) ≡ life_through (perform w a) jid (life_through w jid was a) b
-life_through-append w jid was [] b = refl
-life_through-append w jid was (change ∷ a) b = life_through-append (changed w change) jid (life_after w jid was change) a b
+deaths_append : (w : World) (one more : List Change) → (Sane w.batches → Sane (perform w one).batches) → Deaths w one → Deaths (perform w one) more → Deaths w (one ++ more)
+deaths_append w one more sane first then_ = record {
+  once = λ s b.
+      let both = buries-append b w one more in
+      let after = first.died s b in
+      dies_once (buries b w one) (buries b (perform w one) more) (has_died w.batches b) _ _ _ (times-append Death b one more) (first.once s b) (then_.once (sane s) b ∙ ap (λ d. one_if (buries b (perform w one) more && not d)) after)
+      ∙ ap (λ x. one_if (x && not (has_died w.batches b))) (sym both);
+  died = λ s b.
+      let both = buries-append b w one more in
+      let first_ = first.died s b in
+      let last = then_.died (sane s) b in
+      let end = ap (λ (v : World). has_died v.batches b) (perform-append w one more) in
+      grind (arith, both, first_, last, end);
+}
 
-pub good_nothing : (w : World) → Good w []
-good_nothing w = record { lives = λ jid life stood live. stood live; counts = λ text. omega arith }
-
-pub good_append : (w : World) (a b : List Change) → Good w a → Good (perform w a) b → Good w (a ++ b)
-good_append w a b first then_ = record {
-  lives = λ jid life stood live. subst (λ (v : World). IsKept v jid) (sym (perform-append w a b))
-      (then_.lives jid (life_through w jid life a) (first.lives jid life stood) (sym (life_through-append w jid life a b) ∙ live));
-  counts = λ text. omega (arith, ap (copies text) (perform-append w a b), pushed-append text a b, taken-append text w a b, first.counts text, then_.counts text);
+pub good_append : (w : World) (one more : List Change) → Good w one → Good (perform w one) more → Good w (one ++ more)
+good_append w one more first then_ = record {
+  lawful = record {
+    keeps = keeps_append w one more first.lawful.keeps then_.lawful.keeps;
+    leads = subst (λ (v : World). Leads w.batches v.batches (λ kind b. times kind b (one ++ more))) (sym (perform-append w one more))
+        (leads_then w.batches (perform w one).batches (perform (perform w one) more).batches _ _ _ (λ kind b. times-append kind b one more) first.lawful.leads then_.lawful.leads then_.stays);
+    deaths = deaths_append w one more first.lawful.leads.sane first.lawful.deaths then_.lawful.deaths;
+    calls = λ s. calls-append w one more (first.lawful.calls s) (then_.lawful.calls (first.lawful.leads.sane s));
+  };
+  stays = subst (λ (v : World). StaysWhole w.batches v.batches) (sym (perform-append w one more)) (λ b h. then_.stays b (first.stays b h));
 }
 
 -- one change, and then others
 pub then_others : (w : World) (change : Change) (changes : List Change) → Good w (change ∷ []) → Good (changed w change) changes → Good w (change ∷ changes)
 then_others w change changes one more = good_append w (change ∷ []) changes one more
 
-pub good_add : (w : World) (row : Row) (end : Side) → Good w (Moves (Add row end) ∷ [])
-good_add w row end = record { lives = λ jid life was live. kept_add w row end jid life was live; counts = λ text. omega (arith, copies-put_row text end row w.rows) }
+-- ## Changes that leave the batches alone
 
-pub good_put : (w : World) (row : Row) → Good w (Moves (PutBack row) ∷ [])
-good_put w row = record { lives = λ jid life was live. kept_put w row jid (was live); counts = λ text. omega (arith, copies-put_row text Left row w.rows) }
+pub leads_quiet : (w : World) (changes : List Change) → all_quiet changes ≡ true → Leads w.batches (perform w changes).batches (λ kind b. times kind b changes)
+leads_quiet w changes quiet = subst (λ (s : Batched). Leads w.batches s (λ kind b. times kind b changes)) (sym (quiet_batches w changes quiet)) (leads_own w.batches _ (λ kind b. quiet_times kind b changes quiet))
 
--- a row that is there may go to another place
-pub good_carry : (w : World) (row : Row) (from : Side) (to : Place) (score : ℤ) (end : Side) → list_any (is_same row) w.rows ≡ true → Good w (Moves (Carry row from to score end) ∷ [])
-good_carry w row from to score end there = record {
-  lives = λ jid life was live. kept_carry w row from to score end jid (was live);
-  counts = λ text. omega (arith, copies-put_row text end (carried row to score) (take_row from row w.rows), copies-take_row text from row w.rows there);
-}
+pub stays_quiet : (w : World) (changes : List Change) → all_quiet changes ≡ true → StaysWhole w.batches (perform w changes).batches
+stays_quiet w changes quiet = subst (StaysWhole w.batches) (sym (quiet_batches w changes quiet)) (λ b h. h)
+
+-- and bury no member
+pub good_quiet : (w : World) (changes : List Change) → KeepsJobs w changes → all_quiet changes ≡ true → ((b : Bytes) → buries b w changes ≡ false) → Good w changes
+good_quiet w changes keeps quiet none =
+    let same = quiet_batches w changes quiet in
+    record {
+      lawful = record {
+        keeps = keeps;
+        leads = leads_quiet w changes quiet;
+        deaths = record {
+          once = λ s b. let zero' = quiet_times Death b changes quiet in let no = none b in grind (arith, zero', no);
+          died = λ s b. let end = ap (λ (t : Batched). has_died t b) same in let no = none b in grind (arith, end, no);
+        };
+        calls = λ s. calls_quiet w changes quiet;
+      };
+      stays = stays_quiet w changes quiet;
+    }
+
+pub good_nothing : (w : World) → Good w []
+good_nothing w = good_quiet w [] (keeps_nothing w) refl (λ b. refl)
+
+pub good_add : (w : World) (row : Row) (end : Side) (from : Origin) → Good w (Moves (Add row end from) ∷ [])
+good_add w row end from = good_quiet w _ (keeps_add w row end from) refl (λ b. refl)
+
+-- a text may be put back, but for the dead set
+pub good_put : (w : World) (row : Row) → is_dead_set row.place ≡ false → Good w (Moves (PutBack row) ∷ [])
+good_put w row alive = good_quiet w _ (keeps_put w row) refl (λ b. grind (arith, alive))
+
+-- a row that is there may go to another place, but for the dead set
+pub good_carry : (w : World) (row : Row) (from : Side) (to : Place) (score : ℤ) (end : Side) → list_any (is_same row) w.rows ≡ true → is_dead_set to ≡ false → Good w (Moves (Carry row from to score end) ∷ [])
+good_carry w row from to score end there alive = good_quiet w _ (keeps_carry w row from to score end there) refl (λ b. grind (arith, alive))
 
 -- a row that is there may be taken away
 pub good_take : (w : World) (row : Row) (from : Side) → list_any (is_same row) w.rows ≡ true → Good w (Moves (Take row from) ∷ [])
-good_take w row from there = record {
-  lives = λ jid life was live. kept_gone w row from jid life Deleted (λ e. cc e) was live;
-  counts = λ text. omega (arith, copies-take_row text from row w.rows there);
-}
+good_take w row from there = good_quiet w _ (keeps_take w row from there) refl (λ b. refl)
 
 -- or be trimmed
 pub good_trim : (w : World) (row : Row) → list_any (is_same row) w.rows ≡ true → Good w (Moves (Trim row) ∷ [])
-good_trim w row there = record {
-  lives = λ jid life was live. kept_gone w row Left jid life Trimmed (λ e. cc e) was live;
-  counts = λ text. omega (arith, copies-take_row text Left row w.rows there);
-}
-
--- or become one with another of its text
-pub good_merge : (w : World) (row other : Row) → row.text ≡ other.text → is_same row other ≡ false → list_any (is_same other) w.rows ≡ true → list_any (is_same row) w.rows ≡ true → Good w (Moves (Merge row) ∷ [])
-good_merge w row other e apart other_there there = record {
-  lives = λ jid life was live. kept_merge w row other jid e apart other_there (was live);
-  counts = λ text. omega (arith, copies-take_row text Left row w.rows there);
-}
+good_trim w row there = good_quiet w _ (keeps_trim w row there) refl (λ b. refl)
 
 -- a seat releases its payload, whatever stands of it
 pub good_free : (w : World) (seat : ℕ) → Good w (Moves (Free seat) ∷ [])
-good_free w seat = record {
-  lives = λ jid life was live. kept_free w seat jid life was live;
-  counts = λ text. omega (arith, copies-freed text w (phase_of w seat));
-}
+good_free w seat = good_quiet w _ (keeps_free w seat) refl (λ b. refl)
 
 -- a seat turns to a phase that it is ready for
 pub good_turn : (w : World) (seat : ℕ) (phase : Phase) → Ready w phase → Good w (Turns seat phase ∷ [])
-good_turn w seat phase ready = record { lives = λ jid life was live. kept_turn w seat phase jid ready (was live); counts = λ text. omega arith }
+good_turn w seat phase ready = good_quiet w _ (keeps_turn w seat phase ready) refl (λ b. refl)
 
--- what leaves the rows and the seats alone
 pub good_passes : (w : World) (now : ℕ) → Good w (Passes now ∷ [])
-good_passes w now = record { lives = λ jid life was live. kept_by_texts w (changed w (Passes now)) jid (λ test stood. stood) refl (was live); counts = λ text. omega arith }
+good_passes w now = good_quiet w _ (keeps_passes w now) refl (λ b. refl)
 
 pub good_names : (w : World) (queue : Bytes) → Good w (Names queue ∷ [])
-good_names w queue = record { lives = λ jid life was live. kept_by_texts w (changed w (Names queue)) jid (λ test stood. stood) refl (was live); counts = λ text. omega arith }
+good_names w queue = good_quiet w _ (keeps_names w queue) refl (λ b. refl)
 
 pub good_unnames : (w : World) (queue : Bytes) → Good w (Unnames queue ∷ [])
-good_unnames w queue = record { lives = λ jid life was live. kept_by_texts w (changed w (Unnames queue)) jid (λ test stood. stood) refl (was live); counts = λ text. omega arith }
+good_unnames w queue = good_quiet w _ (keeps_unnames w queue) refl (λ b. refl)
 
 pub good_keeps : (w : World) (keys : Keys) → Good w (Keeps keys ∷ [])
-good_keeps w keys = record { lives = λ jid life was live. kept_by_texts w (changed w (Keeps keys)) jid (λ test stood. stood) refl (was live); counts = λ text. omega arith }
+good_keeps w keys = good_quiet w _ (keeps_keeps w keys) refl (λ b. refl)
 
 pub good_beats : (w : World) (ident : Bytes) → Good w (Beats ident ∷ [])
-good_beats w ident = record { lives = λ jid life was live. kept_by_texts w (changed w (Beats ident)) jid (λ test stood. stood) refl (was live); counts = λ text. omega arith }
+good_beats w ident = good_quiet w _ (keeps_beats w ident) refl (λ b. refl)
+
+pub good_counts : (w : World) (name : Bytes) → Good w (Counts name ∷ [])
+good_counts w name = good_quiet w _ (keeps_counts w name) refl (λ b. refl)
+
+pub good_recovers : (w : World) (jid : Bytes) → Good w (Recovers jid ∷ [])
+good_recovers w jid = good_quiet w _ (keeps_recovers w jid) refl (λ b. refl)
+
+pub good_forgets : (w : World) (jid : Bytes) → Good w (Forgets jid ∷ [])
+good_forgets w jid = good_quiet w _ (keeps_forgets w jid) refl (λ b. refl)
+
+-- ## Time goes on, and then any changes
+
+pub lawful_passes : (w : World) (now : ℕ) (changes : List Change) → Lawful (changed w (Passes now)) changes → Lawful w (Passes now ∷ changes)
+lawful_passes w now changes l = record {
+  keeps = keeps_others w (Passes now) changes (keeps_passes w now) l.keeps;
+  leads = leads_same w.batches (perform w (Passes now ∷ changes)).batches _ _ (λ kind b. omega arith) l.leads;
+  deaths = deaths_append w (Passes now ∷ []) changes (λ s. s) (good_passes w now).lawful.deaths l.deaths;
+  calls = λ s. ((changes, refl), l.calls s);
+}

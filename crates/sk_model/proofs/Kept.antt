@@ -11,14 +11,16 @@ use Rattle.sk_places.specs.declared.row.Place.{Place}
 use Rattle.sk_places.specs.declared.row.Place.TheVariants.{Private}
 use Rattle.sk_places.specs.declared.row.Row.{Row}
 use Rattle.sk_places.specs.Rows.{is_same, row_at, take_row}
-use Rattle.sk_model.specs.declared.phase.End.{End}
-use Rattle.sk_model.specs.declared.phase.End.TheVariants as end
 use Rattle.sk_model.specs.declared.phase.Phase.{Phase}
 use Rattle.sk_model.specs.declared.phase.Phase.TheVariants.{Plain, Idle, Held, Put, Settled}
 use Rattle.sk_model.specs.World.{World, phase_of}
 use Rattle.sk_model.specs.Phases.{phase_in, has}
-use Rattle.sk_model.specs.Change.{Add, Carry, Merge, PutBack, Free, Moves, Turns, carried, freed, moved, changed}
-use Rattle.sk_model.specs.Life.{Life, Unborn, Live, Muddled, Returned, Discarded, Deleted, Trimmed, IsKept, is_newer, outranks, fresh, ended, freed_life, life_after, life_of}
+use Rattle.sk_lives.specs.declared.ending.Ending.{Ending}
+use Rattle.sk_lives.specs.declared.ending.Ending.TheVariants.{Muddled}
+use Rattle.sk_lives.specs.declared.origin.Origin.{Origin}
+use Rattle.sk_model.specs.Live.{fresh}
+use Rattle.sk_model.specs.Change.{Add, Carry, Merge, PutBack, Free, Moves, Turns, ending_of, carried, freed, moved, changed}
+use Rattle.sk_model.specs.Life.{Life, Unborn, Live, Ended, IsKept, is_newer, outranks, ended, freed_life, life_after}
 use Rattle.sk_model.proofs.Standing.{some, some-put_row, some-take_row, some-others, some-merged, some_weaker}
 use Rattle.sk_model.proofs.Turned.{has_some, phase_turned}
 
@@ -30,23 +32,19 @@ kept_by_texts w v jid texts phases k = record {
 }
 
 -- no life is live after its end
-ended_not_live : (end life : Life) → (end ≡ Live → ⊥) → ended end life ≡ Live → ⊥
-ended_not_live end Unborn other live = cc live
-ended_not_live end Live other live = other live
-ended_not_live end Muddled other live = cc live
-ended_not_live end Returned other live = cc live
-ended_not_live end Discarded other live = cc live
-ended_not_live end Deleted other live = cc live
-ended_not_live end Trimmed other live = cc live
+ended_not_live : (how : Ending) (before : Life) → ended how before ≡ Live → ⊥
+ended_not_live how Unborn live = cc live
+ended_not_live how Live live = cc live
+ended_not_live how (Ended one) live = cc live
 
 -- ## A row comes
 
-comes_on : (w : World) (row : Row) (end : Side) (jid : Bytes) → IsKept w jid → IsKept (moved w (Add row end)) jid
-comes_on w row end jid k = kept_by_texts w (moved w (Add row end)) jid (λ test stood. some-put_row test end row w.rows ∙ grind (arith, stood)) refl k
+comes_on : (w : World) (row : Row) (end : Side) (from : Origin) (jid : Bytes) → IsKept w jid → IsKept (moved w (Add row end from)) jid
+comes_on w row end from jid k = kept_by_texts w (moved w (Add row end from)) jid (λ test stood. some-put_row test end row w.rows ∙ grind (arith, stood)) refl k
 
 -- a fresh job is in no seat's hands
-fresh_kept : (w : World) (row : Row) (end : Side) (jid : Bytes) → names row.text jid ≡ true → fresh w jid ≡ true → IsKept (moved w (Add row end)) jid
-fresh_kept w row end jid named new = record {
+fresh_kept : (w : World) (row : Row) (end : Side) (from : Origin) (jid : Bytes) → names row.text jid ≡ true → fresh w jid ≡ true → IsKept (moved w (Add row end from)) jid
+fresh_kept w row end from jid named new = record {
   standing = some-put_row (λ text. names text jid) end row w.rows ∙ grind (arith, named);
   newer = λ seat ident held is of_it.
       let has_it : has jid (phase_of w seat) ≡ true = ap (has jid) is ∙ of_it in
@@ -54,12 +52,12 @@ fresh_kept w row end jid named new = record {
       grind (arith, seen, new);
 }
 
-pub kept_add : (w : World) (row : Row) (end : Side) (jid : Bytes) (life : Life) → (life ≡ Live → IsKept w jid) → life_after w jid life (Moves (Add row end)) ≡ Live → IsKept (moved w (Add row end)) jid
-kept_add w row end jid life was live = by_name (names row.text jid) (fresh w jid) refl refl live where
-  by_name : (named new : Bool) → names row.text jid ≡ named → fresh w jid ≡ new → cond named (cond new Live (ended Muddled life)) life ≡ Live → IsKept (moved w (Add row end)) jid
-  by_name true true e f live = fresh_kept w row end jid e f
-  by_name true false e f live = absurd (ended_not_live Muddled life (λ m. cc m) live)
-  by_name false new e f live = comes_on w row end jid (was live)
+pub kept_add : (w : World) (row : Row) (end : Side) (from : Origin) (jid : Bytes) (life : Life) → (life ≡ Live → IsKept w jid) → life_after w jid life (Moves (Add row end from)) ≡ Live → IsKept (moved w (Add row end from)) jid
+kept_add w row end from jid life was live = by_name (names row.text jid) (fresh w jid) refl refl live where
+  by_name : (named new : Bool) → names row.text jid ≡ named → fresh w jid ≡ new → cond named (cond new Live (ended Muddled life)) life ≡ Live → IsKept (moved w (Add row end from)) jid
+  by_name true true e f live = fresh_kept w row end from jid e f
+  by_name true false e f live = absurd (ended_not_live Muddled life live)
+  by_name false new e f live = comes_on w row end from jid (was live)
 
 pub kept_put : (w : World) (row : Row) (jid : Bytes) → IsKept w jid → IsKept (moved w (PutBack row)) jid
 kept_put w row jid k = kept_by_texts w (moved w (PutBack row)) jid (λ test stood. some-put_row test Left row w.rows ∙ grind (arith, stood)) refl k
@@ -76,18 +74,19 @@ kept_merge w row other jid e apart there k = kept_by_texts w (moved w (Merge row
 -- ## A row goes
 
 -- one of another job
-other_goes : (w : World) (row : Row) (from : Side) (jid : Bytes) → names row.text jid ≡ false → IsKept w jid → IsKept (record w { rows = take_row from row w.rows }) jid
-other_goes w row from jid other k = record {
-  standing = some-others (λ text. names text jid) from row w.rows other k.standing;
-  newer = λ seat ident held is named. some-others (is_newer held jid) from row w.rows (grind (arith, other)) (k.newer seat ident held is named);
+other_goes : (w v : World) (row : Row) (from : Side) (jid : Bytes) → v.rows ≡ take_row from row w.rows → v.phases ≡ w.phases → names row.text jid ≡ false → IsKept w jid → IsKept v jid
+other_goes w v row from jid rows phases other k = record {
+  standing = ap (λ rs. some (λ text. names text jid) rs) rows ∙ some-others (λ text. names text jid) from row w.rows other k.standing;
+  newer = λ seat ident held is named. ap (λ rs. some (is_newer held jid) rs) rows
+      ∙ some-others (is_newer held jid) from row w.rows (grind (arith, other)) (k.newer seat ident held (ap (λ ps. phase_in ps seat) (sym phases) ∙ is) named);
 }
 
 -- or one of the job, which ends it
-pub kept_gone : (w : World) (row : Row) (from : Side) (jid : Bytes) (life end : Life) → (end ≡ Live → ⊥) → (life ≡ Live → IsKept w jid) → cond (names row.text jid) (ended end life) life ≡ Live → IsKept (record w { rows = take_row from row w.rows }) jid
-kept_gone w row from jid life end over was live = by_name (names row.text jid) refl live where
-  by_name : (named : Bool) → names row.text jid ≡ named → cond named (ended end life) life ≡ Live → IsKept (record w { rows = take_row from row w.rows }) jid
-  by_name true e live = absurd (ended_not_live end life over live)
-  by_name false e live = other_goes w row from jid e (was live)
+pub kept_gone : (w v : World) (row : Row) (from : Side) (jid : Bytes) (life : Life) (how : Ending) → v.rows ≡ take_row from row w.rows → v.phases ≡ w.phases → (life ≡ Live → IsKept w jid) → cond (names row.text jid) (ended how life) life ≡ Live → IsKept v jid
+kept_gone w v row from jid life how rows phases was live = by_name (names row.text jid) refl live where
+  by_name : (named : Bool) → names row.text jid ≡ named → cond named (ended how life) life ≡ Live → IsKept v jid
+  by_name true e live = absurd (ended_not_live how life live)
+  by_name false e live = other_goes w v row from jid rows phases e (was live)
 
 -- ## A worker releases what it has put back
 
@@ -114,16 +113,12 @@ module _ (w : World) (seat : ℕ) (ident held jid : Bytes) (is : phase_of w seat
     newer = λ other ident' held' is' named'. left_by_release (is_newer held' jid) (λ y. (grind (arith, y), λ text m. grind (arith, nat_tests, y, m))) (k.newer other ident' held' is' named');
   }
 
-not_live : (e : End) → life_of e ≡ Live → ⊥
-not_live end.Returned live = cc live
-not_live end.Discarded live = cc live
-
 freed_kept : (w : World) (seat : ℕ) (phase : Phase) (jid : Bytes) (life : Life) → phase_of w seat ≡ phase → (life ≡ Live → IsKept w jid) → freed_life phase jid life ≡ Live → IsKept (freed w phase) jid
 freed_kept w seat Plain jid before is was live = was live
 freed_kept w seat (Idle ident) jid before is was live = was live
 freed_kept w seat (Held ident held) jid before is was live = was live
 freed_kept w seat (Put ident held) jid before is was live = released_put w seat ident held jid is (was live)
-freed_kept w seat (Settled ident held end) jid before is was live = kept_gone w (row_at (Private ident) held) Left jid before (life_of end) (not_live end) was live
+freed_kept w seat (Settled ident held end) jid before is was live = kept_gone w (freed w (Settled ident held end)) (row_at (Private ident) held) Left jid before (ending_of end) refl refl was live
 
 pub kept_free : (w : World) (seat : ℕ) (jid : Bytes) (life : Life) → (life ≡ Live → IsKept w jid) → life_after w jid life (Moves (Free seat)) ≡ Live → IsKept (moved w (Free seat)) jid
 kept_free w seat jid life was live = freed_kept w seat (phase_of w seat) jid life refl was live

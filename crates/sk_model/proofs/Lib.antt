@@ -4,14 +4,28 @@ pub mod Standing
 pub mod Turned
 pub mod Kept
 pub mod Taking
+pub mod Living
+pub mod Sound
+pub mod Lines
+pub mod Marked
+pub mod Fired
+pub mod Leads
+pub mod Calls
+pub mod Telling
+pub mod Keeps
 pub mod Good
 pub mod Going
+pub mod Told
 pub mod Sending
 pub mod Fronts
 pub mod Working
+pub mod Rescuing
+pub mod Making
 pub mod Commands
 pub mod Runs
+pub mod Firing
 pub mod Running
 pub mod Readings
 mod Worked
+mod WorkedBatches
 mod WorkedSeats

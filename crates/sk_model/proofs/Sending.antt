@@ -5,6 +5,7 @@ use Rattle.std.specs.List.{list_any, list_all}
 use Rattle.std.specs.Ordering.{int_cmp, is_eq, is_le}
 use Rattle.std.specs.Str.{bytes_eq}
 use Rattle.sk_resp.specs.Spelling.{Bytes}
+use Rattle.sk_cmd.specs.declared.argument.Side.{Side}
 use Rattle.sk_cmd.specs.declared.argument.Side.TheVariants.{Left}
 use Rattle.sk_cmd.specs.declared.argument.Scored.{Scored}
 use Rattle.sk_cmd.specs.declared.argument.Scored.TheVariants.{Schedule, Retry, Dead}
@@ -21,18 +22,30 @@ use Rattle.sk_places.specs.declared.row.Place.{Place}
 use Rattle.sk_places.specs.declared.row.Place.TheVariants.{Queue, Private, Set}
 use Rattle.sk_places.specs.declared.row.Row.{Row}
 use Rattle.sk_places.specs.Rows.{pair_of, place_cmp, stands_before, is_at, is_same, rows_at, row_of, row_in, take_row, first_row}
+use Rattle.sk_lives.specs.declared.origin.Origin.TheVariants.{Outside}
 use Rattle.sk_model.specs.World.{World}
 use Rattle.sk_model.specs.Change.{Carry, Take, Trim, Merge, Change, Moves, carried, changed, perform}
 use Rattle.sk_model.specs.Outcome.{Outcome}
-use Rattle.sk_model.specs.Queues.{copies_of}
+use Rattle.sk_places.specs.Rows.{copies_of}
 use Rattle.sk_model.specs.Deletes.{take_all}
 use Rattle.sk_model.specs.Sets.{add_as, add_one, add_each, edit_jobs}
-use Rattle.sk_model.specs.Jobs.{merge, put_dead, is_old, surplus, most_dead, moment_score, buried_by, bury, send, send_each, waiting_rows, due, kill, kill_row, revive, revive_row, revive_as}
+use Rattle.sk_model.specs.Jobs.{merge, put_dead, is_old, surplus, most_dead, moment_score, buried_by, Sent, bury, to_queue, send, each, waiting_rows, due, kill, kill_row, revive, revive_row, revive_as}
 use Rattle.sk_model.proofs.Texts.{bytes_tell, same_is}
 use Rattle.sk_model.proofs.Taking.{passes}
 use Rattle.sk_model.proofs.Standing.{still_there}
-use Rattle.sk_model.proofs.Going.{both_parts, append_count, take_fewer, Among, filter_among, take_among, drop_among, among_through, count_first, first_among, count_taken, others_among, count_put, count_apart, going_good}
-use Rattle.sk_model.proofs.Good.{Good, good_nothing, good_append, then_others, perform-append, good_add, good_carry, good_take, good_trim, good_merge}
+use Rattle.sk_model.proofs.Going.{both_parts, append_count, take_fewer, Among, filter_among, take_among, drop_among, among_through, count_first, first_among, count_taken, count_put, count_apart, going_good}
+use Rattle.sk_batch.specs.Batched.{Batched}
+use Rattle.sk_batch.specs.declared.event.Event.TheVariants.{Died}
+use Rattle.sk_batch.specs.declared.firing.Kind.TheVariants.{Death}
+use Rattle.sk_model.specs.Told.{tell}
+use Rattle.sk_model.specs.Once.{times, buries, is_dead_set, is_of_batch}
+use Rattle.sk_model.proofs.Marked.{Sane}
+use Rattle.sk_model.proofs.Fired.{all_quiet, quiet-append, quiet_batches, quiet_times, times-append}
+use Rattle.sk_model.proofs.Leads.{Leads, StaysWhole, leads_then}
+use Rattle.sk_model.proofs.Calls.{calls-append, calls_quiet}
+use Rattle.sk_model.proofs.Keeps.{KeepsJobs, keeps_append, keeps_others, keeps_carry, keeps_merge}
+use Rattle.sk_model.proofs.Good.{Good, buries-append, has_died, leads_quiet, stays_quiet, good_nothing, good_append, then_others, perform-append, good_add, good_carry, good_take, good_trim}
+use Rattle.sk_model.proofs.Told.{TellsDeath, tells_death, tell_more}
 
 -- whichever of two outcomes it is
 pub choice : (w : World) (b : Bool) (one other : Outcome) → (b ≡ true → Good w one.changes) → (b ≡ false → Good w other.changes) → Good w (cond b one other).changes
@@ -83,7 +96,7 @@ all_own : {A : Type 0} (test : A → Bool) (xs : List A) → list_all test (filt
 all_own test [] = refl
 all_own test (x ∷ xs) = grind (arith, all_own test xs)
 
-all_filter : {A : Type 0} (test part : A → Bool) (xs : List A) → list_all test xs ≡ true → list_all test (filter part xs) ≡ true
+pub all_filter : {A : Type 0} (test part : A → Bool) (xs : List A) → list_all test xs ≡ true → list_all test (filter part xs) ≡ true
 all_filter test part [] all = refl
 all_filter test part (x ∷ xs) all = grind (arith, all_filter test part xs)
 
@@ -98,14 +111,14 @@ all_append test (x ∷ xs) ys all more = grind (arith, all_append test xs ys)
 
 -- ## ZADD, and what takes rows away
 
-add_as_good : (w : World) (set : Scored) (pair : Pair) (found : Option Row) → row_of pair.1 (rows_at (Set set) w.rows) ≡ found → Good w (add_as set pair found ∷ [])
-add_as_good w set pair None e = good_add w (row_in set pair) Left
-add_as_good w set pair (Some row) e = good_carry w row Left (Set set) pair.0 Left (row_there pair.1 row (Set set) w.rows e)
+add_as_good : (w : World) (set : Scored) (pair : Pair) (found : Option Row) → is_dead_set (Set set) ≡ false → row_of pair.1 (rows_at (Set set) w.rows) ≡ found → Good w (add_as set pair found ∷ [])
+add_as_good w set pair None alive e = good_add w (row_in set pair) Left Outside
+add_as_good w set pair (Some row) alive e = good_carry w row Left (Set set) pair.0 Left (row_there pair.1 row (Set set) w.rows e) alive
 
-pub add_each_good : (w : World) (set : Scored) (pairs : List Pair) → Good w (add_each w set pairs)
-add_each_good w set [] = good_nothing w
-add_each_good w set (pair ∷ pairs) = let one = add_one w set pair in
-    then_others w one (add_each (changed w one) set pairs) (add_as_good w set pair _ refl) (add_each_good (changed w one) set pairs)
+pub add_each_good : (w : World) (set : Scored) (pairs : List Pair) → is_dead_set (Set set) ≡ false → Good w (add_each w set pairs)
+add_each_good w set [] alive = good_nothing w
+add_each_good w set (pair ∷ pairs) alive = let one = add_one w set pair in
+    then_others w one (add_each (changed w one) set pairs) (add_as_good w set pair _ alive refl) (add_each_good (changed w one) set pairs alive)
 
 pub taking_good : (w : World) (rows : List Row) → Among rows w.rows → Good w (take_all rows)
 taking_good w rows among = going_good (λ row. Moves (Take row Left)) (λ w row. good_take w row Left) (λ w row. refl) w rows among
@@ -125,15 +138,15 @@ apart_by test row other passes_ fails = by_same (is_same row other) refl where
 pub text_is : (a b : Bytes) → bytes_eq a b ≡ true → a ≡ b
 text_is a b e = grind (arith, bytes_tell a b)
 
-put_as_good : (w : World) (row : Row) (found : Option Row) → list_any (is_same row) w.rows ≡ true → is_at (Set Dead) row ≡ false → row_of row.text (rows_at (Set Dead) w.rows) ≡ found
-    → Good w (merge found ++ Moves (Carry row Left (Set Dead) (moment_score w) Left) ∷ [])
-put_as_good w row None there alive e = good_carry w row Left (Set Dead) (moment_score w) Left there
-put_as_good w row (Some other) there alive e =
+put_as_keeps : (w : World) (row : Row) (found : Option Row) → list_any (is_same row) w.rows ≡ true → is_at (Set Dead) row ≡ false → row_of row.text (rows_at (Set Dead) w.rows) ≡ found
+    → KeepsJobs w (merge found ++ Moves (Carry row Left (Set Dead) (moment_score w) Left) ∷ [])
+put_as_keeps w row None there alive e = keeps_carry w row Left (Set Dead) (moment_score w) Left there
+put_as_keeps w row (Some other) there alive e =
     let apart = apart_by (is_at (Set Dead)) other row (row_at_place row.text other (is_at (Set Dead)) w.rows e) alive in
     let same = sym (text_is row.text other.text (row_text row.text other (rows_at (Set Dead) w.rows) e)) in
-    then_others w (Moves (Merge other)) (Moves (Carry row Left (Set Dead) (moment_score w) Left) ∷ [])
-    (good_merge w other row same apart there (row_there row.text other (Set Dead) w.rows e))
-    (good_carry (changed w (Moves (Merge other))) row Left (Set Dead) (moment_score w) Left (still_there other row w.rows apart there))
+    keeps_others w (Moves (Merge other)) (Moves (Carry row Left (Set Dead) (moment_score w) Left) ∷ [])
+    (keeps_merge w other row same apart there (row_there row.text other (Set Dead) w.rows e))
+    (keeps_carry (changed w (Moves (Merge other))) row Left (Set Dead) (moment_score w) Left (still_there other row w.rows apart there))
 
 surplus_among : (w : World) (rows all : List Row) → Among rows all → Among (surplus w rows) all
 surplus_among w rows all among row =
@@ -141,16 +154,102 @@ surplus_among w rows all among row =
     let n : ℕ = length young - most_dead in
     omega (arith, append_count (is_same row) (filter (is_old w) rows) (take n young), take_fewer (is_same row) n young, both_parts (is_same row) (is_old w) rows, among row)
 
--- what buries a row, and the trimming of the dead set then
-pub buried_good : (w : World) (put : List Change) → Good w put → Good w (buried_by w put).changes
-buried_good w put one =
-    let after : World = perform w put in
-    good_append w put _ one
-    (going_good (λ row. Moves (Trim row)) good_trim (λ w row. refl) after (surplus after (rows_at (Set Dead) after.rows))
-    (surplus_among after (rows_at (Set Dead) after.rows) after.rows (filter_among (is_at (Set Dead)) after.rows)))
+trims_quiet : (rows : List Row) → all_quiet (map (λ row. Moves (Trim row)) rows) ≡ true
+trims_quiet [] = refl
+trims_quiet (row ∷ rows) = trims_quiet rows
 
-bury_good : (w : World) (row : Row) → list_any (is_same row) w.rows ≡ true → is_at (Set Dead) row ≡ false → Good w (bury w row).changes
-bury_good w row there alive = buried_good w (put_dead w row) (put_as_good w row _ there alive refl)
+trims_bury : (b : Bytes) (w : World) (rows : List Row) → buries b w (map (λ row. Moves (Trim row)) rows) ≡ false
+trims_bury b w [] = refl
+trims_bury b w (row ∷ rows) = trims_bury b (changed w (Moves (Trim row))) rows
+
+-- What buries a text, the trimming of the dead set then, and what the batch is told.
+pub record Buries (w : World) (text : Bytes) (put : List Change) : Type 0 where
+  pub keeps : KeepsJobs w put
+  pub quiet : all_quiet put ≡ true
+  pub member : (b : Bytes) → buries b w put ≡ is_of_batch b w.batches (head text)
+
+module _ (w : World) (text : Bytes) (put : List Change) (one : Buries w text put) where
+  abbrev after : World
+  after = perform w put
+
+  abbrev gone : List Row
+  gone = surplus after (rows_at (Set Dead) after.rows)
+
+  abbrev done : List Change
+  done = put ++ map (λ row. Moves (Trim row)) gone
+
+  trims_good : Good after (map (λ row. Moves (Trim row)) gone)
+  trims_good = going_good (λ row. Moves (Trim row)) good_trim (λ w row. refl) after gone (surplus_among after (rows_at (Set Dead) after.rows) after.rows (filter_among (is_at (Set Dead)) after.rows))
+
+  done_quiet : all_quiet done ≡ true
+  done_quiet = quiet-append put _ one.quiet (trims_quiet gone)
+
+  done_batches : (perform w done).batches ≡ w.batches
+  done_batches = quiet_batches w done done_quiet
+
+  done_buries : (b : Bytes) → buries b w done ≡ is_of_batch b (perform w done).batches (head text)
+  done_buries b =
+      let both = buries-append b w put (map (λ row. Moves (Trim row)) gone) in
+      let trimmed = trims_bury b after gone in
+      let own = one.member b in
+      let same = ap (λ (s : Batched). is_of_batch b s (head text)) done_batches in
+      grind (arith, both, trimmed, own, same)
+
+  abbrev told : List Change
+  told = (tell Died (perform w done) text).changes
+
+  told_death : TellsDeath (perform w done) told (λ b. is_of_batch b (perform w done).batches (head text))
+  told_death = tells_death (perform w done) (head text)
+
+  end_is : perform w (done ++ told) ≡ perform (perform w done) told
+  end_is = perform-append w done told
+
+  sane_done : Sane w.batches → Sane (perform w done).batches
+  sane_done s = (leads_quiet w done done_quiet).sane s
+
+  died_done : (b : Bytes) → has_died (perform w done).batches b ≡ has_died w.batches b
+  died_done b = ap (λ (s : Batched). has_died s b) done_batches
+
+  buries_all : (b : Bytes) → buries b w (done ++ told) ≡ is_of_batch b (perform w done).batches (head text)
+  buries_all b =
+      let both = buries-append b w done told in
+      let own = done_buries b in
+      let none = told_death.buries_none b in
+      grind (arith, both, own, none)
+
+  pub buried_good : Good w (buried_by w text put).changes
+  buried_good = record {
+    lawful = record {
+      keeps = keeps_append w done told (keeps_append w put _ one.keeps trims_good.lawful.keeps) told_death.keeps;
+      leads = subst (λ (v : World). Leads w.batches v.batches (λ kind b. times kind b (done ++ told))) (sym end_is)
+          (leads_then w.batches (perform w done).batches (perform (perform w done) told).batches _ _ _ (λ kind b. times-append kind b done told) (leads_quiet w done done_quiet) told_death.leads told_death.stays);
+      deaths = record {
+        once = λ s b.
+            let sum = times-append Death b done told in
+            let none = quiet_times Death b done done_quiet in
+            let count = told_death.once (sane_done s) b in
+            let all = buries_all b in
+            let died = died_done b in
+            grind (arith, sum, none, count, all, died);
+        died = λ s b.
+            let is = told_death.died (sane_done s) b in
+            let all = buries_all b in
+            let died = died_done b in
+            let end = ap (λ (v : World). has_died v.batches b) end_is in
+            grind (arith, is, all, died, end);
+      };
+      calls = λ s. calls-append w done told (calls_quiet w done done_quiet) (told_death.calls (sane_done s));
+    };
+    stays = subst (λ (v : World). StaysWhole w.batches v.batches) (sym end_is) (λ b h. told_death.stays b (stays_quiet w done done_quiet b h));
+  }
+
+put_dead_buries : (w : World) (row : Row) (found : Option Row) → list_any (is_same row) w.rows ≡ true → is_at (Set Dead) row ≡ false → row_of row.text (rows_at (Set Dead) w.rows) ≡ found
+    → Buries w row.text (merge found ++ Moves (Carry row Left (Set Dead) (moment_score w) Left) ∷ [])
+put_dead_buries w row None there alive e = record { keeps = put_as_keeps w row None there alive e; quiet = refl; member = λ b. grind arith }
+put_dead_buries w row (Some other) there alive e = record { keeps = put_as_keeps w row (Some other) there alive e; quiet = refl; member = λ b. grind arith }
+
+pub bury_good : (w : World) (row : Row) → list_any (is_same row) w.rows ≡ true → is_at (Set Dead) row ≡ false → Good w (bury w row).changes
+bury_good w row there alive = buried_good w row.text (put_dead w row) (put_dead_buries w row _ there alive refl)
 
 -- ## Rows that are sent on, one after another
 
@@ -191,16 +290,19 @@ put_keeps w row other (Some dead) there alive kept e =
       count_put other (carried row (Set Dead) (moment_score w)) (stands_before Left (carried row (Set Dead) (moment_score w))) (take_row Left row left),
     )
 
-bury_keeps : (w : World) (row other : Row) → list_any (is_same row) w.rows ≡ true → is_at (Set Dead) row ≡ false → is_at (Set Dead) other ≡ false
+pub bury_keeps : (w : World) (row other : Row) → list_any (is_same row) w.rows ≡ true → is_at (Set Dead) row ≡ false → is_at (Set Dead) other ≡ false
     → copies_of other w.rows ≤ cond (is_same other row) 1 0 + copies_of other (perform w (bury w row).changes).rows
 bury_keeps w row other there alive kept =
     let after : World = perform w (put_dead w row) in
     let gone : List Row = surplus after (rows_at (Set Dead) after.rows) in
+    let done : List Change = put_dead w row ++ map (λ row. Moves (Trim row)) gone in
     omega (
       arith,
       put_keeps w row other _ there alive kept refl,
       trims_keep after gone other (surplus_dead after (rows_at (Set Dead) after.rows) (all_own (is_at (Set Dead)) after.rows)) kept,
       ap (λ (u : World). copies_of other u.rows) (perform-append w (put_dead w row) (map (λ row. Moves (Trim row)) gone)),
+      tell_more other Died (perform w done) (head row.text),
+      ap (λ (u : World). copies_of other u.rows) (perform-append w done (tell Died (perform w done) row.text).changes),
     )
 
 first_alive : (row : Row) (more : List Row) → Alive (row ∷ more) → is_at (Set Dead) row ≡ false
@@ -209,26 +311,42 @@ first_alive row more alive = grind (arith, alive)
 rest_alive : (row : Row) (more : List Row) → Alive (row ∷ more) → Alive more
 rest_alive row more alive = grind (arith, alive)
 
--- the rows that are still to be sent are there
-others_stay : (w : World) (row : Row) (more : List Row) (found : Option Head) → Among (row ∷ more) w.rows → Alive (row ∷ more) → Among more (perform w (send w row found).changes).rows
-others_stay w row more (Some h) among alive other =
-    omega (arith, others_among row more w.rows among other, count_put other (carried row (Queue h.queue) (pos 0)) (stands_before Left (carried row (Queue h.queue) (pos 0))) (take_row Left row w.rows))
-others_stay w row more None among alive other = by_place (is_at (Set Dead) other) refl where
-  by_place : (b : Bool) → is_at (Set Dead) other ≡ b → copies_of other more ≤ copies_of other (perform w (bury w row).changes).rows
-  by_place true dead = omega (arith, no_dead other more dead (rest_alive row more alive))
-  by_place false kept = omega (arith, among other, count_first other row more, bury_keeps w row other (first_among row more w.rows among) (first_alive row more alive) kept)
+pub carry_keeps : (w : World) (end : Side) (row other : Row) (h : Head) → list_any (is_same row) w.rows ≡ true → copies_of other w.rows ≤ cond (is_same other row) 1 0 + copies_of other (perform w (to_queue end row h).changes).rows
+carry_keeps w end row other h there =
+    omega (arith, count_taken other row w.rows there, count_put other (carried row (Queue h.queue) (pos 0)) (stands_before end (carried row (Queue h.queue) (pos 0))) (take_row Left row w.rows))
 
-send_good : (w : World) (row : Row) (found : Option Head) → list_any (is_same row) w.rows ≡ true → is_at (Set Dead) row ≡ false → Good w (send w row found).changes
-send_good w row None there alive = bury_good w row there alive
-send_good w row (Some h) there alive = good_carry w row Left (Queue h.queue) (pos 0) Left there
+-- a way to send a row is good, and takes no other row that isn't dead
+pub record Sends (way : World → Row → Option Head → Sent) : Type 0 where
+  pub good : (w : World) (row : Row) (found : Option Head) → list_any (is_same row) w.rows ≡ true → is_at (Set Dead) row ≡ false → Good w (way w row found).changes
+  pub keeps : (w : World) (row other : Row) (found : Option Head) → list_any (is_same row) w.rows ≡ true → is_at (Set Dead) row ≡ false → is_at (Set Dead) other ≡ false
+      → copies_of other w.rows ≤ cond (is_same other row) 1 0 + copies_of other (perform w (way w row found).changes).rows
 
-send_each_good : (w : World) (rows : List Row) → Among rows w.rows → Alive rows → Good w (send_each w rows).changes
-send_each_good w [] among alive = good_nothing w
-send_each_good w (row ∷ rows) among alive =
-    let one : List Change = (send w row (head row.text)).changes in
-    good_append w one (send_each (perform w one) rows).changes
-    (send_good w row (head row.text) (first_among row rows w.rows among) (first_alive row rows alive))
-    (send_each_good (perform w one) rows (others_stay w row rows (head row.text) among alive) (rest_alive row rows alive))
+module _ (way : World → Row → Option Head → Sent) (sends : Sends way) where
+  -- the rows that are still to be sent are there
+  others_stay : (w : World) (row : Row) (more : List Row) (found : Option Head) → Among (row ∷ more) w.rows → Alive (row ∷ more) → Among more (perform w (way w row found).changes).rows
+  others_stay w row more found among alive other = by_place (is_at (Set Dead) other) refl where
+    by_place : (b : Bool) → is_at (Set Dead) other ≡ b → copies_of other more ≤ copies_of other (perform w (way w row found).changes).rows
+    by_place true dead = omega (arith, no_dead other more dead (rest_alive row more alive))
+    by_place false kept = omega (arith, among other, count_first other row more, sends.keeps w row other found (first_among row more w.rows among) (first_alive row more alive) kept)
+
+  pub each_good : (w : World) (rows : List Row) → Among rows w.rows → Alive rows → Good w (each way w rows).changes
+  each_good w [] among alive = good_nothing w
+  each_good w (row ∷ rows) among alive =
+      let one : List Change = (way w row (head row.text)).changes in
+      good_append w one (each way (perform w one) rows).changes
+      (sends.good w row (head row.text) (first_among row rows w.rows among) (first_alive row rows alive))
+      (each_good (perform w one) rows (others_stay w row rows (head row.text) among alive) (rest_alive row rows alive))
+
+pub send_sends : Sends send
+send_sends = record { good = good; keeps = keeps } where
+  good : (w : World) (row : Row) (found : Option Head) → list_any (is_same row) w.rows ≡ true → is_at (Set Dead) row ≡ false → Good w (send w row found).changes
+  good w row None there alive = bury_good w row there alive
+  good w row (Some h) there alive = good_carry w row Left (Queue h.queue) (pos 0) Left there refl
+
+  keeps : (w : World) (row other : Row) (found : Option Head) → list_any (is_same row) w.rows ≡ true → is_at (Set Dead) row ≡ false → is_at (Set Dead) other ≡ false
+      → copies_of other w.rows ≤ cond (is_same other row) 1 0 + copies_of other (perform w (send w row found).changes).rows
+  keeps w row other None there alive kept = bury_keeps w row other there alive kept
+  keeps w row other (Some h) there alive kept = carry_keeps w Left row other h there
 
 -- ## The commands
 
@@ -268,7 +386,7 @@ pub due_good : (w : World) (set : Scored) (limit : ℕ) → Good w (due w set li
 due_good w set limit =
     let test : Row → Bool = λ row. is_le (int_cmp row.score (moment_score w)) in
     let rows : List Row = filter test (waiting_rows w set) in
-    send_each_good w (take limit rows)
+    each_good send send_sends w (take limit rows)
     (among_through (take limit rows) rows w.rows (take_among limit rows) (among_through rows (waiting_rows w set) w.rows (filter_among test (waiting_rows w set)) (waiting_among w set)))
     (all_take (λ row. not (is_at (Set Dead) row)) limit rows (all_filter (λ row. not (is_at (Set Dead) row)) test (waiting_rows w set) (waiting_alive w set)))
 
@@ -290,7 +408,7 @@ kill_good w set text = kill_row_good w set text _ refl
 
 revive_as_good : (w : World) (row : Row) (found : Option Head) → list_any (is_same row) w.rows ≡ true → Good w (revive_as row found).changes
 revive_as_good w row None there = good_nothing w
-revive_as_good w row (Some h) there = good_carry w row Left (Queue h.queue) (pos 0) Left there
+revive_as_good w row (Some h) there = good_carry w row Left (Queue h.queue) (pos 0) Left there refl
 
 revive_row_good : (w : World) (set : Scored) (text : Bytes) (found : Option Row) → row_of text (rows_at (Set set) w.rows) ≡ found → Good w (revive_row found).changes
 revive_row_good w set text None e = good_nothing w
@@ -301,7 +419,7 @@ revive_good w set text = revive_row_good w set text _ refl
 
 -- what may be written on a set of jobs
 zadd_good : (w : World) (set : Scored) (pairs : List Pair) → Good w (edit_jobs w set (edit.Zadd pairs)).changes
-zadd_good w Schedule pairs = choice w (is_full w (map (λ pair. pair.1) pairs)) _ _ (λ y. good_nothing w) (λ n. add_each_good w Schedule pairs)
+zadd_good w Schedule pairs = choice w (is_full w (map (λ pair. pair.1) pairs)) _ _ (λ y. good_nothing w) (λ n. add_each_good w Schedule pairs refl)
 zadd_good w Retry pairs = good_nothing w
 zadd_good w Dead pairs = good_nothing w
 

@@ -7,7 +7,7 @@ use Rattle.sk_cmd.specs.declared.argument.Side.TheVariants.{Left, Right}
 use Rattle.sk_places.specs.declared.row.Row.{Row}
 use Rattle.sk_places.specs.declared.row.Place.{Place}
 use Rattle.sk_places.specs.Rows.{is_at, is_same, first_row, row_at_end, rows_at, without_first, without_last, take_row}
-use Rattle.sk_model.specs.Queues.{copies_of, number_taken}
+use Rattle.sk_places.specs.Rows.{copies_of, number_taken}
 use Rattle.sk_model.proofs.Texts.{same_row}
 
 -- ## How many of a list pass a test

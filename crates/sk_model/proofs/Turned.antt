@@ -1,7 +1,11 @@
 -- What the seats do once one of them turns to a phase.
 use Rattle.std.proofs.Common.{◌≡◌, ℕ, [], ◌∷◌, refl, ap, ◌∙◌, arith, Bool, true, false, cond, not, Option, Some, None}
 use Rattle.std.specs.Prelude.{filter}
-use Rattle.std.specs.Map.{lookup}
+use Rattle.std.specs.Map.{keys_of, lookup, remove_entry}
+use Rattle.std.specs.List.Sorted.{IsStrictlySortedBy}
+use Rattle.std.specs.List.{AllByRecursion}
+use Rattle.std.specs.declared.cmp.Ordering.TheVariants.{Less}
+use Rattle.std.proofs.lemmas.Bool.Decides.{nat_tests}
 use Rattle.std.specs.BTreeMap.{is_at, insert_entry}
 use Rattle.std.specs.Ordering.{nat_cmp, is_eq}
 use Rattle.sk_resp.specs.Spelling.{Bytes}
@@ -36,3 +40,20 @@ phase_turned phases seat other (Idle ident) = inserted phases seat other (Idle i
 phase_turned phases seat other (Held ident text) = inserted phases seat other (Held ident text)
 phase_turned phases seat other (Put ident text) = inserted phases seat other (Put ident text)
 phase_turned phases seat other (Settled ident text end) = inserted phases seat other (Settled ident text end)
+
+-- ## Seats in order
+
+-- no seat behind one of a greater number is it
+none_behind : (phases : Phases) (seat : ℕ) (first : ℕ) → is_eq (nat_cmp seat first) ≡ true → AllByRecursion (λ other. nat_cmp first other ≡ Less) (keys_of phases) → filter (λ p. not (is_at (nat_cmp seat) p.0)) phases ≡ phases
+none_behind [] seat first same above = refl
+none_behind (p ∷ phases) seat first same above = let less = above.0 in grind (arith, nat_tests, same, less, none_behind phases seat first same above.1)
+
+-- where the seats are in order, what a map leaves without one is what is left of them once it is Plain
+pub turned_plain : (phases : Phases) (seat : ℕ) → IsStrictlySortedBy nat_cmp (keys_of phases) → turned seat Plain phases ≡ remove_entry (is_at (nat_cmp seat)) phases
+unfolding IsStrictlySortedBy
+turned_plain [] seat sorted = refl
+turned_plain (p ∷ phases) seat sorted = by_first (is_eq (nat_cmp seat p.0)) refl (turned_plain phases seat sorted.1) where
+  by_first : (at : Bool) → is_eq (nat_cmp seat p.0) ≡ at → turned seat Plain phases ≡ remove_entry (is_at (nat_cmp seat)) phases
+      → cond (not at) (p ∷ filter (λ q. not (is_at (nat_cmp seat) q.0)) phases) (filter (λ q. not (is_at (nat_cmp seat) q.0)) phases) ≡ cond at phases (p ∷ remove_entry (is_at (nat_cmp seat)) phases)
+  by_first true e more = none_behind phases seat p.0 e sorted.0
+  by_first false e more = ap (λ rest. p ∷ rest) more

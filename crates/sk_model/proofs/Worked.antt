@@ -28,8 +28,10 @@ use Rattle.sk_model.specs.World.{World, first}
 use Rattle.sk_model.specs.Change.{perform}
 use Rattle.sk_model.specs.Class.{class_of}
 use Rattle.sk_model.specs.Outcome.{Outcome}
-use Rattle.sk_model.specs.Step.{is_built, outcome}
-use Rattle.sk_model.specs.Life.{Life, Unborn, Live, Muddled, Deleted, stands, life_through}
+use Rattle.sk_model.specs.Step.{outcome}
+use Rattle.sk_model.specs.Life.{Life, Unborn, Live, Ended, life_through}
+use Rattle.sk_model.specs.Live.{stands}
+use Rattle.sk_lives.specs.declared.ending.Ending.TheVariants.{Muddled, Deleted}
 
 limits : Limits
 limits = record { rows = 10; bytes = 1000; batches = 1 }
@@ -63,21 +65,21 @@ tells say = reply.Say say
 -- one text is pushed, shown and moved, and then no more is there
 moved_once : replies (first limits) ((0, Lpush q (codes "a" ∷ [])) ∷ (0, Lrange q (pos 0) (negsuc 0)) ∷ (0, Lmove q r Right Left) ∷ (0, Lmove q r Right Left) ∷ (0, Lrange r (pos 0) (negsuc 0)) ∷ [])
     ≡ number 1 ∷ texts (codes "a" ∷ []) ∷ reply.Bulk (codes "a") ∷ reply.Null ∷ texts (codes "a" ∷ []) ∷ []
-unfolding limits came replies q r number texts class_of is_built is_utf8 chars edit_at edit_list lib.Utf8.encode
+unfolding limits came replies q r number texts serde_json_on_literals head head_of_value head_of_object digits class_of is_utf8 chars edit_at edit_list lib.Utf8.encode
 moved_once = refl
 
 -- the last text pushed stands leftmost, and the first one goes first; equal texts keep their order among the others
 in_order : replies (first limits) ((0, Lpush q (codes "a" ∷ codes "b" ∷ codes "a" ∷ [])) ∷ (0, Rpush r (codes "c" ∷ [])) ∷ (0, Lmove q r Right Right) ∷ (0, Lrange q (pos 0) (negsuc 0))
     ∷ (0, Lmove r r Left Right) ∷ (0, Lrange r (negsuc 1) (pos 9)) ∷ (0, Lrem q (negsuc 0) (codes "a")) ∷ (0, Lrange q (pos 0) (pos 0)) ∷ [])
     ≡ number 3 ∷ number 1 ∷ reply.Bulk (codes "a") ∷ texts (codes "a" ∷ codes "b" ∷ []) ∷ reply.Bulk (codes "c") ∷ texts (codes "a" ∷ codes "c" ∷ []) ∷ number 1 ∷ texts (codes "b" ∷ []) ∷ []
-unfolding limits came replies q r number texts class_of is_built is_utf8 chars edit_at edit_list lib.Utf8.encode
+unfolding limits came replies q r number texts serde_json_on_literals head head_of_value head_of_object digits class_of is_utf8 chars edit_at edit_list lib.Utf8.encode
 in_order = refl
 
 -- a queue is a key while it has jobs, and its name stays in `queues` until the queue is deleted
 names_of_queues : replies (first limits) ((0, Lpush q (codes "x" ∷ [])) ∷ (0, Exists (q ∷ q ∷ [])) ∷ (0, Smembers (codes "queues")) ∷ (0, Del (q ∷ codes "nothing" ∷ [])) ∷ (0, Scard (codes "queues"))
     ∷ (0, Lmove q (codes "k") Right Left) ∷ (0, Sadd (codes "queues") (codes "a" ∷ [])) ∷ (0, KindOf (codes "queues")) ∷ (0, Flushall) ∷ (0, Scard (codes "queues")) ∷ [])
     ≡ number 1 ∷ number 2 ∷ texts (codes "q" ∷ []) ∷ number 1 ∷ number 0 ∷ tells (say.Refused ManagedKey) ∷ number 1 ∷ reply.Say (say.Kind kind.Set) ∷ tells say.Ok ∷ number 0 ∷ []
-unfolding limits came replies q r number texts tells class_of is_built is_utf8 chars edit_at edit_list lib.Utf8.encode
+unfolding limits came replies q r number texts tells serde_json_on_literals head head_of_value head_of_object digits class_of is_utf8 chars edit_at edit_list lib.Utf8.encode
 names_of_queues = refl
 
 -- a managed key has its kind, a write on it that isn't allowed is refused before its kind counts, and `queue:` with no name is never there
@@ -85,14 +87,14 @@ managed_keys : replies (first limits) ((0, Lpush q (codes "x" ∷ [])) ∷ (0, G
     ∷ (0, Lpush (codes "queue:") (codes "x" ∷ [])) ∷ (0, Llen (codes "queue:")) ∷ (0, Sadd (codes "queues") ([] ∷ [])) ∷ (0, Llen (codes "sq:x")) ∷ (0, Zcard (codes "schedule")) ∷ (0, Zcard (codes "z")) ∷ (0, Zcard q) ∷ (0, Get (codes "k")) ∷ [])
     ≡ number 1 ∷ tells say.WrongType ∷ tells (say.Refused ManagedKey) ∷ tells (say.Refused ManagedKey)
     ∷ tells (say.Refused ManagedKey) ∷ number 0 ∷ tells (say.Refused ManagedKey) ∷ number 0 ∷ number 0 ∷ number 0 ∷ tells say.WrongType ∷ reply.Null ∷ []
-unfolding limits came replies q r number tells class_of is_built is_utf8 chars edit_at edit_list set_at lib.Utf8.encode
+unfolding limits came replies q r number tells serde_json_on_literals head head_of_value head_of_object digits class_of is_utf8 chars edit_at edit_list set_at lib.Utf8.encode
 managed_keys = refl
 
--- a key stands until its deadline, the moment never falls, and a form that isn't built lets no time pass
-deadlines : replies (first limits) ((7, Set (codes "k") (codes "v") (record { only_new = false; expire = expire.Millis (pos 5) })) ∷ (8, Pttl (codes "k")) ∷ (2, Pttl (codes "k")) ∷ (99, Get (codes "stat:failed"))
+-- a key stands until its deadline, and the moment never falls
+deadlines : replies (first limits) ((7, Set (codes "k") (codes "v") (record { only_new = false; expire = expire.Millis (pos 5) })) ∷ (8, Pttl (codes "k")) ∷ (2, Pttl (codes "k"))
     ∷ (11, Get (codes "k")) ∷ (12, Get (codes "k")) ∷ (0, Pttl (codes "k")) ∷ [])
-    ≡ tells say.Ok ∷ number 4 ∷ number 4 ∷ tells say.NotBuilt ∷ reply.Bulk (codes "v") ∷ reply.Null ∷ reply.Int (negsuc 1) ∷ []
-unfolding limits came replies number tells class_of is_built is_utf8 chars edit_at edit_list set_at lib.Utf8.encode
+    ≡ tells say.Ok ∷ number 4 ∷ number 4 ∷ reply.Bulk (codes "v") ∷ reply.Null ∷ reply.Int (negsuc 1) ∷ []
+unfolding limits came replies number tells serde_json_on_literals head head_of_value head_of_object digits class_of is_utf8 chars edit_at edit_list set_at lib.Utf8.encode
 deadlines = refl
 
 -- ## Sets of jobs
@@ -118,41 +120,41 @@ report moved buried trimmed = reply.Array (wire (number moved) ∷ wire (number 
 -- a job waits for its moment, and comes to the left of its queue with the same bytes
 due_once : answers (first limits) ((1000, Plain (Zadd schedule ((pos 5000000, job) ∷ []))) ∷ (4999, Script (Due Schedule (pos 9))) ∷ (5000, Script (Due Schedule (pos 9))) ∷ (5000, Plain (Lrange q (pos 0) (negsuc 0))) ∷ (5000, Plain (Zcard schedule)) ∷ [])
     ≡ number 1 ∷ report 0 0 [] ∷ report 1 0 [] ∷ texts (job ∷ []) ∷ number 0 ∷ []
-unfolding limits answers q schedule number texts report job serde_json_on_literals head head_of_value head_of_object is_utf8 chars digits class_of is_built edit_at edit_list lib.Utf8.encode
+unfolding limits answers q schedule number texts report job serde_json_on_literals head head_of_value head_of_object is_utf8 chars digits class_of edit_at edit_list lib.Utf8.encode
 due_once = refl
 
 -- what is due comes to the left of what is there, each row in turn; one without a head is buried on its way
 due_in_turn : answers (first limits) ((0, Plain (Rpush q (codes "a" ∷ []))) ∷ (0, Plain (Zadd schedule ((pos 2, job) ∷ (pos 1, codes "x") ∷ (pos 0, other_job) ∷ (pos 1001, codes "y") ∷ []))) ∷ (1, Script (Due Schedule (pos 9)))
     ∷ (1, Plain (Lrange q (pos 0) (negsuc 0))) ∷ (1, Plain (Zscore (codes "dead") (codes "x"))) ∷ (1, Plain (Zcard schedule)) ∷ [])
     ≡ number 1 ∷ number 4 ∷ report 2 1 [] ∷ texts (job ∷ other_job ∷ codes "a" ∷ []) ∷ reply.Bulk (codes "0.001") ∷ number 1 ∷ []
-unfolding limits answers q schedule number texts report job other_job serde_json_on_literals head head_of_value head_of_object is_utf8 chars digits class_of is_built edit_at edit_list lib.Utf8.encode
+unfolding limits answers q schedule number texts report job other_job serde_json_on_literals head head_of_value head_of_object is_utf8 chars digits class_of edit_at edit_list lib.Utf8.encode
 due_in_turn = refl
 
 -- text without a head is buried when it is due, and once more it is there once, with the later score
 buried_once : answers (first limits) ((1, Plain (Zadd schedule ((pos 0, codes "x") ∷ []))) ∷ (1, Script (Due Schedule (pos 1))) ∷ (1, Plain (Zscore (codes "dead") (codes "x"))) ∷ (2, Plain (Zadd schedule ((pos 0, codes "x") ∷ []))) ∷ (2, Script (Due Schedule (pos 1)))
     ∷ (2, Plain (Zcard (codes "dead"))) ∷ (2, Plain (Zscore (codes "dead") (codes "x"))) ∷ (2, Script (Revive Dead (codes "x"))) ∷ (2, Script (Kill Schedule (codes "x"))) ∷ [])
     ≡ number 1 ∷ report 0 1 [] ∷ reply.Bulk (codes "0.001") ∷ number 1 ∷ report 0 1 [] ∷ number 1 ∷ reply.Bulk (codes "0.002") ∷ tells (say.Refused BadPayload) ∷ report 0 0 [] ∷ []
-unfolding limits answers schedule number texts tells report serde_json_on_literals head head_of_value head_of_object is_utf8 chars digits class_of is_built edit_at edit_list lib.Utf8.encode
+unfolding limits answers schedule number texts tells report serde_json_on_literals head head_of_value head_of_object is_utf8 chars digits class_of edit_at edit_list lib.Utf8.encode
 buried_once = refl
 
 -- after 180 days it is trimmed, and not a millisecond earlier
 trimmed_in_time : answers (first limits) ((0, Plain (Zadd schedule ((pos 0, codes "x") ∷ (pos 1, codes "y") ∷ []))) ∷ (0, Script (Due Schedule (pos 1))) ∷ (15551999999, Plain (Zadd schedule ((pos 0, codes "z") ∷ []))) ∷ (15551999999, Script (Due Schedule (pos 1)))
     ∷ (15552000000, Script (Due Schedule (pos 1))) ∷ [])
     ≡ number 2 ∷ report 0 1 [] ∷ number 1 ∷ report 0 1 [] ∷ report 0 1 (codes "x" ∷ []) ∷ []
-unfolding limits answers schedule number texts report serde_json_on_literals head head_of_value head_of_object is_utf8 chars digits class_of is_built edit_at edit_list lib.Utf8.encode
+unfolding limits answers schedule number texts report serde_json_on_literals head head_of_value head_of_object is_utf8 chars digits class_of edit_at edit_list lib.Utf8.encode
 trimmed_in_time = refl
 
 -- a job that is killed may be revived once
 revived_once : answers (first limits) ((0, Plain (Zadd schedule ((pos 5, job) ∷ []))) ∷ (2000, Script (Kill Schedule job)) ∷ (0, Plain (Zscore (codes "dead") job)) ∷ (0, Script (Kill Schedule job)) ∷ (0, Script (Revive Dead job)) ∷ (0, Script (Revive Dead job)) ∷ (0, Plain (Llen q)) ∷ [])
     ≡ number 1 ∷ report 0 1 [] ∷ reply.Bulk (codes "2") ∷ report 0 0 [] ∷ number 1 ∷ number 0 ∷ number 1 ∷ []
-unfolding limits answers q schedule number texts report job serde_json_on_literals head head_of_value head_of_object is_utf8 chars digits class_of is_built edit_at edit_list lib.Utf8.encode
+unfolding limits answers q schedule number texts report job serde_json_on_literals head head_of_value head_of_object is_utf8 chars digits class_of edit_at edit_list lib.Utf8.encode
 revived_once = refl
 
 -- a push beyond the limits is refused, also of a text that is there, and what takes rows away isn't
 full_once : answers (first (record { rows = 2; bytes = 5; batches = 0 })) ((0, Plain (Lpush q (codes "abc" ∷ []))) ∷ (0, Plain (Rpush q (codes "abc" ∷ []))) ∷ (0, Plain (Zadd schedule ((pos 0, codes "a") ∷ []))) ∷ (0, Plain (Zadd schedule ((pos 1, codes "a") ∷ [])))
     ∷ (0, Plain (Lmove q r Left Left)) ∷ (0, Script (Due Schedule (pos 1))) ∷ (0, Plain (Del (r ∷ []))) ∷ (0, Plain (Zadd schedule ((pos 1, codes "a") ∷ []))) ∷ (0, Plain (Zrem (codes "dead") (codes "a" ∷ []))) ∷ [])
     ≡ number 1 ∷ tells (say.Refused Full) ∷ number 1 ∷ tells (say.Refused Full) ∷ reply.Bulk (codes "abc") ∷ report 0 1 [] ∷ number 1 ∷ number 1 ∷ number 1 ∷ []
-unfolding limits answers q r schedule number texts tells report serde_json_on_literals head head_of_value head_of_object is_utf8 chars digits class_of is_built edit_at edit_list lib.Utf8.encode
+unfolding limits answers q r schedule number texts tells report serde_json_on_literals head head_of_value head_of_object is_utf8 chars digits class_of edit_at edit_list lib.Utf8.encode
 full_once = refl
 
 -- ## Lives
@@ -172,25 +174,25 @@ Became commands life there = (life_of (first limits) (codes "j") Unborn commands
 
 -- a job that is pushed lives, and stands in its queue
 pushed_once : Became ((0, Lpush q (codes "a" ∷ job ∷ [])) ∷ []) Live true
-unfolding limits came life_of after job q serde_json_on_literals head head_of_value head_of_object is_utf8 chars digits class_of is_built edit_at edit_list
+unfolding limits came life_of after job q serde_json_on_literals head head_of_value head_of_object is_utf8 chars digits class_of edit_at edit_list
 pushed_once = (refl, refl)
 
 -- where it is moved it lives on
 moved_on : Became ((0, Rpush q (job ∷ [])) ∷ (0, Lmove q r Left Right) ∷ []) Live true
-unfolding limits came life_of after job q r serde_json_on_literals head head_of_value head_of_object is_utf8 chars digits class_of is_built edit_at edit_list
+unfolding limits came life_of after job q r serde_json_on_literals head head_of_value head_of_object is_utf8 chars digits class_of edit_at edit_list
 moved_on = (refl, refl)
 
 -- pushed again under its own id
-pushed_twice : Became ((0, Lpush q (job ∷ [])) ∷ (0, Lpush r (job ∷ [])) ∷ []) Muddled true
-unfolding limits came life_of after job q r serde_json_on_literals head head_of_value head_of_object is_utf8 chars digits class_of is_built edit_at edit_list
+pushed_twice : Became ((0, Lpush q (job ∷ [])) ∷ (0, Lpush r (job ∷ [])) ∷ []) (Ended Muddled) true
+unfolding limits came life_of after job q r serde_json_on_literals head head_of_value head_of_object is_utf8 chars digits class_of edit_at edit_list
 pushed_twice = (refl, refl)
 
 -- a client takes it away, and may push it anew
-deleted_once : Became ((0, Lpush q (job ∷ [])) ∷ (0, Lrem q (pos 0) job) ∷ []) Deleted false × Became ((0, Lpush q (job ∷ [])) ∷ (0, Del (q ∷ [])) ∷ (0, Lpush q (job ∷ [])) ∷ []) Live true
-unfolding limits came life_of after job q serde_json_on_literals head head_of_value head_of_object is_utf8 chars digits class_of is_built edit_at edit_list
+deleted_once : Became ((0, Lpush q (job ∷ [])) ∷ (0, Lrem q (pos 0) job) ∷ []) (Ended Deleted) false × Became ((0, Lpush q (job ∷ [])) ∷ (0, Del (q ∷ [])) ∷ (0, Lpush q (job ∷ [])) ∷ []) Live true
+unfolding limits came life_of after job q serde_json_on_literals head head_of_value head_of_object is_utf8 chars digits class_of edit_at edit_list
 deleted_once = ((refl, refl), (refl, refl))
 
 -- a text without a head is no job
 no_head : Became ((0, Lpush q (codes "j" ∷ codes "{\"jid\":\"j\"}" ∷ [])) ∷ []) Unborn false
-unfolding limits came life_of after q serde_json_on_literals head head_of_value head_of_object is_utf8 chars digits class_of is_built edit_at edit_list
+unfolding limits came life_of after q serde_json_on_literals head head_of_value head_of_object is_utf8 chars digits class_of edit_at edit_list
 no_head = (refl, refl)

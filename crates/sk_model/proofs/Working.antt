@@ -5,7 +5,6 @@ use Rattle.std.specs.Option.{is_some}
 use Rattle.std.specs.Str.{bytes_eq}
 use Rattle.std.proofs.lemmas.Bool.Decides.{nat_tests}
 use Rattle.sk_resp.specs.Spelling.{Bytes}
-use Rattle.sk_resp.specs.declared.reply.Reply.{Reply}
 use Rattle.sk_cmd.specs.declared.argument.Side.TheVariants.{Left, Right}
 use Rattle.sk_cmd.specs.declared.argument.Scored.{Scored}
 use Rattle.sk_cmd.specs.declared.argument.Scored.TheVariants.{Retry, Dead}
@@ -19,23 +18,32 @@ use Rattle.sk_value.specs.declared.action.Action.TheVariants as action
 use Rattle.sk_places.specs.declared.row.Place.TheVariants.{Queue, Private, Set}
 use Rattle.sk_places.specs.declared.row.Row.{Row}
 use Rattle.sk_places.specs.Rows.{row_in, row_of, rows_at, row_at_end, take_row}
-use Rattle.sk_model.specs.declared.phase.End.{End}
+use Rattle.sk_model.specs.declared.phase.End.TheVariants.{Returned, Discarded}
 use Rattle.sk_model.specs.declared.phase.Phase.{Phase}
 use Rattle.sk_model.specs.declared.phase.Phase.TheVariants.{Plain, Idle, Held, Put, Settled}
 use Rattle.sk_model.specs.World.{World}
 use Rattle.sk_leases.specs.Leased.{is_alive}
-use Rattle.sk_model.specs.Change.{Carry, Free, Moves, Turns, carried, changed}
+use Rattle.sk_model.specs.Change.{Change, Counts, Carry, Free, Moves, Turns, carried, changed, perform}
+use Rattle.sk_model.specs.Told.{and_tell}
+use Rattle.sk_model.specs.Once.{buries, is_of_batch}
+use Rattle.sk_batch.specs.declared.event.Event.{Event}
+use Rattle.sk_batch.specs.declared.event.Event.TheVariants as event
+use Rattle.sk_batch.specs.declared.event.Event.TheVariants.{Died}
+use Rattle.sk_counters.specs.Counters.{processed, failed}
 use Rattle.sk_model.specs.Life.{is_newer, outranks}
 use Rattle.sk_model.specs.Outcome.{Outcome}
 use Rattle.sk_model.specs.Seats.{fetched_from, following, added_by, retried, is_release, where_plain, where_held, where_same}
 use Rattle.sk_model.specs.Sets.{put_as, put_back}
 use Rattle.sk_model.specs.Jobs.{moment_score}
-use Rattle.sk_model.specs.Workers.{beat, join, fetch, fetch_row, listed, release, give, give_row, back, start, fail, settle, retry, may_bury, bury, work}
+use Rattle.sk_model.specs.Workers.{beat, join, fetch, fetch_row, listed, release, give, give_row, back, start, fail, ok, drop, retry, may_bury, bury, work}
 use Rattle.sk_model.proofs.Texts.{bytes_tell}
 use Rattle.sk_model.proofs.Standing.{some-put_row}
 use Rattle.sk_model.proofs.Taking.{end_there}
 use Rattle.sk_model.proofs.Sending.{choice, row_there, row_text, text_is, buried_good}
-use Rattle.sk_model.proofs.Good.{Good, good_nothing, then_others, good_put, good_carry, good_free, good_turn, good_beats}
+use Rattle.sk_model.proofs.Fired.{all_quiet}
+use Rattle.sk_model.proofs.Keeps.{KeepsJobs, keeps_others, keeps_put, keeps_carry, keeps_turn}
+use Rattle.sk_model.proofs.Told.{tell_good}
+use Rattle.sk_model.proofs.Good.{Good, good_nothing, good_append, good_quiet, then_others, good_carry, good_free, good_turn, good_beats, good_counts}
 
 -- ## In each phase
 
@@ -69,7 +77,7 @@ join_good w seat ident = choice w (is_alive ident w.moment w.leases) _ _ (λ y. 
 fetch_row_good : (w : World) (seat : ℕ) (ident queue : Bytes) (found : Option Row) → row_at_end Right (Queue queue) w.rows ≡ found → Good w (fetch_row seat ident found).changes
 fetch_row_good w seat ident queue None e = good_nothing w
 fetch_row_good w seat ident queue (Some row) e = then_others w (Moves (Carry row Right (Private ident) (pos 0) Left)) _
-    (good_carry w row Right (Private ident) (pos 0) Left (end_there Right (Queue queue) w.rows row e)) (good_turn _ seat (Held ident row.text) tt)
+    (good_carry w row Right (Private ident) (pos 0) Left (end_there Right (Queue queue) w.rows row e) refl) (good_turn _ seat (Held ident row.text) tt)
 
 fetch_good : (w : World) (seat : ℕ) (ident : Bytes) (found : Option Bytes) → Good w (fetch w seat ident found).changes
 fetch_good w seat ident None = good_nothing w
@@ -81,7 +89,7 @@ release_good w seat ident held = then_others w (Moves (Free seat)) _ (good_free 
 give_row_good : (w : World) (seat : ℕ) (ident text : Bytes) (h : Head) (found : Option Row) → listed w ident text ≡ found → Good w (give_row seat ident h found).changes
 give_row_good w seat ident text h None e = good_turn w seat (Idle ident) tt
 give_row_good w seat ident text h (Some row) e = then_others w (Moves (Carry row Left (Queue h.queue) (pos 0) Right)) _
-    (good_carry w row Left (Queue h.queue) (pos 0) Right (row_there text row (Private ident) w.rows e)) (good_turn _ seat (Idle ident) tt)
+    (good_carry w row Left (Queue h.queue) (pos 0) Right (row_there text row (Private ident) w.rows e) refl) (good_turn _ seat (Idle ident) tt)
 
 give_good : (w : World) (seat : ℕ) (ident text : Bytes) (found : Option Head) → Good w (give w seat ident text found).changes
 give_good w seat ident text None = good_nothing w
@@ -95,11 +103,20 @@ back_good w seat phase text = where_same_good w phase text _ (λ ident. give_goo
 pub start_good : (w : World) (phase : Phase) (text : Bytes) → Good w (start phase text).changes
 start_good w phase text = where_same_good w phase text _ (λ ident. good_nothing w)
 
-pub fail_good : (w : World) (phase : Phase) (text : Bytes) → Good w (fail phase text).changes
-fail_good w phase text = where_same_good w phase text _ (λ ident. good_nothing w)
+-- what the batch is told comes after other changes
+and_tell_good : (event : Event) (w : World) (text : Bytes) (changes : List Change) → (event ≡ Died → ⊥) → Good w changes → Good w (and_tell event w text changes).changes
+and_tell_good event w text changes alive one = good_append w changes _ one (tell_good event alive (perform w changes) text)
 
-pub settle_good : (w : World) (seat : ℕ) (phase : Phase) (text : Bytes) (end : End) (reply : Reply) → Good w (settle seat phase text end reply).changes
-settle_good w seat phase text end reply = where_same_good w phase text _ (λ ident. good_turn w seat (Settled ident text end) tt)
+pub fail_good : (w : World) (phase : Phase) (text : Bytes) → Good w (fail w phase text).changes
+fail_good w phase text = where_same_good w phase text _
+    (λ ident. and_tell_good event.Reported w text _ (λ e. cc e) (then_others w (Counts processed) _ (good_counts w processed) (good_counts _ failed)))
+
+pub ok_good : (w : World) (seat : ℕ) (phase : Phase) (text : Bytes) → Good w (ok w seat phase text).changes
+ok_good w seat phase text = where_same_good w phase text _
+    (λ ident. and_tell_good event.Returned w text _ (λ e. cc e) (then_others w (Turns seat (Settled ident text Returned)) _ (good_turn w seat (Settled ident text Returned) tt) (good_counts _ processed)))
+
+pub drop_good : (w : World) (seat : ℕ) (phase : Phase) (text : Bytes) → Good w (drop seat phase text).changes
+drop_good w seat phase text = where_same_good w phase text _ (λ ident. good_turn w seat (Settled ident text Discarded) tt)
 
 -- ## A job has failed
 
@@ -116,15 +133,32 @@ newer_stands w set pair (Some row) held jid e newer =
     let of_row : is_newer held jid row.text ≡ true = ap (is_newer held jid) (sym same) ∙ newer in
     some-put_row (is_newer held jid) Left (carried row (Set set) pair.0) (take_row Left row w.rows) ∙ grind (arith, of_row)
 
-put_as_good : (w : World) (set : Scored) (pair : Pair) (found : Option Row) → row_of pair.1 (rows_at (Set set) w.rows) ≡ found → Good w (put_as set pair found ∷ [])
-put_as_good w set pair None e = good_put w (row_in set pair)
-put_as_good w set pair (Some row) e = good_carry w row Left (Set set) pair.0 Left (row_there pair.1 row (Set set) w.rows e)
+put_as_keeps : (w : World) (set : Scored) (pair : Pair) (found : Option Row) → row_of pair.1 (rows_at (Set set) w.rows) ≡ found → KeepsJobs w (put_as set pair found ∷ [])
+put_as_keeps w set pair None e = keeps_put w (row_in set pair)
+put_as_keeps w set pair (Some row) e = keeps_carry w row Left (Set set) pair.0 Left (row_there pair.1 row (Set set) w.rows e)
 
 -- a text is put back, of which the payload has a newer one or no job
-put_good : (w : World) (seat : ℕ) (ident held : Bytes) (set : Scored) (pair : Pair) → ((jid : Bytes) → names held jid ≡ true → is_newer held jid pair.1 ≡ true) → Good w (put_back w set pair ∷ Turns seat (Put ident held) ∷ [])
-put_good w seat ident held set pair newer = then_others w (put_back w set pair) (Turns seat (Put ident held) ∷ [])
-    (put_as_good w set pair _ refl)
-    (good_turn (changed w (put_back w set pair)) seat (Put ident held) (λ jid named. newer_stands w set pair _ held jid refl (newer jid named)))
+put_keeps : (w : World) (seat : ℕ) (ident held : Bytes) (set : Scored) (pair : Pair) → ((jid : Bytes) → names held jid ≡ true → is_newer held jid pair.1 ≡ true) → KeepsJobs w (put_back w set pair ∷ Turns seat (Put ident held) ∷ [])
+put_keeps w seat ident held set pair newer = keeps_others w (put_back w set pair) (Turns seat (Put ident held) ∷ [])
+    (put_as_keeps w set pair _ refl)
+    (keeps_turn (changed w (put_back w set pair)) seat (Put ident held) (λ jid named. newer_stands w set pair _ held jid refl (newer jid named)))
+
+put_quiet : (set : Scored) (pair : Pair) (found : Option Row) (seat : ℕ) (phase : Phase) → all_quiet (put_as set pair found ∷ Turns seat phase ∷ []) ≡ true
+put_quiet set pair None seat phase = refl
+put_quiet set pair (Some row) seat phase = refl
+
+-- a text that goes to the set of retries isn't buried
+put_alive : (w : World) (pair : Pair) (found : Option Row) (seat : ℕ) (phase : Phase) (b : Bytes) → buries b w (put_as Retry pair found ∷ Turns seat phase ∷ []) ≡ false
+put_alive w pair None seat phase b = refl
+put_alive w pair (Some row) seat phase b = refl
+
+-- one that goes to the dead set is
+put_dead : (w : World) (pair : Pair) (found : Option Row) (seat : ℕ) (phase : Phase) (b : Bytes) → row_of pair.1 (rows_at (Set Dead) w.rows) ≡ found → buries b w (put_as Dead pair found ∷ Turns seat phase ∷ []) ≡ is_of_batch b w.batches (head pair.1)
+put_dead w pair None seat phase b e = grind arith
+put_dead w pair (Some row) seat phase b e =
+    let same : pair.1 ≡ row.text = text_is pair.1 row.text (row_text pair.1 row (rows_at (Set Dead) w.rows) e) in
+    let of_text = ap (λ text. is_of_batch b w.batches (head text)) same in
+    grind (arith, of_text)
 
 found_by : (b : Bool) (one pair : Pair) → cond b (Some one) None ≡ Some pair → (b ≡ true) × (one ≡ pair)
 found_by true one pair e = (refl, cc e)
@@ -150,7 +184,8 @@ retried_follows held action.Flush pair e = absurd (cc e)
 
 retry_good : (w : World) (seat : ℕ) (ident held : Bytes) (found : Option Pair) → ((pair : Pair) → found ≡ Some pair → follows held pair.1 ≡ true) → Good w (retry w seat ident held found).changes
 retry_good w seat ident held None is = good_nothing w
-retry_good w seat ident held (Some pair) is = put_good w seat ident held Retry pair (λ jid named. follows_newer held pair.1 jid (is pair refl) named)
+retry_good w seat ident held (Some pair) is =
+    good_quiet w _ (put_keeps w seat ident held Retry pair (λ jid named. follows_newer held pair.1 jid (is pair refl) named)) (put_quiet Retry pair _ seat (Put ident held)) (put_alive w pair _ seat (Put ident held))
 
 headless : (held jid : Bytes) → is_some (head held) ≡ false → names held jid ≡ false
 headless held jid none = grind (arith, none)
@@ -160,7 +195,11 @@ may_newer held text jid may named = let f = follows_newer held text jid in let h
 
 pub bury_good : (w : World) (seat : ℕ) (phase : Phase) (text : Bytes) → Good w (bury w seat phase text).changes
 bury_good w seat phase text = where_held_good w phase _ (λ ident held. choice w (may_bury held text) _ _
-    (λ y. buried_good w _ (put_good w seat ident held Dead (moment_score w, text) (λ jid named. may_newer held text jid y named))) (λ n. good_nothing w))
+    (λ y. buried_good w text _ (record {
+      keeps = put_keeps w seat ident held Dead (moment_score w, text) (λ jid named. may_newer held text jid y named);
+      quiet = put_quiet Dead (moment_score w, text) _ seat (Put ident held);
+      member = λ b. put_dead w (moment_score w, text) _ seat (Put ident held) b refl;
+    })) (λ n. good_nothing w))
 
 -- ## The table
 

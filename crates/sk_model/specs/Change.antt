@@ -1,5 +1,5 @@
 -- What a command does to the world: a list of changes, one after another. Rows change by moves alone.
-use Rattle.std.specs.Prelude.{ℕ, suc, ℤ, List, [], ◌∷◌, min, max}
+use Rattle.std.specs.Prelude.{ℕ, ℤ, List, [], ◌∷◌, min, max}
 use Rattle.sk_base.specs.Score.{last_moment}
 use Rattle.sk_resp.specs.Spelling.{Bytes}
 use Rattle.sk_cmd.specs.declared.argument.Side.{Side}
@@ -12,13 +12,29 @@ use Rattle.sk_places.specs.Rows.{put_row, take_row, row_at}
 pub use Rattle.sk_places.specs.Placed.{carried, named, with_name, without_name}
 use Rattle.sk_model.specs.World.{World, phase_of}
 use Rattle.sk_model.specs.Phases.{turned}
-use Rattle.sk_leases.specs.Leased.{beat, purged as still_leased}
+use Rattle.sk_counters.specs.Counters.{counted_at}
+use Rattle.sk_lives.specs.declared.ending.Ending.{Ending}
+use Rattle.sk_lives.specs.declared.ending.Ending.TheVariants.{Returned, Discarded, Deleted, Trimmed}
+use Rattle.sk_lives.specs.declared.origin.Origin.{Origin}
+use Rattle.sk_lives.specs.Totals.{count_push}
+use Rattle.sk_model.specs.Live.{born, count_job, with_end}
+use Rattle.sk_lives.specs.Lives.{jid_of}
+use Rattle.sk_model.specs.declared.phase.End.{End}
+use Rattle.sk_model.specs.declared.phase.End.TheVariants as end
+use Rattle.sk_batch.specs.Batched.{Batched, has_bid}
+use Rattle.sk_batch.specs.Events.{joined, marked, unfired}
+use Rattle.sk_batch.specs.Fires.{retagged, with_kind}
+use Rattle.sk_batch.specs.Told.{mark_of}
+use Rattle.sk_batch.specs.declared.batch.Batch.{Batch}
+use Rattle.sk_batch.specs.declared.event.Event.{Event}
+use Rattle.sk_batch.specs.declared.firing.Kind.{Kind}
+use Rattle.sk_leases.specs.Leased.{beat, recovered, forgotten, purged as still_leased}
 use Rattle.sk_model.specs.declared.phase.Phase.{Phase}
 use Rattle.sk_model.specs.declared.phase.Phase.TheVariants.{Plain, Idle, Held, Put, Settled}
 
 pub data Move : Type 0 where
   -- a push adds a row at an end of its place
-  Add : (row : Row) → (end : Side) → Move
+  Add : (row : Row) → (end : Side) → (from : Origin) → Move
   -- The row goes from this end of its place to that end of another, or of the same, with the same text and a score of its own there.
   Carry : (row : Row) → (from : Side) → (to : Place) → (score : ℤ) → (end : Side) → Move
   -- A client's command removes the row. Of several with its text it is the nearest to this end of the place.
@@ -31,6 +47,8 @@ pub data Move : Type 0 where
   PutBack : (row : Row) → Move
   -- A worker's seat releases its payload: the leftmost row of it in the private list goes, if there is one.
   Free : (seat : ℕ) → Move
+  -- A batch is complete, has succeeded or has died. Its callback is pushed next, where it has one.
+  Fire : (bid : Bytes) → (kind : Kind) → Move
 
 pub data Change : Type 0 where
   Moves : (move : Move) → Change
@@ -46,24 +64,50 @@ pub data Change : Type 0 where
   Turns : (seat : ℕ) → (phase : Phase) → Change
   -- a process's heartbeat stands for a minute from now on
   Beats : (ident : Bytes) → Change
+  -- one more counts under `stat:`
+  Counts : (name : Bytes) → Change
+  -- a job is recovered from the private list of a process that is gone
+  Recovers : (jid : Bytes) → Change
+  -- its recoveries are forgotten
+  Forgets : (jid : Bytes) → Change
+  -- a batch is made, with its first jobs
+  Makes : (batch : Batch) → (jids : List Bytes) → Change
+  -- a batch gets more jobs
+  Joins : (bid : Bytes) → (jids : List Bytes) → Change
+  -- a batch is told what has come of a job
+  Tells : (event : Event) → (bid jid : Bytes) → Change
+
+-- how a worker that is done with a job ends it
+abbrev pub ending_of : End → Ending
+ending_of end.Returned = Returned
+ending_of end.Discarded = Discarded
 
 abbrev pub freed : World → Phase → World
 freed w Plain = w
 freed w (Idle ident) = w
 freed w (Held ident text) = w
 freed w (Put ident text) = record w { rows = take_row Left (row_at (Private ident) text) w.rows }
-freed w (Settled ident text end) = record w { rows = take_row Left (row_at (Private ident) text) w.rows }
+freed w (Settled ident text end) = record (with_end (ending_of end) text w) { rows = take_row Left (row_at (Private ident) text) w.rows }
+
+-- it is kept of a batch what was fired of it
+abbrev pub after_fire : Bytes → Kind → Batched → Batched
+after_fire bid kind s = record s { batches = retagged (has_bid bid) (with_kind kind) s.batches }
+
+-- one more batch, of which nothing was fired
+abbrev pub with_batch : Batch → Batched → Batched
+with_batch batch s = record s { batches = (unfired, batch) ∷ s.batches }
 
 abbrev pub moved : World → Move → World
-moved w (Add row end) = record w { rows = put_row end row w.rows; names = named row.place w.names; push_count = suc w.push_count }
+moved w (Add row end from) = record w { rows = put_row end row w.rows; names = named row.place w.names; live = born w (jid_of row.text); tally = count_job w (jid_of row.text) (count_push from w.tally) }
 moved w (Carry row from to score end) = record w { rows = put_row end (carried row to score) (take_row from row w.rows); names = named to w.names }
-moved w (Take row from) = record w { rows = take_row from row w.rows }
-moved w (Trim row) = record w { rows = take_row Left row w.rows }
+moved w (Take row from) = record (with_end Deleted row.text w) { rows = take_row from row w.rows }
+moved w (Trim row) = record (with_end Trimmed row.text w) { rows = take_row Left row w.rows }
 moved w (Merge row) = record w { rows = take_row Left row w.rows }
 moved w (PutBack row) = record w { rows = put_row Left row w.rows; names = named row.place w.names }
 moved w (Free seat) = freed w (phase_of w seat)
+moved w (Fire bid kind) = record w { batches = after_fire bid kind w.batches }
 
--- The greatest moment counts, up to the last one that is told apart. Plain keys and heartbeats whose deadline it has reached are gone.
+-- The greatest moment counts, up to the last one that is told apart. Plain keys, heartbeats and recoveries whose deadline it has reached are gone.
 abbrev pub moment_after : ℕ → World → ℕ
 moment_after now w = max w.moment (min now last_moment)
 
@@ -78,6 +122,12 @@ changed w (Unnames queue) = record w { names = without_name queue w.names }
 changed w (Keeps keys) = record w { keys = keys }
 changed w (Turns seat phase) = record w { phases = turned seat phase w.phases }
 changed w (Beats ident) = record w { leases = beat ident w.moment w.leases }
+changed w (Counts name) = record w { counters = counted_at w.moment name w.counters }
+changed w (Recovers jid) = record w { leases = recovered jid w.moment w.leases }
+changed w (Forgets jid) = record w { leases = forgotten jid w.leases }
+changed w (Makes batch jids) = record w { batches = joined batch.bid jids (with_batch batch w.batches) }
+changed w (Joins bid jids) = record w { batches = joined bid jids w.batches }
+changed w (Tells event bid jid) = record w { batches = marked (mark_of event) bid jid w.batches }
 
 -- the world after changes, in order
 abbrev pub perform : World → List Change → World

@@ -7,7 +7,7 @@ use Rattle.sk_cmd.specs.declared.argument.Scored.TheVariants.{Schedule, Retry, D
 use Rattle.sk_resp.specs.Spelling.{Bytes}
 use Rattle.sk_payload.specs.Member.{is_name}
 use Rattle.sk_model.specs.declared.key_class.KeyClass.{KeyClass}
-use Rattle.sk_model.specs.declared.key_class.KeyClass.TheVariants.{Plain, Queue, NoQueue, Queues, Private, NoPrivate, Processes, Jobs, Later}
+use Rattle.sk_model.specs.declared.key_class.KeyClass.TheVariants.{Plain, Queue, NoQueue, Queues, Private, NoPrivate, Processes, Jobs, Counter}
 
 -- the name behind `queue:`
 abbrev pub queue_of : Bytes → Bytes
@@ -21,9 +21,9 @@ ident_of key = drop 3 key
 abbrev pub private_key : Bytes → Bytes
 private_key ident = codes "sq:" ++ ident
 
--- the managed keys that aren't built yet: the counters
-abbrev pub is_later : Bytes → Bool
-is_later key = starts_with nat_eq key (codes "stat:")
+-- the name behind `stat:`
+abbrev pub counter_of : Bytes → Bytes
+counter_of key = drop 5 key
 
 -- the set of jobs that a key names
 abbrev pub set_of : Bytes → Option Scored
@@ -37,7 +37,7 @@ unfoldable pub class_of : Bytes → KeyClass
 class_of key = cond (starts_with nat_eq key (codes "queue:")) (cond (is_name 255 (queue_of key)) Queue NoQueue)
     (cond (starts_with nat_eq key (codes "sq:")) (cond (is_name 255 (ident_of key)) Private NoPrivate)
     (cond (bytes_eq key (codes "queues")) Queues (cond (bytes_eq key (codes "processes")) Processes
-    (cond (is_later key) Later (class_by (set_of key))))))
+    (cond (starts_with nat_eq key (codes "stat:")) Counter (class_by (set_of key))))))
 
 -- a key of the clients' own
 abbrev pub is_plain : KeyClass → Bool

@@ -58,7 +58,7 @@ may_go class.Private = false
 may_go class.NoPrivate = false
 may_go class.Processes = false
 may_go (class.Jobs set) = true
-may_go class.Later = false
+may_go class.Counter = false
 
 -- With one key that may not be deleted none is.
 abbrev pub delete : World → List Bytes → Outcome

@@ -7,6 +7,7 @@ use Rattle.sk_resp.specs.declared.reply.Reply.TheVariants as reply
 use Rattle.sk_resp.specs.declared.refusal.Refusal.TheVariants.{BadPayload}
 use Rattle.sk_cmd.specs.declared.argument.Scored.{Scored}
 use Rattle.sk_cmd.specs.declared.argument.Scored.TheVariants.{Dead}
+use Rattle.sk_cmd.specs.declared.argument.Side.{Side}
 use Rattle.sk_cmd.specs.declared.argument.Side.TheVariants.{Left}
 use Rattle.sk_payload.specs.Head.{head}
 use Rattle.sk_payload.specs.declared.head.Head.{Head}
@@ -17,6 +18,9 @@ use Rattle.sk_places.specs.Rows.{rows_at, row_of}
 use Rattle.sk_model.specs.World.{World}
 use Rattle.sk_model.specs.Change.{Change, Moves, Carry, Trim, Merge, perform}
 use Rattle.sk_model.specs.Outcome.{Outcome, says, refuses}
+use Rattle.sk_model.specs.Told.{Told, tell, fired}
+use Rattle.sk_batch.specs.declared.event.Event.TheVariants.{Died}
+use Rattle.sk_batch.specs.declared.firing.Firing.{Firing}
 
 -- the moment as a score: millionths of seconds
 abbrev pub moment_score : World → ℤ
@@ -56,49 +60,53 @@ pub record Sent : Type 0 where
   pub moved : ℕ
   -- how many were buried
   pub buried : ℕ
+  -- what their batches fired
+  pub firings : List Firing
   -- the texts that were trimmed
   pub trimmed : List Bytes
   pub changes : List Change
 
 abbrev pub nothing : Sent
-nothing = record { moved = 0; buried = 0; trimmed = []; changes = [] }
+nothing = record { moved = 0; buried = 0; firings = []; trimmed = []; changes = [] }
 
--- one is buried by these changes, and then the dead set is trimmed
-abbrev pub buried_by : World → List Change → Sent
-buried_by w put =
+-- one of this text is buried by these changes; then the dead set is trimmed, and the job's batch is told
+abbrev pub buried_by : World → Bytes → List Change → Sent
+buried_by w text put =
     let after : World = perform w put in
     let gone : List Row = surplus after (rows_at (Set Dead) after.rows) in
-    record { moved = 0; buried = 1; trimmed = map (λ row. row.text) gone; changes = put ++ map (λ row. Moves (Trim row)) gone }
+    let done : List Change = put ++ map (λ row. Moves (Trim row)) gone in
+    let told : Told = tell Died (perform w done) text in
+    record { moved = 0; buried = 1; firings = told.firings; trimmed = map (λ row. row.text) gone; changes = done ++ told.changes }
 
 abbrev pub bury : World → Row → Sent
-bury w row = buried_by w (put_dead w row)
+bury w row = buried_by w row.text (put_dead w row)
 
 -- ## To the queues
 
--- to the left end of the queue that its head names
-abbrev pub to_queue : Row → Head → Sent
-to_queue row h = record { moved = 1; buried = 0; trimmed = []; changes = Moves (Carry row Left (Queue h.queue) (pos 0) Left) ∷ [] }
+-- to an end of the queue that its head names
+abbrev pub to_queue : Side → Row → Head → Sent
+to_queue end row h = record { moved = 1; buried = 0; firings = []; trimmed = []; changes = Moves (Carry row Left (Queue h.queue) (pos 0) end) ∷ [] }
 
--- A row without a head is buried.
+-- What is due goes to the left end. A row without a head is buried.
 abbrev pub send : World → Row → Option Head → Sent
 send w row None = bury w row
-send w row (Some h) = to_queue row h
+send w row (Some h) = to_queue Left row h
 
 abbrev pub and_then : Sent → Sent → Sent
-and_then one more = record { moved = one.moved + more.moved; buried = one.buried + more.buried; trimmed = one.trimmed ++ more.trimmed; changes = one.changes ++ more.changes }
+and_then one more = record { moved = one.moved + more.moved; buried = one.buried + more.buried; firings = one.firings ++ more.firings; trimmed = one.trimmed ++ more.trimmed; changes = one.changes ++ more.changes }
 
--- each row at the world that the ones before it left
-abbrev pub send_each : World → List Row → Sent
-send_each w [] = nothing
-send_each w (row ∷ rows) =
-    let one : Sent = send w row (head row.text) in
-    and_then one (send_each (perform w one.changes) rows)
+-- each row is sent in this way, at the world that the ones before it left
+abbrev pub each : (World → Row → Option Head → Sent) → World → List Row → Sent
+each way w [] = nothing
+each way w (row ∷ rows) =
+    let one : Sent = way w row (head row.text) in
+    and_then one (each way (perform w one.changes) rows)
 
 -- ## The commands
 
--- how many were moved and buried, the callbacks that fell due, of which there are none yet, and the texts that were trimmed
+-- how many were moved and buried, what was fired, and the texts that were trimmed
 abbrev pub reports : Sent → Outcome
-reports sent = record { reply = reply.Array (wire (counted sent.moved) ∷ wire (counted sent.buried) ∷ wire (texts []) ∷ wire (texts sent.trimmed) ∷ []); changes = sent.changes }
+reports sent = record { reply = reply.Array (wire (counted sent.moved) ∷ wire (counted sent.buried) ∷ wire (fired sent.firings) ∷ wire (texts sent.trimmed) ∷ []); changes = sent.changes }
 
 -- the rows of a set that wait for a moment; those of the dead set wait for none
 abbrev pub waiting_rows : World → Scored → List Row
@@ -111,7 +119,7 @@ due_rows w set limit = take limit (filter (λ row. is_le (int_cmp row.score (mom
 
 -- SK.DUE
 abbrev pub due : World → Scored → ℕ → Outcome
-due w set limit = reports (send_each w (due_rows w set limit))
+due w set limit = reports (each send w (due_rows w set limit))
 
 -- SK.KILL
 abbrev pub kill_row : World → Option Row → Outcome
@@ -124,7 +132,7 @@ kill w set text = kill_row w (row_of text (waiting_rows w set))
 -- SK.REVIVE
 abbrev pub revive_as : Row → Option Head → Outcome
 revive_as row None = refuses BadPayload
-revive_as row (Some h) = record { reply = counted 1; changes = (to_queue row h).changes }
+revive_as row (Some h) = record { reply = counted 1; changes = (to_queue Left row h).changes }
 
 abbrev pub revive_row : Option Row → Outcome
 revive_row None = says (counted 0)

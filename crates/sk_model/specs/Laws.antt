@@ -1,5 +1,5 @@
 -- What holds of every run.
-use Rattle.std.specs.Prelude.{◌≡◌, ℕ, ◌+◌, List, [], ◌∷◌, Bool, ◌&&◌, cond}
+use Rattle.std.specs.Prelude.{◌≡◌, ℕ, ◌+◌, List, [], ◌∷◌, Bool, true, ◌&&◌, cond}
 use Rattle.std.specs.List.{list_any}
 use Rattle.std.specs.Str.{bytes_eq}
 use Rattle.sk_resp.specs.Spelling.{Bytes}
@@ -13,7 +13,7 @@ use Rattle.sk_model.specs.World.{World, phase_of}
 use Rattle.sk_model.specs.Change.{Add, Take, Trim, Merge, PutBack, Free, Change, Moves, changed, perform}
 use Rattle.sk_model.specs.Reading.{Words}
 use Rattle.sk_model.specs.Run.{Turn, Run, first}
-use Rattle.sk_model.specs.Life.{Life, Unborn, Kept, life_through}
+use Rattle.sk_model.specs.Life.{Life, Unborn, Kept, Balanced, Knows, is_distinct, life_through}
 
 -- ## Every live job stands
 
@@ -32,6 +32,24 @@ LiveJobsStand limits turns = ConserveFrom (first limits).world (λ jid. Unborn) 
 abbrev pub Conserve : Type 0
 Conserve = (limits : Limits) (commands : List Words) (turns : List Turn) → Run (first limits) commands turns → LiveJobsStand limits turns
 
+-- ## Every pushed row is accounted for
+
+-- Each row that was ever pushed had no head, or wasn't a fresh push of its job, or is of a job that is live now or has ended, each job counted
+-- once. The jobs that count as live are those whose life is Live.
+pub record Tallied (w : World) (lives : Bytes → Life) : Type 0 where
+  pub balanced : Balanced w
+  pub once : is_distinct w.live ≡ true
+  pub known : (jid : Bytes) → Knows w jid (lives jid)
+
+abbrev pub BalanceFrom : World → (Bytes → Life) → List Turn → Type 0
+BalanceFrom w lives [] = Unit {0}
+BalanceFrom w lives (t ∷ turns) =
+    let now : Bytes → Life = λ jid. life_through w jid (lives jid) t.changes in
+    Tallied (perform w t.changes) now × BalanceFrom (perform w t.changes) now turns
+
+abbrev pub Balance : Type 0
+Balance = (limits : Limits) (commands : List Words) (turns : List Turn) → Run (first limits) commands turns → BalanceFrom (first limits).world (λ jid. Unborn) turns
+
 -- ## Every text stands as often as it was brought and not taken
 
 -- Brought is a text that was pushed, or put back by a worker. Taken is a row that a client's command took away, that a worker released, that was
@@ -47,7 +65,7 @@ copies text w = copies_in text w.rows
 
 -- how many of the changes bring the text
 abbrev pub pushed_by : Bytes → Change → ℕ
-pushed_by text (Moves (Add row end)) = cond (bytes_eq text row.text) 1 0
+pushed_by text (Moves (Add row end from)) = cond (bytes_eq text row.text) 1 0
 pushed_by text (Moves (PutBack row)) = cond (bytes_eq text row.text) 1 0
 pushed_by text other = 0
 

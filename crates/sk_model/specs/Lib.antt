@@ -1,5 +1,6 @@
 pub mod Phases
 pub mod World
+pub mod Live
 pub mod Change
 pub mod Outcome
 pub mod Class
@@ -8,11 +9,16 @@ pub mod Room
 pub mod Queues
 pub mod Deletes
 pub mod Sets
+pub mod Told
 pub mod Jobs
+pub mod Batches
 pub mod Seats
 pub mod Workers
+pub mod Rescue
+pub mod Status
 pub mod Step
 pub mod Reading
 pub mod Run
 pub mod Life
 pub mod Laws
+pub mod Once

@@ -1,55 +1,39 @@
 -- The life of a job, as the moves of a run make it. Nothing here knows of lists and indexes.
-use Rattle.std.specs.Prelude.{◌≡◌, ℕ, List, [], ◌∷◌, Option, Some, None, Bool, true, not, ◌&&◌, nat_lt, cond}
-use Rattle.std.specs.List.{list_any}
+use Rattle.std.specs.Prelude.{◌≡◌, ◌↔◌, ℕ, ◌+◌, List, [], ◌∷◌, length, Option, Some, None, Bool, true, not, ◌&&◌, nat_lt, cond}
+use Rattle.std.specs.BTreeMap.{is_at}
+use Rattle.std.specs.List.{list_any, count_by}
 use Rattle.sk_resp.specs.Spelling.{Bytes}
 use Rattle.sk_payload.specs.Head.{head, names}
 use Rattle.sk_payload.specs.declared.head.Head.{Head}
-use Rattle.sk_model.specs.declared.phase.End.{End}
-use Rattle.sk_model.specs.declared.phase.End.TheVariants as end
+use Rattle.sk_value.specs.Order.{text_cmp}
+use Rattle.sk_places.specs.Rows.{rows_of as count_of}
 use Rattle.sk_model.specs.declared.phase.Phase.{Phase}
 use Rattle.sk_model.specs.declared.phase.Phase.TheVariants.{Plain, Idle, Held, Put, Settled}
+use Rattle.sk_lives.specs.declared.ending.Ending.{Ending}
+use Rattle.sk_lives.specs.declared.ending.Ending.TheVariants.{Muddled, Deleted, Trimmed}
+use Rattle.sk_lives.specs.declared.totals.Totals.{Totals}
+use Rattle.sk_lives.specs.Totals.{accounted, pushes_in}
 use Rattle.sk_model.specs.World.{World, phase_of}
-use Rattle.sk_model.specs.Phases.{some_has}
-use Rattle.sk_model.specs.Change.{Add, Carry, Take, Trim, Merge, PutBack, Free, Change, Moves, Passes, Names, Unnames, Keeps, Turns, Beats, changed}
+use Rattle.sk_model.specs.Live.{stands, fresh, is_live}
+use Rattle.sk_model.specs.Change.{Add, Carry, Take, Trim, Merge, PutBack, Free, Change, Moves, Passes, Names, Unnames, Keeps, Turns, Beats, Counts, Recovers, Forgets, Fire, Makes, Joins, Tells, ending_of, changed}
 
--- some row names the job
-abbrev pub stands : World → Bytes → Bool
-stands w jid = list_any (λ row. names row.text jid) w.rows
-
--- no row does, and no seat has a payload of it
-abbrev pub fresh : World → Bytes → Bool
-fresh w jid = not (stands w jid) && not (some_has jid w.phases)
+-- how many rows name the job
+abbrev pub rows_of : Bytes → World → ℕ
+rows_of jid w = count_of jid w.rows
 
 pub data Life : Type 0 where
   -- no push of it was fresh yet
   Unborn : Life
-  -- It was freshly pushed, and since then nothing below has come.
+  -- It was freshly pushed, and hasn't ended since then.
   Live : Life
-  -- It was pushed again while it was live.
-  Muddled : Life
-  -- A worker told that it returned, and released it.
-  Returned : Life
-  -- A worker gave it up, and released it.
-  Discarded : Life
-  -- A client's command removed a row of it while it was live.
-  Deleted : Life
-  -- A row of it was trimmed from the dead set while it was live.
-  Trimmed : Life
+  -- It was live, and ended.
+  Ended : (how : Ending) → Life
 
 -- What a live job comes to. Another has ended, or not begun.
-abbrev pub ended : Life → Life → Life
-ended end Unborn = Unborn
-ended end Live = end
-ended end Muddled = Muddled
-ended end Returned = Returned
-ended end Discarded = Discarded
-ended end Deleted = Deleted
-ended end Trimmed = Trimmed
-
--- what it comes to by the release of a worker that is done with it
-abbrev pub life_of : End → Life
-life_of end.Returned = Returned
-life_of end.Discarded = Discarded
+abbrev pub ended : Ending → Life → Life
+ended how Unborn = Unborn
+ended how Live = Ended how
+ended how (Ended before) = Ended before
 
 -- A seat that is done with the job ends its life by the release.
 abbrev pub freed_life : Phase → Bytes → Life → Life
@@ -57,11 +41,11 @@ freed_life Plain jid life = life
 freed_life (Idle ident) jid life = life
 freed_life (Held ident text) jid life = life
 freed_life (Put ident text) jid life = life
-freed_life (Settled ident text end) jid life = cond (names text jid) (ended (life_of end) life) life
+freed_life (Settled ident text end) jid life = cond (names text jid) (ended (ending_of end) life) life
 
 -- The life of the job after a change of this world. A push that isn't fresh is no life of its own.
 abbrev pub life_after : World → Bytes → Life → Change → Life
-life_after w jid life (Moves (Add row end)) = cond (names row.text jid) (cond (fresh w jid) Live (ended Muddled life)) life
+life_after w jid life (Moves (Add row end from)) = cond (names row.text jid) (cond (fresh w jid) Live (ended Muddled life)) life
 life_after w jid life (Moves (Take row from)) = cond (names row.text jid) (ended Deleted life) life
 life_after w jid life (Moves (Trim row)) = cond (names row.text jid) (ended Trimmed life) life
 life_after w jid life (Moves (Free seat)) = freed_life (phase_of w seat) jid life
@@ -74,6 +58,13 @@ life_after w jid life (Unnames queue) = life
 life_after w jid life (Keeps keys) = life
 life_after w jid life (Turns seat phase) = life
 life_after w jid life (Beats ident) = life
+life_after w jid life (Counts name) = life
+life_after w jid life (Recovers other) = life
+life_after w jid life (Forgets other) = life
+life_after w jid life (Moves (Fire bid kind)) = life
+life_after w jid life (Makes batch jids) = life
+life_after w jid life (Joins bid jids) = life
+life_after w jid life (Tells event bid other) = life
 
 -- its life after changes, in order
 abbrev pub life_through : World → Bytes → Life → List Change → Life
@@ -105,3 +96,24 @@ pub record IsKept (w : World) (jid : Bytes) : Type 0 where
 -- Each job whose life is Live is kept.
 abbrev pub Kept : World → (Bytes → Life) → Type 0
 Kept w lives = (jid : Bytes) → lives jid ≡ Live → IsKept w jid
+
+-- ## What the world knows of lives
+
+-- The world has the job as live exactly where its life is Live.
+abbrev pub Knows : World → Bytes → Life → Type 0
+Knows w jid life = (is_live w jid ≡ true) ↔ (life ≡ Live)
+
+-- no job twice
+abbrev pub is_distinct : List Bytes → Bool
+is_distinct [] = true
+is_distinct (jid ∷ jids) = not (list_any (is_at (text_cmp jid)) jids) && is_distinct jids
+
+-- Each row that was pushed is accounted for.
+abbrev pub Balanced : World → Type 0
+Balanced w = pushes_in w.tally ≡ accounted w.tally (length w.live)
+
+-- Each live job is kept, and each pushed row is accounted for.
+pub record IsSound (w : World) : Type 0 where
+  pub kept : (jid : Bytes) → is_live w jid ≡ true → IsKept w jid
+  pub distinct : is_distinct w.live ≡ true
+  pub balanced : Balanced w

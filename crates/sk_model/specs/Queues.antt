@@ -1,17 +1,17 @@
 -- The commands that write on queues and on their names: LPUSH, RPUSH, LREM, LMOVE, and SADD on `queues` (Redis, "Lists", "SADD").
-use Rattle.std.specs.Prelude.{ℕ, ℤ, pos, negsuc, zero, suc, ◌-◌, List, [], ◌∷◌, Option, Some, None, length, min, map, filter, cond}
+use Rattle.std.specs.Prelude.{ℕ, ℤ, pos, zero, suc, ◌-◌, List, [], ◌∷◌, Option, Some, None, length, map, cond}
 use Rattle.std.specs.List.{list_all}
 use Rattle.sk_resp.specs.Spelling.{Bytes}
 use Rattle.sk_resp.specs.declared.reply.Reply.TheVariants as reply
 use Rattle.sk_resp.specs.declared.refusal.Refusal.TheVariants.{ManagedKey}
 use Rattle.sk_cmd.specs.declared.argument.Side.{Side}
-use Rattle.sk_cmd.specs.declared.argument.Side.TheVariants.{Left, Right}
 use Rattle.sk_payload.specs.Member.{is_name}
 use Rattle.sk_value.specs.Answer.{counted}
 use Rattle.sk_value.specs.Sets.{with_members}
 use Rattle.sk_places.specs.declared.row.Place.{Place}
 use Rattle.sk_places.specs.declared.row.Row.{Row}
-use Rattle.sk_places.specs.Rows.{rows_at, row_at, row_at_end, is_same}
+use Rattle.sk_places.specs.Rows.{copies_of, end_taken, number_taken, rows_at, row_at, row_at_end}
+use Rattle.sk_lives.specs.declared.origin.Origin.TheVariants.{Outside}
 use Rattle.sk_model.specs.World.{World}
 use Rattle.sk_model.specs.Change.{Change, Moves, Add, Carry, Take, Names, perform}
 use Rattle.sk_model.specs.Outcome.{Outcome, says, refuses}
@@ -22,7 +22,7 @@ use Rattle.sk_model.specs.Room.{where_room}
 -- each text in turn at that end
 abbrev pub pushes : Side → Place → List Bytes → List Change
 pushes end place [] = []
-pushes end place (text ∷ texts) = Moves (Add (row_at place text) end) ∷ pushes end place texts
+pushes end place (text ∷ texts) = Moves (Add (row_at place text) end Outside) ∷ pushes end place texts
 
 abbrev pub length_at : Place → World → ℕ
 length_at place w = length (rows_at place w.rows)
@@ -34,21 +34,6 @@ push w end place texts =
     where_room w texts (record { reply = counted (length_at place (perform w changes)); changes = changes })
 
 -- ## LREM
-
--- how many rows are the same
-abbrev pub copies_of : Row → List Row → ℕ
-copies_of row rows = length (filter (is_same row) rows)
-
--- of so many equal ones, how many LREM takes: all, or as many as it is told
-abbrev pub number_taken : ℤ → ℕ → ℕ
-number_taken (pos zero) n = n
-number_taken (pos (suc k)) n = min (suc k) n
-number_taken (negsuc k) n = min (suc k) n
-
--- the end from which it takes them
-abbrev pub end_taken : ℤ → Side
-end_taken (pos k) = Left
-end_taken (negsuc k) = Right
 
 abbrev pub takes : ℕ → Row → Side → List Change
 takes zero row end = []

@@ -1,9 +1,10 @@
 -- How much the store takes.
-use Rattle.std.specs.Prelude.{ℕ, ◌+◌, ◌^◌, List, length, map, Bool, ◌||◌, cond}
+use Rattle.std.specs.Prelude.{ℕ, ◌+◌, ◌^◌, List, [], ◌∷◌, length, map, Bool, false, ◌||◌, cond}
 use Rattle.std.specs.Prelude.{nat_lt}
 use Rattle.std.specs.List.{sum}
 use Rattle.sk_resp.specs.Spelling.{Bytes}
 use Rattle.sk_resp.specs.declared.refusal.Refusal.TheVariants.{Full}
+use Rattle.sk_lives.specs.Totals.{pushes_in}
 use Rattle.sk_model.specs.World.{World}
 use Rattle.sk_model.specs.Outcome.{Outcome, refuses}
 
@@ -21,7 +22,12 @@ most_pushes = 2 ^ 62
 -- With these texts, all counted as new, there would be too much.
 abbrev pub is_full : World → List Bytes → Bool
 is_full w texts = nat_lt w.limits.rows (length w.rows + length texts)
-    || (nat_lt w.limits.bytes (bytes_of (texts_in w) + bytes_of texts) || nat_lt most_pushes (w.push_count + length texts))
+    || (nat_lt w.limits.bytes (bytes_of (texts_in w) + bytes_of texts) || nat_lt most_pushes (pushes_in w.tally + length texts))
+
+-- a push of nothing is never too much
+abbrev pub is_too_much : World → List Bytes → Bool
+is_too_much w [] = false
+is_too_much w (text ∷ texts) = is_full w (text ∷ texts)
 
 -- what a push of these texts comes to
 abbrev pub where_room : World → List Bytes → Outcome → Outcome

@@ -14,6 +14,7 @@ use Rattle.sk_value.specs.declared.edit.Edit.TheVariants as edit
 use Rattle.sk_places.specs.declared.row.Place.TheVariants.{Set}
 use Rattle.sk_places.specs.declared.row.Row.{Row}
 use Rattle.sk_places.specs.Rows.{rows_at, row_in, row_of, pair_of}
+use Rattle.sk_lives.specs.declared.origin.Origin.TheVariants.{Outside}
 use Rattle.sk_model.specs.World.{World}
 use Rattle.sk_model.specs.Change.{Change, Moves, Add, Carry, PutBack, changed, perform}
 use Rattle.sk_model.specs.Outcome.{Outcome, refuses}
@@ -25,7 +26,7 @@ use Rattle.sk_model.specs.Room.{where_room}
 
 -- A text that is there gets the score. That is no push.
 abbrev pub add_as : Scored → Pair → Option Row → Change
-add_as set pair None = Moves (Add (row_in set pair) Left)
+add_as set pair None = Moves (Add (row_in set pair) Left Outside)
 add_as set pair (Some row) = Moves (Carry row Left (Set set) pair.0 Left)
 
 abbrev pub add_one : World → Scored → Pair → Change

@@ -1,6 +1,5 @@
 -- One command for the store: from the world, to a reply and changes.
-use Rattle.std.specs.Prelude.{◌≡◌, ◌⊎◌, ℕ, [], ◌∷◌, List, Bool, true, false, cond, not, ◌&&◌, ◌||◌, nat_abs}
-use Rattle.std.specs.List.{list_all}
+use Rattle.std.specs.Prelude.{◌≡◌, ◌⊎◌, ℕ, [], ◌∷◌, Bool, true, false, cond, not, ◌&&◌, ◌||◌, nat_abs}
 use Rattle.sk_resp.specs.Spelling.{Bytes}
 use Rattle.sk_resp.specs.declared.reply.Reply.TheVariants as reply
 use Rattle.sk_resp.specs.declared.say.Say.TheVariants as say
@@ -22,7 +21,6 @@ use Rattle.sk_value.specs.Values.{look_at}
 use Rattle.sk_value.specs.Apply.{applied, Applied}
 use Rattle.sk_model.specs.declared.key_class.KeyClass.{KeyClass}
 use Rattle.sk_model.specs.declared.key_class.KeyClass.TheVariants as class
-use Rattle.sk_model.specs.declared.phase.End.TheVariants.{Returned, Discarded}
 use Rattle.sk_model.specs.declared.phase.Phase.{Phase}
 use Rattle.sk_model.specs.declared.phase.Phase.TheVariants.{Plain}
 use Rattle.sk_places.specs.declared.row.Place.TheVariants.{Queue}
@@ -37,31 +35,11 @@ use Rattle.sk_model.specs.Sets.{edit_jobs}
 use Rattle.sk_model.specs.Jobs.{due, kill, revive}
 use Rattle.sk_model.specs.Deletes.{delete, flush}
 use Rattle.sk_model.specs.Seats.{is_workers, is_for_all, releases, where_plain}
-use Rattle.sk_model.specs.Workers.{beat, join, work, start, fired, settle, fail, bury, back}
-
--- ## Which commands are built
-
-abbrev pub names_later : KeyClass → Bool
-names_later class.Later = true
-names_later other = false
-
--- the keys that an action names
-abbrev pub keys_of : Action → List Bytes
-keys_of action.Ping = []
-keys_of (action.Echo text) = []
-keys_of action.Quit = []
-keys_of (action.Look key look) = key ∷ []
-keys_of (action.Edit key edit) = key ∷ []
-keys_of (action.Set key text options) = key ∷ []
-keys_of (action.Expire key millis) = key ∷ []
-keys_of (action.Exists keys) = keys
-keys_of (action.Delete keys) = keys
-keys_of (action.Move source destination from to) = source ∷ destination ∷ []
-keys_of action.Flush = []
-
--- A command is built unless it names a key that isn't built yet.
-unfoldable pub is_built : Action → Bool
-is_built a = list_all (λ key. not (names_later (class_of key))) (keys_of a)
+use Rattle.sk_model.specs.Rescue.{rescue}
+use Rattle.sk_model.specs.Life.{rows_of}
+use Rattle.sk_model.specs.Status.{status}
+use Rattle.sk_model.specs.Workers.{beat, join, work, start, ok, drop, fail, bury, back}
+use Rattle.sk_model.specs.Batches.{batch_of, batch_push, batch_add, batch_stat}
 
 -- ## Keys of the clients' own
 
@@ -95,7 +73,7 @@ edits w key e class.Private = refuses ManagedKey
 edits w key e class.NoPrivate = refuses ManagedKey
 edits w key e class.Processes = refuses ManagedKey
 edits w key e (class.Jobs set) = edit_jobs w set e
-edits w key e class.Later = refuses ManagedKey
+edits w key e class.Counter = refuses ManagedKey
 
 -- LMOVE goes between two queues, or between two plain keys.
 abbrev pub moves : World → Bytes → Bytes → Side → Side → KeyClass → KeyClass → Outcome
@@ -125,29 +103,29 @@ by_seat w seat phase c = cond (is_workers (action_of c)) (work w seat phase (act
 -- ## The commands of the store's own
 
 abbrev pub is_script_built : ScriptCommand → Bool
-is_script_built script.Rescue = false
 is_script_built (script.Upush text score) = false
-is_script_built (script.Bpush bid parent complete success death texts) = false
-is_script_built (script.Badd bid texts) = false
-is_script_built (script.Bstat bid) = false
 is_script_built (script.Lead ident) = false
 is_script_built (script.Cron ident loop slot text) = false
-is_script_built (script.Where jid) = false
-is_script_built script.Status = false
 is_script_built other = true
 
 abbrev pub run : World → ℕ → Phase → ScriptCommand → Outcome
 run w seat phase (script.Beat ident) = beat ident
 run w seat phase (script.Join ident) = where_plain phase (join w seat ident)
 run w seat phase (script.Start text) = start phase text
-run w seat phase (script.Ok text) = settle seat phase text Returned fired
-run w seat phase (script.Fail text) = fail phase text
-run w seat phase (script.Drop text) = settle seat phase text Discarded (reply.Say say.Ok)
+run w seat phase (script.Ok text) = ok w seat phase text
+run w seat phase (script.Fail text) = fail w phase text
+run w seat phase (script.Drop text) = drop seat phase text
 run w seat phase (script.Bury text) = bury w seat phase text
 run w seat phase (script.Back text) = back w seat phase text
 run w seat phase (script.Due set limit) = where_plain phase (due w set (nat_abs limit))
 run w seat phase (script.Revive set text) = where_plain phase (revive w set text)
 run w seat phase (script.Kill set text) = where_plain phase (kill w set text)
+run w seat phase script.Rescue = where_plain phase (rescue w)
+run w seat phase (script.Bpush bid parent complete success death texts) = batch_push w (batch_of bid parent complete success death) texts
+run w seat phase (script.Badd bid texts) = batch_add w bid texts
+run w seat phase (script.Bstat bid) = batch_stat w bid
+run w seat phase (script.Where jid) = says (counted (rows_of jid w))
+run w seat phase script.Status = status w
 run w seat phase other = tells say.NotBuilt
 
 -- ## The step
@@ -157,7 +135,7 @@ abbrev pub at_moment : ℕ → Outcome → Outcome
 at_moment now o = record o { changes = Passes now ∷ o.changes }
 
 abbrev pub plain_outcome : World → ℕ → ℕ → PlainCommand → Outcome
-plain_outcome w seat now c = cond (is_built (action_of c)) (at_moment now (by_seat (changed w (Passes now)) seat (phase_of w seat) c)) (tells say.NotBuilt)
+plain_outcome w seat now c = at_moment now (by_seat (changed w (Passes now)) seat (phase_of w seat) c)
 
 abbrev pub script_outcome : World → ℕ → ℕ → ScriptCommand → Outcome
 script_outcome w seat now c = cond (is_script_built c) (at_moment now (run (changed w (Passes now)) seat (phase_of w seat) c)) (tells say.NotBuilt)

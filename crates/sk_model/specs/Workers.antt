@@ -4,7 +4,6 @@ use Rattle.std.specs.Prelude.{ℕ, pos, [], ◌∷◌, Option, Some, None, Bool,
 use Rattle.std.specs.Option.{is_some}
 use Rattle.std.specs.Str.{bytes_eq}
 use Rattle.sk_resp.specs.Spelling.{Bytes}
-use Rattle.sk_resp.specs.declared.reply.Reply.{Reply}
 use Rattle.sk_resp.specs.declared.reply.Reply.TheVariants as reply
 use Rattle.sk_resp.specs.declared.say.Say.TheVariants as say
 use Rattle.sk_resp.specs.declared.refusal.Refusal.TheVariants.{OutOfTurn, NoProcess, BadPayload, NotWorker}
@@ -14,21 +13,25 @@ use Rattle.sk_payload.specs.Follows.{follows}
 use Rattle.sk_payload.specs.Head.{head}
 use Rattle.sk_payload.specs.declared.head.Head.{Head}
 use Rattle.sk_payload.specs.Member.{is_name}
-use Rattle.sk_value.specs.Answer.{counted, one_if, texts}
+use Rattle.sk_value.specs.Answer.{counted, one_if}
 use Rattle.sk_value.specs.declared.action.Action.{Action}
 use Rattle.sk_zset.specs.Pair.{Pair}
 use Rattle.sk_places.specs.declared.row.Place.TheVariants.{Queue, Private, Set}
 use Rattle.sk_places.specs.declared.row.Row.{Row}
 use Rattle.sk_places.specs.Rows.{row_at_end, row_of, rows_at}
-use Rattle.sk_model.specs.declared.phase.End.{End}
+use Rattle.sk_model.specs.declared.phase.End.TheVariants.{Returned, Discarded}
 use Rattle.sk_model.specs.declared.phase.Phase.{Phase}
 use Rattle.sk_model.specs.declared.phase.Phase.TheVariants.{Plain, Idle, Held, Put, Settled}
 use Rattle.sk_model.specs.World.{World}
 use Rattle.sk_leases.specs.Leased.{is_alive}
-use Rattle.sk_model.specs.Change.{Moves, Carry, Free, Turns, Beats}
+use Rattle.sk_model.specs.Change.{Moves, Carry, Free, Turns, Beats, Counts}
+use Rattle.sk_counters.specs.Counters.{processed, failed}
 use Rattle.sk_model.specs.Outcome.{Outcome, says, tells, refuses}
 use Rattle.sk_model.specs.Seats.{fetched_from, retried, is_release, where_held, where_same}
 use Rattle.sk_model.specs.Sets.{put_back}
+use Rattle.sk_model.specs.Told.{and_tell}
+use Rattle.sk_batch.specs.declared.event.Event.TheVariants as event
+use Rattle.sk_batch.specs.declared.event.Event.TheVariants.{Reported}
 use Rattle.sk_model.specs.Jobs.{Sent, buried_by, reports, moment_score}
 
 -- ## The process
@@ -52,7 +55,7 @@ abbrev pub fetch : World → ℕ → Bytes → Option Bytes → Outcome
 fetch w seat ident None = refuses OutOfTurn
 fetch w seat ident (Some queue) = fetch_row seat ident (row_at_end Right (Queue queue) w.rows)
 
--- whether a row of the text stands in the private list
+-- the leftmost row of the text in the private list
 abbrev pub listed : World → Bytes → Bytes → Option Row
 listed w ident text = row_of text (rows_at (Private ident) w.rows)
 
@@ -74,21 +77,21 @@ back w seat phase text = where_same phase text (λ ident. give w seat ident text
 
 -- ## A job runs
 
--- the callbacks that fell due, of which there are none yet
-abbrev pub fired : Reply
-fired = texts []
-
 -- SK.START: it is about to run
 abbrev pub start : Phase → Bytes → Outcome
 start phase text = where_same phase text (λ ident. tells say.Ok)
 
 -- SK.FAIL: it has raised
-abbrev pub fail : Phase → Bytes → Outcome
-fail phase text = where_same phase text (λ ident. says fired)
+abbrev pub fail : World → Phase → Bytes → Outcome
+fail w phase text = where_same phase text (λ ident. and_tell Reported w text (Counts processed ∷ Counts failed ∷ []))
 
--- SK.OK and SK.DROP: it has returned, or is given up; then it is released.
-abbrev pub settle : ℕ → Phase → Bytes → End → Reply → Outcome
-settle seat phase text end reply = where_same phase text (λ ident. record { reply = reply; changes = Turns seat (Settled ident text end) ∷ [] })
+-- SK.OK: it has returned; then it is released.
+abbrev pub ok : World → ℕ → Phase → Bytes → Outcome
+ok w seat phase text = where_same phase text (λ ident. and_tell event.Returned w text (Turns seat (Settled ident text Returned) ∷ Counts processed ∷ []))
+
+-- SK.DROP: it is given up; then it is released. Its batch hears nothing of it.
+abbrev pub drop : ℕ → Phase → Bytes → Outcome
+drop seat phase text = where_same phase text (λ ident. record { reply = reply.Say say.Ok; changes = Turns seat (Settled ident text Discarded) ∷ [] })
 
 -- ## A job has failed
 
@@ -105,7 +108,7 @@ abbrev pub may_bury : Bytes → Bytes → Bool
 may_bury held text = follows held text || (bytes_eq held text && not (is_some (head held)))
 
 abbrev pub bury_text : World → ℕ → Bytes → Bytes → Bytes → Sent
-bury_text w seat ident held text = buried_by w (put_back w Dead (moment_score w, text) ∷ Turns seat (Put ident held) ∷ [])
+bury_text w seat ident held text = buried_by w text (put_back w Dead (moment_score w, text) ∷ Turns seat (Put ident held) ∷ [])
 
 abbrev pub bury : World → ℕ → Phase → Bytes → Outcome
 bury w seat phase text = where_held phase (λ ident held. cond (may_bury held text) (reports (bury_text w seat ident held text)) (refuses OutOfTurn))

@@ -20,6 +20,6 @@ pub enum KeyClass {
     Processes,
     /// `schedule`, `retry`, `dead`: a set of jobs with scores.
     Jobs(Scored),
-    /// `stat:` and more: a counter. These aren't built yet.
-    Later,
+    /// `stat:` and more: a counter, if there is one of this name.
+    Counter,
 }

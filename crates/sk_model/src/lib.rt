@@ -7,6 +7,9 @@ mod limits;
 mod phase;
 
 pub use key_class::KeyClass;
-pub use laws::{live_jobs_stand, nothing_is_lost, words_have_one_reading};
+pub use laws::{
+    callbacks_follow, complete_fires_once, death_fires_once, live_jobs_stand, nothing_is_lost,
+    settled_stays, success_fires_once, tally_balances, words_have_one_reading,
+};
 pub use limits::Limits;
 pub use phase::{End, Phase};

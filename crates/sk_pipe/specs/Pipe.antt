@@ -11,18 +11,18 @@ use Rattle.sk_resp.specs.declared.reply.Reply.{Reply}
 use Rattle.sk_resp.specs.declared.reply.Reply.TheVariants as reply
 use Rattle.sk_model.specs.declared.limits.Limits.{Limits}
 use Rattle.sk_model.specs.Run.{State, Answers, first}
-use Rattle.sk_model.specs.Laws.{LiveJobsStand}
+use Rattle.sk_pipe.specs.Reliable.{AreReliable}
 use Rattle.sk_pipe.specs.declared.pipe_end.PipeEnd.{PipeEnd}
 use Rattle.sk_pipe.specs.declared.pipe_end.PipeEnd.TheVariants.{Done, Wire, Cut, ReadFault, WriteFault, Memory, Budget}
 
 -- ## Replies
 
 -- These are the replies of one run of the commands, in order, from the old state to the new one. Either the last command, an accepted QUIT or SHUTDOWN,
--- ends the pipe, or none does. Where the run begins at a first state, every live job stands after each command.
+-- ends the pipe, or none does. Where the run begins at a first state, no live job is lost in it, and each batch calls back once.
 pub record Serves (ends : Bool) (old : State) (commands : List Command) (new : State) (written : Bytes) : Type 0 where
   pub replies : List Reply
   pub answers : Answers old commands replies new ends
-  pub live_jobs_stand : (limits : Limits) → old ≡ first limits → LiveJobsStand limits answers.turns
+  pub reliable : AreReliable old answers.turns
   pub text : written ≡ joined (map wire replies)
 
 -- the reply to a fault of the stream

@@ -157,6 +157,41 @@ fn end_of_input(feeder: &Feeder) -> PipeEnd
     }
 }
 
+// Reads commands from the source until its end, or until a QUIT or SHUTDOWN is accepted, and lets the session answer them.
+fn drive<S: Source, K: Sink>(
+    alloc: Global,
+    session: &mut Session,
+    source: &mut S,
+    sink: &mut K,
+) -> PipeEnd
+    ensures ends { (bytes written : Bytes) × (Moves (S.left source.old) (S.left source.new) (K.taken sink.old) (K.taken sink.new) bytes written
+        × Ends session.old result bytes (S.left source.new) session.new written) }
+    ensures read_fault { result ≡ PipeEnd.ReadFault → Rose (S.read_faults source.old) (S.read_faults source.new) }
+    ensures write_fault { result ≡ PipeEnd.WriteFault → Rose (K.write_faults sink.old) (K.write_faults sink.new) }
+    ensures source_count { S.read_faults source.old ≤ S.read_faults source.new }
+    ensures sink_count { K.write_faults sink.old ≤ K.write_faults sink.new }
+{
+    let mut feeder = Feeder::new(alloc);
+    let mut commands = Vec::new(alloc);
+    let mut buf = [0u8; PIECE];
+    let mut count: u64 = 0;
+    while count < MOST_BYTES {
+        let Ok(n) = source.read(&mut buf) else {
+            return PipeEnd::ReadFault;
+        };
+        if n == 0 {
+            return end_of_input(&feeder);
+        }
+        count += n as u64;
+        let piece = &buf[..n];
+        match pass(alloc, &mut feeder, session, &mut commands, piece, sink) {
+            Ok(()) => {}
+            Err(end) => return end,
+        }
+    }
+    PipeEnd::Budget
+}
+
 /// Reads commands from the source until its end, or until a QUIT or SHUTDOWN is accepted, and writes each one's reply to the sink before the
 /// next is done. The stream may come in any pieces. The store begins empty, with these limits, at the moment 0.
 pub fn pipe<S: Source, K: Sink>(
@@ -175,24 +210,8 @@ pub fn pipe<S: Source, K: Sink>(
     ensures source_count { S.read_faults source.old ≤ S.read_faults source.new }
     ensures sink_count { K.write_faults sink.old ≤ K.write_faults sink.new }
 {
-    let mut feeder = Feeder::new(alloc);
     let mut session = Session::new(alloc, limits);
-    let mut commands = Vec::new(alloc);
-    let mut buf = [0u8; PIECE];
-    let mut count: u64 = 0;
-    while count < MOST_BYTES {
-        let Ok(n) = source.read(&mut buf) else {
-            return PipeEnd::ReadFault;
-        };
-        if n == 0 {
-            return end_of_input(&feeder);
-        }
-        count += n as u64;
-        let piece = &buf[..n];
-        match pass(alloc, &mut feeder, &mut session, &mut commands, piece, sink) {
-            Ok(()) => {}
-            Err(end) => return end,
-        }
-    }
-    PipeEnd::Budget
+    let end = drive(alloc, &mut session, source, sink);
+    session.close();
+    end
 }

@@ -77,6 +77,9 @@ impl Session {
         }
     }
 
+    /// The session is over, and its store goes.
+    pub fn close(self) {}
+
     // Lets the store do the command. A QUIT or SHUTDOWN for which there was no memory ends nothing.
     fn ask(&mut self, command: Command) -> Answer
         ensures { Asked self.old command result self.new }

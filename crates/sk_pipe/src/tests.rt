@@ -240,7 +240,7 @@ fn queues_are_kept_from_command_to_command(rt: HostRuntime) -> Result<(), Fail> 
 #[test]
 fn plain_keys_hold_what_redis_has(rt: HostRuntime) -> Result<(), Fail> {
     let alloc = rt.alloc();
-    let rows: [(&[u8], &[u8]); 10] = [
+    let rows: [(&[u8], &[u8]); 11] = [
         (
             b"SET k v\nGET k\nDEL k\nGET k\n",
             b"+OK\r\n$1\r\nv\r\n:1\r\n$-1\r\n",
@@ -263,8 +263,12 @@ fn plain_keys_hold_what_redis_has(rt: HostRuntime) -> Result<(), Fail> {
         ),
         (b"ECHO x\n", b"$1\r\nx\r\n"),
         (
-            b"ZADD z 2 b 1 a\nZRANGE z 0 0 WITHSCORES\nGET stat:failed\n",
+            b"ZADD z 2 b 1 a\nZRANGE z 0 0 WITHSCORES\nSK.LEAD w1\n",
             b":2\r\n*2\r\n$1\r\na\r\n$1\r\n1\r\n-SK not built\r\n",
+        ),
+        (
+            b"GET stat:failed\nSK.WHERE j\nSK.RESCUE\n",
+            b"$-1\r\n:0\r\n*4\r\n:0\r\n:0\r\n*0\r\n*0\r\n",
         ),
     ];
     for (input, want) in rows {
@@ -272,5 +276,17 @@ fn plain_keys_hold_what_redis_has(rt: HostRuntime) -> Result<(), Fail> {
         assert_eq!(rt; text.as_slice(), want);
         assert_eq!(rt; status, 0);
     }
+    Ok(())
+}
+
+#[test]
+fn a_batch_succeeds_when_its_job_has_returned(rt: HostRuntime) -> Result<(), Fail> {
+    let input =
+        b"*7\r\n$8\r\nSK.BPUSH\r\n$1\r\nb\r\n$0\r\n\r\n$0\r\n\r\n$45\r\n{\"jid\":\"k\",\"class\":\"D\",\"queue\":\"r\",\"args\":[]}\r\n$0\r\n\r\n$55\r\n{\"jid\":\"j\",\"class\":\"C\",\"queue\":\"q\",\"args\":[],\"bid\":\"b\"}\r\nSK.BEAT w\nSK.AS 1\nSK.JOIN w\nLMOVE queue:q sq:w RIGHT LEFT\n*2\r\n$5\r\nSK.OK\r\n$55\r\n{\"jid\":\"j\",\"class\":\"C\",\"queue\":\"q\",\"args\":[],\"bid\":\"b\"}\r\n*4\r\n$4\r\nLREM\r\n$4\r\nsq:w\r\n$1\r\n1\r\n$55\r\n{\"jid\":\"j\",\"class\":\"C\",\"queue\":\"q\",\"args\":[],\"bid\":\"b\"}\r\nLLEN queue:r\nGET stat:processed\nSK.BSTAT b\n";
+    let want =
+        b"*0\r\n+OK\r\n+OK\r\n+OK\r\n$55\r\n{\"jid\":\"j\",\"class\":\"C\",\"queue\":\"q\",\"args\":[],\"bid\":\"b\"}\r\n*4\r\n$1\r\nb\r\n$8\r\ncomplete\r\n$1\r\nb\r\n$7\r\nsuccess\r\n:1\r\n:1\r\n$1\r\n1\r\n*5\r\n:1\r\n:0\r\n:0\r\n:0\r\n:0\r\n";
+    let (status, text) = ran(rt.alloc(), &["pipe"], input, 0)?;
+    assert_eq!(rt; text.as_slice(), want.as_slice());
+    assert_eq!(rt; status, 0);
     Ok(())
 }

@@ -10,14 +10,17 @@ use Rattle.std.proofs.lemmas.List.Edits.{length-remove}
 use Rattle.std.specs.Ordering.{nat_cmp}
 use Rattle.std.specs.Cmp.Lexicographic.{slice_cmp}
 use Rattle.sk_track.specs.Rises.{all_pass}
+use Rattle.sk_lives.specs.Lives.{all_ended}
+use Rattle.sk_lives.specs.declared.ending.Ending.{Ending}
 use Rattle.sk_cmd.specs.declared.argument.Side.TheVariants.{Left}
 use Rattle.sk_cmd.specs.declared.argument.Scored.{Scored}
 use Rattle.sk_zset.specs.Pair.{pair_cmp}
 use Rattle.sk_places.specs.declared.row.Place.{Place}
 use Rattle.sk_places.specs.declared.row.Place.TheVariants.{Set}
 use Rattle.sk_places.specs.declared.row.Row.{Row}
+use Rattle.sk_places.specs.Ends.{texts_of}
 use Rattle.sk_places.specs.Order.{is_ordered}
-use Rattle.sk_places.specs.Placed.{Placed, without_row, without_rows}
+use Rattle.sk_places.specs.Placed.{Placed, ended_row, ended_rows, placed}
 use Rattle.sk_places.specs.Rows.{is_at, is_same, pair_of, place_cmp, row_cmp, rows_at, take_row}
 use Rattle.sk_places.proofs.Order.{row_total, same_place, same_text}
 use Rattle.sk_places.proofs.Rising.{ordered_remove, set_cmp}
@@ -28,9 +31,9 @@ abbrev pub take_each : List Row → List Row → List Row
 take_each [] rows = rows
 take_each (row ∷ gone) rows = take_each gone (take_row Left row rows)
 
-pub without_each : (gone : List Row) (p : Placed) → without_rows gone p ≡ record p { rows = take_each gone p.rows }
-without_each [] p = refl
-without_each (row ∷ gone) p = without_each gone (without_row Left row p)
+pub ended_each : (how : Ending) (gone : List Row) (p : Placed) → ended_rows how gone p ≡ placed (take_each gone p.rows) p.names (all_ended how (texts_of gone) p.lives)
+ended_each how [] p = refl
+ended_each how (row ∷ gone) p = ended_each how gone (ended_row how Left row p)
 
 -- ## Equal rows are one row
 
@@ -85,11 +88,25 @@ filter_filter p q (x ∷ xs) = grind (arith, filter_filter p q xs)
 pub passing_gone : (test : Row → Bool) (place : Place) (rows : List Row) → take_each (filter test (rows_at place rows)) rows ≡ filter (λ row. not (is_at place row && test row)) rows
 passing_gone test place rows = ap (λ l. take_each l rows) (filter_filter test (is_at place) rows) ∙ all_gone (λ row. is_at place row && test row) rows
 
-pub passing_without : (test : Row → Bool) (place : Place) (p : Placed) → without_rows (filter test (rows_at place p.rows)) p ≡ record p { rows = filter (λ row. not (is_at place row && test row)) p.rows }
-passing_without test place p = without_each (filter test (rows_at place p.rows)) p ∙ ap (λ l. record p { rows = l }) (passing_gone test place p.rows)
+pub passing_ended : (how : Ending) (test : Row → Bool) (place : Place) (p : Placed) → ended_rows how (filter test (rows_at place p.rows)) p ≡ placed (filter (λ row. not (is_at place row && test row)) p.rows) p.names (all_ended how (texts_of (filter test (rows_at place p.rows))) p.lives)
+passing_ended how test place p = ended_each how (filter test (rows_at place p.rows)) p ∙ ap (λ l. placed l p.names (all_ended how (texts_of (filter test (rows_at place p.rows))) p.lives)) (passing_gone test place p.rows)
 
-pub place_without : (place : Place) (p : Placed) → without_rows (rows_at place p.rows) p ≡ record p { rows = filter (λ row. not (is_at place row)) p.rows }
-place_without place p = without_each (rows_at place p.rows) p ∙ ap (λ l. record p { rows = l }) (all_gone (is_at place) p.rows)
+pub place_ended : (how : Ending) (place : Place) (p : Placed) → ended_rows how (rows_at place p.rows) p ≡ placed (filter (λ row. not (is_at place row)) p.rows) p.names (all_ended how (texts_of (rows_at place p.rows)) p.lives)
+place_ended how place p = ended_each how (rows_at place p.rows) p ∙ ap (λ l. placed l p.names (all_ended how (texts_of (rows_at place p.rows)) p.lives)) (all_gone (is_at place) p.rows)
+
+filter_every : (rows : List Row) → filter (λ row. true) rows ≡ rows
+filter_every [] = refl
+filter_every (row ∷ rows) = ap (λ l. row ∷ l) (filter_every rows)
+
+filter_none : (rows : List Row) → filter (λ row. false) rows ≡ []
+filter_none [] = refl
+filter_none (row ∷ rows) = filter_none rows
+
+-- all rows
+pub every_ended : (how : Ending) (p : Placed) → ended_rows how p.rows p ≡ placed [] p.names (all_ended how (texts_of p.rows) p.lives)
+every_ended how p =
+    let gone : take_each p.rows p.rows ≡ [] = ap (λ l. take_each l p.rows) (sym (filter_every p.rows)) ∙ all_gone (λ row. true) p.rows ∙ filter_none p.rows in
+    ended_each how p.rows p ∙ ap (λ l. placed l p.names (all_ended how (texts_of p.rows) p.lives)) gone
 
 -- ## A part of a set
 

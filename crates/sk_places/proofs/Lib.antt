@@ -1,13 +1,15 @@
 pub mod Entries
 pub mod Gone
 pub mod Idents
+pub mod Indexed
+pub mod Jobs
 pub mod Kept
 pub mod Lists
 pub mod Moves
 pub mod Order
 pub mod Rising
 pub mod Segments
-pub mod Sorted
+pub mod Sound
 pub mod Sweeps
 pub mod Windows
 pub mod Worked

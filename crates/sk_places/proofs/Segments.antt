@@ -22,7 +22,7 @@ use Rattle.sk_places.proofs.Order.{same_place, place_total, itself}
 use Rattle.sk_places.proofs.Rising.{rises_reached, rises_passed}
 
 module _ {X : Type 0} where
-  filter_same : (p q : X → Bool) → ((x : X) → p x ≡ q x) → (xs : List X) → filter p xs ≡ filter q xs
+  pub filter_same : (p q : X → Bool) → ((x : X) → p x ≡ q x) → (xs : List X) → filter p xs ≡ filter q xs
   filter_same p q same [] = refl
   filter_same p q same (x ∷ xs) = ap₂ (λ b l. cond b (x ∷ l) l) (same x) (filter_same p q same xs)
 
@@ -34,7 +34,7 @@ module _ {X : Type 0} where
   any_more p [] ys h k = k
   any_more p (x ∷ xs) ys h k = grind (arith, h, any_more p xs ys)
 
-  sooner : (p q : X → Bool) → ((x : X) → p x ≡ true → q x ≡ true) → (xs : List X) → position_or_len q xs ≤ position_or_len p xs
+  pub sooner : (p q : X → Bool) → ((x : X) → p x ≡ true → q x ≡ true) → (xs : List X) → position_or_len q xs ≤ position_or_len p xs
   sooner p q less [] = omega arith
   sooner p q less (x ∷ xs) = grind (arith, less x, sooner p q less xs)
 

@@ -1,5 +1,5 @@
 -- Rows that pass a test are taken out one after another, from the left or from the right.
-use Rattle.std.proofs.Common.{◌≡◌, ◌≤◌, ◌<◌, ◌+◌, ◌-◌, ℕ, zero, suc, min, Bool, true, false, not, List, [], ◌∷◌, ◌++◌, Some, length, take, drop, slice_get, refl, sym, arith, ap, subst, ◌∙◌, length-take, length-drop}
+use Rattle.std.proofs.Common.{◌≡◌, ◌≤◌, ◌<◌, ◌+◌, ◌-◌, ℕ, zero, suc, min, Bool, true, false, not, List, [], ◌∷◌, ◌++◌, Option, None, Some, length, take, drop, slice_get, refl, sym, arith, ap, ap₂, subst, ◌∙◌, length-take, length-drop, replicate}
 use Rattle.std.specs.List.{filter, remove, position_or_len, list_any}
 use Rattle.std.proofs.lemmas.List.{take-append-drop}
 use Rattle.sk_zset.proofs.Places.{no_position}
@@ -8,14 +8,19 @@ use Rattle.sk_cmd.specs.declared.argument.Side.{Side}
 use Rattle.sk_cmd.specs.declared.argument.Side.TheVariants.{Left, Right}
 use Rattle.sk_places.specs.declared.row.Place.{Place}
 use Rattle.sk_places.specs.declared.row.Row.{Row}
-use Rattle.sk_places.specs.Placed.{Placed, without_copies, without_row}
+use Rattle.sk_places.specs.Placed.{Placed, ended_copies, ended_row, placed}
+use Rattle.sk_resp.specs.Spelling.{Bytes}
+use Rattle.sk_track.specs.Steps.{Steps, edited}
+use Rattle.sk_lives.specs.Lives.{Lived, all_ended, ended}
+use Rattle.sk_lives.specs.declared.ending.Ending.{Ending}
+use Rattle.sk_places.specs.Ends.{ended_of, texts_of}
 use Rattle.sk_places.specs.Rows.{is_at, is_same, without_first, without_last}
 use Rattle.sk_places.specs.Segments.{IsSegment}
 use Rattle.sk_places.specs.Wanted.{picks, without_end, without_firsts, without_lasts}
 use Rattle.sk_places.specs.declared.wanted.Wanted.{Wanted}
 use Rattle.sk_places.specs.declared.wanted.Wanted.TheVariants.{Copies, Members}
 use Rattle.sk_places.proofs.Lists.{first_gone, last_gone, get_part, none_before, parted, place_yes, place_no}
-use Rattle.sk_places.proofs.Gone.{get_there}
+use Rattle.sk_places.proofs.Gone.{get_there, same_row}
 use Rattle.sk_places.proofs.Segments.{any_less, any_more, take_more}
 
 module _ {X : Type 0} where
@@ -54,6 +59,18 @@ module _ {X : Type 0} where
   three_parts (x ∷ xs) zero (suc end) h = ap (λ l. x ∷ l) (three_parts xs zero end (omega arith))
   three_parts (x ∷ xs) (suc first) (suc end) h = ap (λ l. x ∷ l) (three_parts xs first end (omega (arith, h)))
 
+pub take_all : {X : Type 0} (n : ℕ) (xs : List X) → n ≡ length xs → take n xs ≡ xs
+take_all zero [] h = refl
+take_all zero (x ∷ xs) h = absurd (omega (arith, h))
+take_all (suc n) [] h = refl
+take_all (suc n) (x ∷ xs) h = ap (λ l. x ∷ l) (take_all n xs (omega (arith, h)))
+
+pub drop_all : {X : Type 0} (n : ℕ) (xs : List X) → n ≡ length xs → drop n xs ≡ []
+drop_all zero [] h = refl
+drop_all zero (x ∷ xs) h = absurd (omega (arith, h))
+drop_all (suc n) [] h = refl
+drop_all (suc n) (x ∷ xs) h = drop_all n xs (omega (arith, h))
+
 module _ (t : Row → Bool) where
   passes_at : (xs : List Row) (x : Row) → slice_get xs (position_or_len t xs) ≡ Some x → t x ≡ true
   passes_at [] x h = cc h
@@ -86,8 +103,21 @@ module _ (t : Row → Bool) where
   lasts_more zero xs = refl
   lasts_more (suc n) xs = lasts_more n (without_last t xs)
 
+  -- a row that passes, with none before it, is the first of those that do
+  first_passes : (rows : List Row) (at : ℕ) (row : Row) → slice_get rows at ≡ Some row → list_any t (take at rows) ≡ false → t row ≡ true → filter t rows ≡ row ∷ filter t (remove rows at)
+  first_passes [] at row is none h = cc is
+  first_passes (x ∷ rows) zero row is none h = let e : x ≡ row = cc is in let s : t x ≡ true = subst (λ z. t z ≡ true) (sym e) h in let f : filter t (x ∷ rows) ≡ x ∷ filter t rows = grind (arith, s) in f ∙ ap (λ z. z ∷ filter t rows) e
+  first_passes (x ∷ rows) (suc at) row is none h =
+      let e : t x ≡ false = grind (arith, none) in
+      let f : filter t (x ∷ rows) ≡ filter t rows = grind (arith, e) in
+      let g : filter t (x ∷ remove rows at) ≡ filter t (remove rows at) = grind (arith, e) in
+      f ∙ first_passes rows at row is (grind (arith, none)) h ∙ sym (ap (λ l. row ∷ l) g)
+
   -- a row that passes is taken out, with none before it
   pub record Step (rows : List Row) (at end : ℕ) : Type 0 where
+    pub row : Row
+    pub there : slice_get rows at ≡ Some row
+    pub passing : filter t rows ≡ row ∷ filter t (remove rows at)
     pub first : without_first t rows ≡ remove rows at
     pub fewer : length (filter t (remove rows at)) + 1 ≡ length (filter t rows)
     pub front : list_any t (take at (remove rows at)) ≡ false
@@ -108,6 +138,9 @@ module _ (t : Row → Bool) where
       let none = before rows from end at h front is (omega (arith, less)) in
       let last : suc (end - 1) ≡ end = omega (arith, less) in
       record {
+        row = x;
+        there = there.1;
+        passing = first_passes rows at x there.1 none passes;
         first = ap (without_first t) (parted rows at x there.1) ∙ first_gone t (take at rows) x (drop (suc at) rows) none passes;
         fewer = fewer rows at x there.1 passes;
         front = ap (list_any t) (take_removed rows at) ∙ none;
@@ -175,20 +208,63 @@ front_none place wanted rows first end s = any_less (picks place wanted) (is_at 
 pub back_none : (place : Place) (wanted : Wanted) (rows : List Row) (first end : ℕ) → IsSegment place first end rows → list_any (picks place wanted) (drop end rows) ≡ false
 back_none place wanted rows first end s = any_less (picks place wanted) (is_at place) (picks_at place wanted) (drop end rows) s.back
 
+-- ## The jobs of rows that go
+
+-- Where so many jobs are over, and that of the next row ends. `all` are the rows that go in the end.
+pub one_more : (how : Ending) (all left : List Row) (row : Row) (found : Option Row) (k n : ℕ) (then now : Lived) → found ≡ Some row → ((m : ℕ) → all_ended how (texts_of (take (k + m) all)) then ≡ all_ended how (texts_of (take m (row ∷ left))) now) → all_ended how (texts_of (take (k + 1 + n) all)) then ≡ all_ended how (texts_of (take n left)) (ended_of how found now)
+one_more how all left row found k n then now is so_far =
+    let e : k + 1 + n ≡ k + suc n = omega arith in
+    ap (λ j. all_ended how (texts_of (take j all)) then) e ∙ so_far (suc n) ∙ sym (ap (λ o. all_ended how (texts_of (take n left)) (ended_of how o now)) is)
+
+-- where no further row goes
+pub over_now : (how : Ending) (all left : List Row) (k : ℕ) (s old : Steps Lived) → s.stood ≡ None → old.stood ≡ None → ((m : ℕ) → all_ended how (texts_of (take (k + m) all)) old.stands ≡ all_ended how (texts_of (take m left)) s.stands) → s ≡ edited (all_ended how (texts_of (take k all)) old.stands) old
+over_now how all left k s old closed was_closed so_far =
+    let e : k + 0 ≡ k = omega arith in
+    ap₂ {C = Steps Lived} (λ l o. record { stands = l; stood = o }) (sym (so_far 0) ∙ ap (λ n. all_ended how (texts_of (take n all)) old.stands) e) (closed ∙ sym was_closed)
+
+-- the last of so many equal texts
+pub one_copy_more : (how : Ending) (n : ℕ) (text : Bytes) (l : Lived) → all_ended how (replicate (suc n) text) l ≡ ended how text (all_ended how (replicate n text) l)
+one_copy_more how zero text l = refl
+one_copy_more how (suc n) text l = one_copy_more how n text (ended how text l)
+
 -- ## Copies
 
-pub copies_left : (n : ℕ) (row : Row) (p : Placed) → without_copies n Left row p ≡ record p { rows = without_firsts n (is_same row) p.rows }
-copies_left zero row p = refl
-copies_left (suc n) row p = copies_left n row (without_row Left row p)
+pub copies_left : (how : Ending) (n : ℕ) (row : Row) (p : Placed) → ended_copies how n Left row p ≡ placed (without_firsts n (is_same row) p.rows) p.names (all_ended how (replicate n row.text) p.lives)
+copies_left how zero row p = refl
+copies_left how (suc n) row p = copies_left how n row (ended_row how Left row p)
 
-pub copies_right : (n : ℕ) (row : Row) (p : Placed) → without_copies n Right row p ≡ record p { rows = without_lasts n (is_same row) p.rows }
-copies_right zero row p = refl
-copies_right (suc n) row p = copies_right n row (without_row Right row p)
+pub copies_right : (how : Ending) (n : ℕ) (row : Row) (p : Placed) → ended_copies how n Right row p ≡ placed (without_lasts n (is_same row) p.rows) p.names (all_ended how (replicate n row.text) p.lives)
+copies_right how zero row p = refl
+copies_right how (suc n) row p = copies_right how n row (ended_row how Right row p)
 
-pub copies_end : (n : ℕ) (end : Side) (row : Row) (p : Placed) → without_copies n end row p ≡ record p { rows = without_end n end (is_same row) p.rows }
-copies_end n Left row p = copies_left n row p
-copies_end n Right row p = copies_right n row p
+pub copies_end : (how : Ending) (n : ℕ) (end : Side) (row : Row) (p : Placed) → ended_copies how n end row p ≡ placed (without_end n end (is_same row) p.rows) p.names (all_ended how (replicate n row.text) p.lives)
+copies_end how n Left row p = copies_left how n row p
+copies_end how n Right row p = copies_right how n row p
+
+-- rows that are the same have one text
+pub copy_text : (row other : Row) → is_same row other ≡ true → other.text ≡ row.text
+copy_text row other h = ap (λ r. r.text) (sym (same_row row other h))
+
+pub copies_texts : (row : Row) (n : ℕ) (rows : List Row) → n ≤ length (filter (is_same row) rows) → texts_of (take n (filter (is_same row) rows)) ≡ replicate n row.text
+copies_texts row zero rows h = refl
+copies_texts row (suc n) [] h = absurd (omega (arith, h))
+copies_texts row (suc n) (x ∷ rows) h = cases (is_same row x) refl (copies_texts row n rows) (copies_texts row (suc n) rows)
+  where
+    cases : (b : Bool) → is_same row x ≡ b → (n ≤ length (filter (is_same row) rows) → texts_of (take n (filter (is_same row) rows)) ≡ replicate n row.text) → (suc n ≤ length (filter (is_same row) rows) → texts_of (take (suc n) (filter (is_same row) rows)) ≡ replicate (suc n) row.text) → texts_of (take (suc n) (filter (is_same row) (x ∷ rows))) ≡ replicate (suc n) row.text
+    cases true e less same =
+        let f : filter (is_same row) (x ∷ rows) ≡ x ∷ filter (is_same row) rows = grind (arith, e) in
+        let l = ap length f in
+        ap (λ xs. texts_of (take (suc n) xs)) f ∙ ap₂ (λ text texts. text ∷ texts) (copy_text row x e) (less (omega (arith, h, l)))
+    cases false e less same =
+        let f : filter (is_same row) (x ∷ rows) ≡ filter (is_same row) rows = grind (arith, e) in
+        let l = ap length f in
+        ap (λ xs. texts_of (take (suc n) xs)) f ∙ same (omega (arith, h, l))
 
 -- so many at most as there are rows
 pub at_most_all : (t : Row → Bool) (rows : List Row) (most : ℕ) → length rows ≤ most → min most (length (filter t rows)) ≡ length (filter t rows)
 at_most_all t rows most h = let c = length-filter t rows in let l = count_by-le-length t rows in omega (arith, c, l, h)
+
+-- where none passes none is the first
+pub none_taken : (t : Row → Bool) (rows : List Row) → length (filter t rows) ≡ 0 → without_first t rows ≡ rows
+none_taken t [] none = refl
+none_taken t (row ∷ rows) none = grind (arith, none, none_taken t rows)

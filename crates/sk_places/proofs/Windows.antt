@@ -11,12 +11,15 @@ use Rattle.sk_zset.proofs.Splits.{count_before, split}
 use Rattle.sk_places.specs.declared.row.Place.{Place}
 use Rattle.sk_places.specs.declared.row.Place.TheVariants.{Set}
 use Rattle.sk_places.specs.declared.row.Row.{Row}
+use Rattle.sk_lives.specs.Lives.{all_ended}
+use Rattle.sk_lives.specs.declared.ending.Ending.{Ending}
+use Rattle.sk_places.specs.Ends.{texts_of}
 use Rattle.sk_places.specs.Order.{is_ordered}
-use Rattle.sk_places.specs.Placed.{Placed, without_rows}
+use Rattle.sk_places.specs.Placed.{Placed, ended_rows, placed}
 use Rattle.sk_places.specs.Rows.{is_at, rows_at}
 use Rattle.sk_places.specs.Scores.{HasRange}
 use Rattle.sk_places.specs.Segments.{IsPart, IsSegment}
-use Rattle.sk_places.proofs.Gone.{part_gone, without_each}
+use Rattle.sk_places.proofs.Gone.{ended_each, part_gone}
 use Rattle.sk_places.proofs.Lists.{position_within}
 use Rattle.sk_places.proofs.Rising.{all_at, rises_above_of, rises_reached_by}
 use Rattle.sk_places.proofs.Segments.{length_at, part_range}
@@ -116,28 +119,31 @@ all_drop t xs zero h = h
 all_drop t [] (suc n) h = refl
 all_drop t (x ∷ xs) (suc n) h = all_drop t xs n (grind (arith, h))
 
-pub part_without : (set : Scored) (p : Placed) (first end start stop from to : ℕ) → is_ordered p.rows ≡ true → IsSegment (Set set) first end p.rows → from ≡ first + min start (end - first) → to ≡ first + min stop (end - first) → from ≤ to → without_rows (drop start (take stop (rows_at (Set set) p.rows))) p ≡ record p { rows = take from p.rows ++ drop to p.rows }
-part_without set p first end start stop from to h s f t le =
+pub part_ended : (how : Ending) (set : Scored) (p : Placed) (first end start stop from to : ℕ) → is_ordered p.rows ≡ true → IsSegment (Set set) first end p.rows → from ≡ first + min start (end - first) → to ≡ first + min stop (end - first) → from ≤ to → ended_rows how (drop start (take stop (rows_at (Set set) p.rows))) p ≡ placed (take from p.rows ++ drop to p.rows) p.names (all_ended how (texts_of (drop from (take to p.rows))) p.lives)
+part_ended how set p first end start stop from to h s f t le =
     let part = window (Set set) p.rows first end start stop from to s f t in
     let n : ℕ = to - from in
     let e : from + n ≡ to = omega (arith, le) in
     let range = part_range p.rows from to le in
     let at : all_pass (is_at (Set set)) (take n (drop from p.rows)) ≡ true = subst (λ l. all_pass (is_at (Set set)) l ≡ true) (sym (range ∙ part)) (all_drop (is_at (Set set)) (take stop (rows_at (Set set) p.rows)) start (all_take (is_at (Set set)) (rows_at (Set set) p.rows) stop (all_at (Set set) p.rows))) in
     let gone = part_gone set p.rows from n h (omega (arith, e, t, s.within, s.order)) at in
-    ap (λ l. without_rows l p) (sym part ∙ sym range) ∙ without_each (take n (drop from p.rows)) p ∙ ap (λ l. record p { rows = l }) (gone ∙ ap (λ k. take from p.rows ++ drop k p.rows) e)
+    ap (λ l. ended_rows how l p) (sym part ∙ sym range) ∙ ended_each how (take n (drop from p.rows)) p ∙ ap₂ (λ l texts. placed l p.names (all_ended how texts p.lives)) (gone ∙ ap (λ k. take from p.rows ++ drop k p.rows) e) (ap texts_of range)
 
 -- where the part may be empty
-pub range_without : (set : Scored) (p : Placed) (start stop from to last : ℕ) → is_ordered p.rows ≡ true → IsPart (Set set) start stop from to p.rows → last ≡ max to from → without_rows (drop start (take stop (rows_at (Set set) p.rows))) p ≡ record p { rows = take from p.rows ++ drop last p.rows }
-range_without set p start stop from to last h s is = cases (nat_lt to from) refl
+pub range_ended : (how : Ending) (set : Scored) (p : Placed) (start stop from to last : ℕ) → is_ordered p.rows ≡ true → IsPart (Set set) start stop from to p.rows → last ≡ max to from → ended_rows how (drop start (take stop (rows_at (Set set) p.rows))) p ≡ placed (take from p.rows ++ drop last p.rows) p.names (all_ended how (texts_of (drop from (take last p.rows))) p.lives)
+range_ended how set p start stop from to last h s is = cases (nat_lt to from) refl
   where
-    cases : (b : Bool) → nat_lt to from ≡ b → without_rows (drop start (take stop (rows_at (Set set) p.rows))) p ≡ record p { rows = take from p.rows ++ drop last p.rows }
+    cases : (b : Bool) → nat_lt to from ≡ b → ended_rows how (drop start (take stop (rows_at (Set set) p.rows))) p ≡ placed (take from p.rows ++ drop last p.rows) p.names (all_ended how (texts_of (drop from (take last p.rows))) p.lives)
     cases false e =
         let le : from ≤ to = grind (arith, nat_tests, e) in
         let same : to ≡ last = omega (arith, le, is) in
-        part_without set p s.first s.end start stop from to h s.segment s.begins s.ends le ∙ ap (λ k. record p { rows = take from p.rows ++ drop k p.rows }) same
+        part_ended how set p s.first s.end start stop from to h s.segment s.begins s.ends le ∙ ap (λ k. placed (take from p.rows ++ drop k p.rows) p.names (all_ended how (texts_of (drop from (take k p.rows))) p.lives)) same
     cases true e =
         let less : to < from = grind (arith, nat_tests, e) in
         let same : from ≡ last = omega (arith, less, is) in
         let part = window (Set set) p.rows s.first s.end start stop from to s.segment s.begins s.ends in
+        let none = empty_range p.rows from to (omega (arith, less)) in
         let all = take-append-drop from p.rows in
-        ap (λ l. without_rows l p) (sym part ∙ empty_range p.rows from to (omega (arith, less))) ∙ ap (λ l. record p { rows = l }) (sym all ∙ ap (λ k. take from p.rows ++ drop k p.rows) same)
+        let rest : p.rows ≡ take from p.rows ++ drop last p.rows = sym all ∙ ap (λ k. take from p.rows ++ drop k p.rows) same in
+        let nothing : [] ≡ drop from (take last p.rows) = sym (empty_range p.rows from last (omega (arith, same))) in
+        ap (λ l. ended_rows how l p) (sym part ∙ none) ∙ ap₂ (λ l gone. placed l p.names (all_ended how (texts_of gone) p.lives)) rest nothing

@@ -1,4 +1,6 @@
+pub mod Ends
 pub mod Entries
+pub mod Index
 pub mod Names
 pub mod Order
 pub mod Placed

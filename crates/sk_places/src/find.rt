@@ -1,17 +1,20 @@
-// Where the row at an end of a place stands, and the first of a text there.
-ghost use Rattle.std.specs.Prelude.{◌≡◌, MatchOption, None, drop, take, true};
+// Where the row at an end of a place stands and where the first of a text, how many rows there are of a kind, and whether a push is fresh.
+ghost use Rattle.std.specs.Prelude.{◌≡◌, ◌≤◌, IfSome, MatchOption, None, drop, take, true};
 ghost use Rattle.std.specs.List.{count_by};
+ghost use Rattle.sk_track.specs.Balance.{most};
 ghost use Rattle.sk_cmd.specs.declared.argument.Side.TheVariants.{Left};
 ghost use Rattle.sk_zset.specs.Bounds.{is_below};
+ghost use Rattle.sk_lives.specs.Lives.{jid_of};
 ghost use Rattle.sk_places.specs.declared.row.Place.TheVariants.{Set};
 ghost use Rattle.sk_places.specs.Order.{is_ordered};
-ghost use Rattle.sk_places.specs.Rows.{row_at_end, row_of, rows_at};
+ghost use Rattle.sk_places.specs.Rows.{is_fresh, is_private, row_at_end, row_of, rows_at};
 ghost use Rattle.sk_places.specs.Scores.{HasRange};
 ghost use Rattle.sk_places.specs.Segments.{IsPart, StandsAt};
 
 use crate::{Place, Rows};
 use sk_base::Bound;
 use sk_cmd::{Scored, Side};
+use sk_payload::Payload;
 
 /// The index of the row at an end of a place. Logarithmic.
 pub fn find_end(rows: &Rows, place: &Place, side: Side) -> Option<usize>
@@ -45,6 +48,25 @@ pub fn part_of(rows: &Rows, place: &Place, start: usize, end: usize) -> (usize, 
     let (first, last) = rows.segment(place);
     let len = last - first;
     (first + start.min(len), first + end.min(len))
+}
+
+/// How many rows are in private lists. They stand together, behind those of queues and before those of sets.
+pub fn count_private(rows: &Rows) -> usize
+    ensures is { result ≡ count_by is_private rows.now.stands }
+    ensures small { result ≤ most }
+{
+    let _count = rows.len(); // for what it says of all rows' number
+    rows.first_set() - rows.first_past(None)
+}
+
+/// Whether a push of the payload's job is fresh: no row names it, and it isn't held in a worker's hands. True where it names none.
+pub fn is_fresh(rows: &Rows, payload: &Payload, held: bool) -> bool
+    ensures { IfSome (jid_of payload.now) (λ jid. result ≡ is_fresh held rows.now.stands jid) }
+{
+    match payload.head() {
+        Some(head) => rows.count_of(head.jid.text().as_bytes()) == 0 && !held,
+        None => true,
+    }
 }
 
 /// How many rows of a set are below a range of scores that begins at the bound.

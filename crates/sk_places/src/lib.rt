@@ -3,6 +3,7 @@
 
 mod copies;
 mod find;
+mod index;
 mod names;
 mod places;
 mod removals;

@@ -1,5 +1,5 @@
 // The rows of all places in one tracked list, in the order of places. A place's rows stand together, so where they begin and end is found by
-// halving. The number of bytes of all texts is kept beside the list.
+// halving. Beside the list are the number of bytes of all texts, and the index of the rows by their jobs.
 ghost use Rattle.std.specs.Prelude.{◌≡◌, ◌+◌, ◌^◌, ◌<◌, ◌≤◌, not, true, None, Some, [], IfOk, IsSome, OnErr, OnOk, drop, length, map, option_map, slice_get, take};
 ghost use Rattle.std.specs.List.{position_or_len, remove};
 ghost use Rattle.std.specs.Ordering.{is_le, is_lt};
@@ -9,18 +9,24 @@ ghost use Rattle.sk_track.specs.Moves.{moved};
 ghost use Rattle.sk_track.specs.Rises.{rises};
 ghost use Rattle.sk_track.specs.Steps.{begun, closed, committed, edited, undone};
 ghost use Rattle.sk_zset.specs.Bounds.{is_above, is_below};
-ghost use Rattle.sk_places.specs.Entries.{as_row, as_rows, shifted};
+ghost use Rattle.sk_lives.specs.Lives.{pushed};
+ghost use Rattle.sk_places.specs.Ends.{ended_of};
+ghost use Rattle.sk_cmd.specs.declared.argument.Scored.TheVariants.{Schedule};
+ghost use Rattle.sk_places.specs.declared.row.Place.TheVariants.{Set};
+ghost use Rattle.sk_places.specs.Entries.{as_row, as_rows, rows_in, shifted};
 ghost use Rattle.sk_places.specs.Order.{AreKept, bytes_of, is_beyond, is_ordered};
-ghost use Rattle.sk_places.specs.Rows.{pair_of, place_cmp, put_row, stands_before};
+ghost use Rattle.sk_places.specs.Rows.{pair_of, place_cmp, put_row, rows_of, stands_before};
 ghost use Rattle.sk_places.specs.Segments.{IsSegment, is_text};
 ghost use Rattle.sk_places.specs.Wanted.{picks};
 
 use crate::copies::{Pairs, Texts};
+use crate::index::{add_job, drop_job, job_of, take_job};
 use crate::row::{Place, Spot};
 use crate::search::{AboveOf, Behind, Beyond, Named, Passed, Reached, ReachedBy};
 use crate::wanted::{Picked, Wanted};
 use sk_base::{Bound, Score};
-use sk_cmd::Side;
+use sk_cmd::{Scored, Side};
+use sk_lives::{Bag, Ending, Lives, Origin};
 use sk_payload::Payload;
 use sk_resp::{Memory, Word};
 use sk_track::Tracked;
@@ -31,10 +37,12 @@ use std::marker::Model;
 /// and what stood at the begin of an open step.
 #[derive(Drop)]
 pub struct Rows {
+    alloc: Global,
     entries: Tracked<Spot, Payload>,
     bytes: u128,
     // At the begin of an open step.
     bytes_then: u128,
+    index: Bag,
 }
 
 impl Model for Rows {
@@ -44,13 +52,12 @@ impl Model for Rows {
 
     ghost Value = { Steps (List Row) };
 
-    ghost use Rattle.std.specs.Prelude.{option_map};
-    ghost use Rattle.sk_places.specs.Entries.{as_rows, rows_in};
-    ghost use Rattle.sk_places.specs.Order.{AreKept, WereKept};
+    ghost use Rattle.sk_places.specs.Entries.{rows_in};
+    ghost use Rattle.sk_places.specs.Index.{AreSound};
 
     ghost view = { λ r. rows_in r.entries.list };
 
-    ghost invariant = { λ r. AreKept (as_rows r.entries.list.stands) r.bytes × WereKept (option_map as_rows r.entries.list.stood) r.bytes_then };
+    ghost invariant = { λ r. AreSound (rows_in r.entries.list) r.bytes r.bytes_then r.index.list };
 }
 
 // Where a new row comes to.
@@ -61,6 +68,16 @@ fn place_for(rows: &Tracked<Spot, Payload>, end: Side, spot: &Spot, text: &Word)
     ensures within { result ≤ length rows.now.list.stands }
 {
     rows.first_where(&Behind { end, spot, text })
+}
+
+// Puts a new row in.
+fn put_in(rows: &mut Tracked<Spot, Payload>, spot: Spot, payload: Payload, end: Side)
+    requires ordered { is_ordered (as_rows rows.old.list.stands) ≡ true }
+    requires room { 0 < rows.old.room }
+    ensures { rows_in rows.new.list ≡ edited (put_row end (as_row (spot, payload)) (as_rows rows.old.list.stands)) (rows_in rows.old.list) }
+{
+    let at = place_for(rows, end, &spot, payload.text());
+    rows.insert(at, (spot, payload));
 }
 
 #[tactic(auto, using(crate::proofs::Entries::position_map))]
@@ -115,9 +132,11 @@ impl Rows {
         ensures { result ≡ closed [] }
     {
         Rows {
+            alloc,
             entries: Tracked::new(alloc),
             bytes: 0,
             bytes_then: 0,
+            index: Bag::new(alloc),
         }
     }
 
@@ -140,6 +159,14 @@ impl Rows {
         ensures { result ≡ bytes_of self.now.stands }
     {
         self.bytes
+    }
+
+    /// How many rows name the job. Logarithmic.
+    pub fn count_of(&self, jid: &[u8]) -> usize
+        ensures is { result ≡ rows_of jid.now self.now.stands }
+        ensures small { result ≤ most }
+    {
+        self.index.count(jid)
     }
 
     /// The row at an index. Logarithmic.
@@ -239,24 +266,50 @@ impl Rows {
         self.entries.first_where(&Beyond { after })
     }
 
-    /// Takes all rows out. Takes no memory.
-    pub fn clear(&mut self)
-        requires { self.old.stood ≡ None }
-        ensures { self.new ≡ edited [] self.old }
+    /// The index of the first row of a set. Logarithmic.
+    pub fn first_set(&self) -> usize
+        ensures is { result ≡ position_or_len (λ row. is_le (place_cmp (Set Schedule) row.place)) self.now.stands }
+        ensures order { is_ordered self.now.stands ≡ true }
     {
-        self.bytes = 0;
-        self.entries.clear();
+        begin_of(&self.entries, &Place::Set(Scored::Schedule))
     }
 
-    /// Adds a row at an end of its place.
-    pub fn push(&mut self, spot: Spot, payload: Payload, end: Side) -> Result<(), Memory>
+    /// A row is pushed to an end of its place, and that counts in `lives`: its job is fresh, or isn't.
+    pub fn push(
+        &mut self,
+        spot: Spot,
+        payload: Payload,
+        end: Side,
+        lives: &mut Lives,
+        from: Origin,
+        fresh: bool,
+    ) -> Result<(), Memory>
+        ensures ok { OnOk result (self.new ≡ edited (put_row end (as_row (spot, payload)) self.old.stands) self.old) }
+        ensures lives { OnOk result (lives.new ≡ edited (pushed from (λ jid. fresh) payload lives.old.stands) lives.old) }
+        ensures err { OnErr result (self.new ≡ self.old) }
+        ensures lives_err { OnErr result (lives.new ≡ lives.old) }
+    {
+        let job = job_of(self.alloc, &payload)?;
+        self.entries.reserve(1)?;
+        self.index.reserve()?;
+        lives.push(&payload, from, fresh)?;
+        self.bytes = raised(&self.entries, self.bytes, payload.text());
+        put_in(&mut self.entries, spot, payload, end);
+        add_job(&mut self.index, job);
+        Ok(())
+    }
+
+    /// A row comes to an end of its place.
+    pub fn put_back(&mut self, spot: Spot, payload: Payload, end: Side) -> Result<(), Memory>
         ensures ok { OnOk result (self.new ≡ edited (put_row end (as_row (spot, payload)) self.old.stands) self.old) }
         ensures err { OnErr result (self.new ≡ self.old) }
     {
+        let job = job_of(self.alloc, &payload)?;
         self.entries.reserve(1)?;
-        let at = place_for(&self.entries, end, &spot, payload.text());
+        self.index.reserve()?;
         self.bytes = raised(&self.entries, self.bytes, payload.text());
-        self.entries.insert(at, (spot, payload));
+        put_in(&mut self.entries, spot, payload, end);
+        add_job(&mut self.index, job);
         Ok(())
     }
 
@@ -279,19 +332,41 @@ impl Rows {
         ensures err { OnErr result (self.new ≡ self.old) }
     {
         self.entries.reserve(1)?;
+        self.index.reserve()?;
+        drop_job(&mut self.index, &self.entries.get(at).1);
         self.bytes = lowered(&self.entries, self.bytes, at);
         self.entries.drop_out(at);
         Ok(())
     }
 
-    /// Takes the row at an index out. Takes no memory.
-    pub fn take(&mut self, at: usize)
+    /// The same, and in `lives` the row's job ends in this way.
+    pub fn drop_ended(&mut self, at: usize, lives: &mut Lives, how: Ending) -> Result<(), Memory>
+        requires { at < length self.old.stands }
+        ensures ok { OnOk result (self.new ≡ edited (remove self.old.stands at) self.old) }
+        ensures lives { OnOk result (lives.new ≡ edited (ended_of how (slice_get self.old.stands at) lives.old.stands) lives.old) }
+        ensures err { OnErr result (self.new ≡ self.old) }
+        ensures lives_err { OnErr result (lives.new ≡ lives.old) }
+    {
+        self.entries.reserve(1)?;
+        self.index.reserve()?;
+        lives.end_in_step(&self.entries.get(at).1, how)?;
+        drop_job(&mut self.index, &self.entries.get(at).1);
+        self.bytes = lowered(&self.entries, self.bytes, at);
+        self.entries.drop_out(at);
+        Ok(())
+    }
+
+    /// Takes the row at an index out and gives it to the caller. Takes no memory.
+    pub fn take(&mut self, at: usize) -> (Spot, Payload)
         requires within { at < length self.old.stands }
         requires closed { self.old.stood ≡ None }
-        ensures { self.new ≡ edited (remove self.old.stands at) self.old }
+        ensures row { slice_get self.old.stands at ≡ Some (as_row result) }
+        ensures rest { self.new ≡ edited (remove self.old.stands at) self.old }
     {
         self.bytes = lowered(&self.entries, self.bytes, at);
-        let _row = self.entries.take(at);
+        let row = self.entries.take(at);
+        take_job(&mut self.index, &row.1);
+        row
     }
 
     /// Opens a step. Takes no memory.
@@ -301,6 +376,7 @@ impl Rows {
     {
         self.bytes_then = self.bytes;
         self.entries.begin();
+        self.index.begin();
     }
 
     /// Closes the step, and what stood at its begin stands again. Takes no memory.
@@ -310,6 +386,7 @@ impl Rows {
     {
         self.bytes = self.bytes_then;
         self.entries.undo();
+        self.index.undo();
     }
 
     /// Closes the step, and what stands now stays. Takes no memory.
@@ -318,5 +395,6 @@ impl Rows {
         ensures { self.new ≡ committed self.old }
     {
         self.entries.commit();
+        self.index.commit();
     }
 }

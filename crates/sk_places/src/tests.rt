@@ -4,6 +4,7 @@ ghost use Rattle.std.specs.Prelude.{◌≡◌, IfOk, None};
 use super::*;
 use sk_base::{Bound, Score};
 use sk_cmd::{Scored, Side};
+use sk_lives::{Ending, Origin};
 use sk_payload::Payload;
 use sk_resp::{Word, Words};
 use std::alloc::Global;
@@ -33,7 +34,15 @@ fn push(
     ensures { places.new.stood ≡ places.old.stood }
 {
     let payload = Payload::of(alloc, word(alloc, text)?)?;
-    places.push(place(alloc, to)?, Score::of_moment(score), end, payload)
+    let score = Score::of_moment(score);
+    places.push(
+        place(alloc, to)?,
+        score,
+        end,
+        payload,
+        Origin::Outside,
+        false,
+    )
 }
 
 // The texts of two queues, a private list and the schedule, each with a blank behind it and each place with a `/`.
@@ -221,24 +230,39 @@ fn rows_are_looked_up(rt: HostRuntime) -> Result<(), Fail> {
     Ok(())
 }
 
+fn remove_copies(places: &mut Places, queue: &Place, count: i64, text: &Word) -> usize
+    requires { places.old.stood ≡ None }
+    ensures { places.new.stood ≡ None }
+{
+    places.remove_texts(queue, count, text)
+}
+
 #[test]
 fn copies_are_taken_from_an_end(rt: HostRuntime) -> Result<(), Fail> {
     let alloc = rt.alloc();
     let queue = place(alloc, "qa")?;
     let mut places = queue_of_five(alloc)?;
     let x = word(alloc, "x")?;
-    assert_eq!(rt; places.remove_texts(&queue, -1, &x), 1);
+    assert_eq!(rt; remove_copies(&mut places, &queue, -1, &x), 1);
     assert_eq!(rt;
         shown(alloc, &places)?.as_slice(),
         b"x y x z //v //".as_slice()
     );
-    assert_eq!(rt; places.remove_texts(&queue, 1, &x), 1);
+    assert_eq!(rt; remove_copies(&mut places, &queue, 1, &x), 1);
     assert_eq!(rt;
         shown(alloc, &places)?.as_slice(),
         b"y x z //v //".as_slice()
     );
-    assert!(rt; places.take_text(&queue, b"y"));
-    assert_eq!(rt; places.remove_all(&queue), 2);
+    Ok(())
+}
+
+#[test]
+fn rows_are_taken_from_a_queue(rt: HostRuntime) -> Result<(), Fail> {
+    let alloc = rt.alloc();
+    let queue = place(alloc, "qa")?;
+    let mut places = queue_of_five(alloc)?;
+    places.take_copy(&queue, &word(alloc, "y")?);
+    assert_eq!(rt; places.remove_all(&queue), 4);
     Ok(())
 }
 
@@ -246,11 +270,46 @@ fn copies_are_taken_from_an_end(rt: HostRuntime) -> Result<(), Fail> {
 fn all_is_taken_out(rt: HostRuntime) -> Result<(), Fail> {
     let alloc = rt.alloc();
     let mut places = queue_of_five(alloc)?;
-    assert!(rt; places.drop_end(&place(alloc, "qa")?, Side::Right)?);
+    assert!(rt; places.trim_end(&place(alloc, "qa")?, Side::Right)?);
     assert!(rt; places.unname_queue(&word(alloc, "a")?));
     assert!(rt; places.name_at(0).is_none());
     places.clear();
     assert!(rt; !places.is_open());
     assert_eq!(rt; places.row_count(), 0);
+    Ok(())
+}
+
+// The text of the job j.
+const JOB: &str = "{\"jid\":\"j\",\"class\":\"C\",\"queue\":\"a\",\"args\":[]}";
+
+fn job(alloc: Global) -> Result<Payload, Memory> {
+    Payload::of(alloc, word(alloc, JOB)?)
+}
+
+#[test]
+fn a_job_lives_until_its_row_is_trimmed(rt: HostRuntime) -> Result<(), Fail> {
+    let alloc = rt.alloc();
+    let mut places = Places::new(alloc);
+    push(alloc, &mut places, "qa", 0, Side::Left, JOB)?;
+    push(alloc, &mut places, "qa", 0, Side::Left, "bare")?;
+    assert_eq!(rt; (places.count_of(b"j"), places.live_count()), (1, 1));
+    assert!(rt; places.trim_end(&place(alloc, "qa")?, Side::Right)?);
+    assert_eq!(rt; (places.count_of(b"j"), places.live_count()), (0, 0));
+    let totals = places.totals();
+    assert_eq!(rt; (totals.outside, totals.bare, totals.trimmed), (2, 1, 1));
+    Ok(())
+}
+
+#[test]
+fn a_row_that_is_put_back_is_no_push(rt: HostRuntime) -> Result<(), Fail> {
+    let alloc = rt.alloc();
+    let mut places = Places::new(alloc);
+    let zero = Score::of_moment(0);
+    push(alloc, &mut places, "qa", 0, Side::Left, JOB)?;
+    places.put_back(place(alloc, "pw")?, zero, Side::Left, job(alloc)?)?;
+    assert_eq!(rt; (places.count_of(b"j"), places.private_count()), (2, 1));
+    places.end_job(&job(alloc)?, Ending::Returned);
+    assert_eq!(rt; (places.live_count(), places.push_count()), (0, 1));
+    assert_eq!(rt; places.totals().returned, 1);
     Ok(())
 }

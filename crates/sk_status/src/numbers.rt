@@ -27,7 +27,7 @@ pub struct Numbers {
     pub retries: u64,
     /// Dead jobs.
     pub dead: u64,
-    /// Batches that aren't settled.
+    /// Batches that were ever made.
     pub batches: u64,
     /// Live jobs.
     pub live: u64,

@@ -1,0 +1,109 @@
+-- What an action, a worker's command, a script and a step come to, from a world that is the same.
+use Rattle.std.proofs.Common.{◌≡◌, ℕ, ℤ, refl, sym, ap, subst, ◌∙◌, arith, pos, ◌&&◌, Bool, true, false}
+use Rattle.std.specs.Prelude.{Result, IfOk, cond}
+use Rattle.std.specs.Ordering.{int_cmp, is_eq}
+use Rattle.std.specs.Str.{bytes_eq}
+use Rattle.std.proofs.lemmas.Slice.Eq.{bytes_eq-Decides}
+use Rattle.sk_resp.specs.Spelling.{Bytes}
+use Rattle.sk_resp.specs.declared.reply.Reply.{Reply}
+use Rattle.sk_resp.specs.declared.say.Say.TheVariants as say
+use Rattle.sk_cmd.specs.declared.command.Command.{Command}
+use Rattle.sk_cmd.specs.declared.command.PlainCommand.{PlainCommand}
+use Rattle.sk_cmd.specs.declared.command.ScriptCommand.{ScriptCommand}
+use Rattle.sk_payload.specs.Member.{is_name}
+use Rattle.sk_value.specs.Action.{action_of}
+use Rattle.sk_value.specs.declared.action.Action.{Action}
+use Rattle.sk_value.specs.declared.action.Action.TheVariants as action
+use Rattle.sk_value.specs.declared.edit.Edit.TheVariants as edit
+use Rattle.sk_model.specs.declared.key_class.KeyClass.{KeyClass}
+use Rattle.sk_model.specs.declared.key_class.KeyClass.TheVariants as class
+use Rattle.sk_model.specs.declared.phase.Phase.{Phase}
+use Rattle.sk_model.specs.declared.phase.Phase.TheVariants.{Plain, Idle, Held, Put, Settled}
+use Rattle.sk_model.specs.Change.{Passes, passed, changed}
+use Rattle.sk_model.specs.Class.{class_of, ident_of, is_private, private_key}
+use Rattle.sk_model.specs.Life.{IsSound}
+use Rattle.sk_model.specs.Outcome.{Comes, Outcome, tells}
+use Rattle.sk_model.specs.Seats.{is_release, is_workers, releases, works_on}
+use Rattle.sk_model.specs.Step.{Steps, act, at_moment, by_seat, is_script_built, run, script_outcome}
+use Rattle.sk_model.specs.Workers.{work}
+use Rattle.sk_model.specs.World.{World, phase_of}
+use Rattle.sk_model.proofs.Commands.{step_sound}
+use Rattle.sk_keyspace.proofs.Coming.{if_ok}
+
+-- ## Every action
+
+-- what an action comes to from a world that is the same
+pub from_same : (v s after : World) (a b : Action) (reply : Reply) → v ≡ s → a ≡ b → Comes v (act v b) reply after → Comes s (act s a) reply after
+from_same v s after a b reply e f comes = subst (λ u. Comes u (act u a) reply after) e (subst (λ c. Comes v (act v c) reply after) (sym f) comes)
+
+-- the same, where something is known of every world
+pub from_every : (v s after : World) (a b : Action) (Q : World → Reply → Type 0) (E : Type 0) (r : Result Reply E) → v ≡ s → a ≡ b → ((reply : Reply) → Q v reply → Comes v (act v b) reply after)
+    → IfOk r (λ reply. (w : World) → Q w reply) → IfOk r (λ reply. Comes s (act s a) reply after)
+from_every v s after a b Q E r e f gives ok = if_ok (λ reply. (w : World) → Q w reply) (λ reply. Comes s (act s a) reply after) r (λ reply q. from_same v s after a b reply e f (gives reply (q v))) ok
+
+-- ## Every script
+
+pub run_same : (v s after : World) (seat : ℕ) (a b : ScriptCommand) (reply : Reply) → v ≡ s → a ≡ b → Comes v (run v seat (phase_of v seat) b) reply after → Comes s (run s seat (phase_of s seat) a) reply after
+run_same v s after seat a b reply e f comes = subst (λ u. Comes u (run u seat (phase_of u seat) a) reply after) e (subst (λ c. Comes v (run v seat (phase_of v seat) c) reply after) (sym f) comes)
+
+pub run_every : (v s after : World) (seat : ℕ) (a b : ScriptCommand) (Q : World → Reply → Type 0) (E : Type 0) (r : Result Reply E) → v ≡ s → a ≡ b → ((reply : Reply) → Q v reply → Comes v (run v seat (phase_of v seat) b) reply after)
+    → IfOk r (λ reply. (w : World) → Q w reply) → IfOk r (λ reply. Comes s (run s seat (phase_of s seat) a) reply after)
+run_every v s after seat a b Q E r e f gives ok = if_ok (λ reply. (w : World) → Q w reply) (λ reply. Comes s (run s seat (phase_of s seat) a) reply after) r (λ reply q. run_same v s after seat a b reply e f (gives reply (q v))) ok
+
+-- ## A worker's command on keys
+
+pub work_every : (v s after : World) (seat : ℕ) (a : Action) (Q : World → Reply → Type 0) (E : Type 0) (r : Result Reply E) → v ≡ s → ((reply : Reply) → Q v reply → Comes v (work v seat (phase_of v seat) a) reply after)
+    → IfOk r (λ reply. (w : World) → Q w reply) → IfOk r (λ reply. Comes s (work s seat (phase_of s seat) a) reply after)
+work_every v s after seat a Q E r e gives ok =
+    if_ok (λ reply. (w : World) → Q w reply) (λ reply. Comes s (work s seat (phase_of s seat) a) reply after) r (λ reply q. subst (λ u. Comes u (work u seat (phase_of u seat) a) reply after) e (gives reply (q v))) ok
+
+either_private : (b : Bool) → is_private (cond b class.Private class.NoPrivate) ≡ true
+either_private true = refl
+either_private false = refl
+
+listed : (ident : Bytes) → is_private (class_of (private_key ident)) ≡ true
+unfolding class_of
+listed ident = either_private (is_name 255 (ident_of (private_key ident)))
+
+takes : (k : KeyClass) (count : ℤ) (text : Bytes) → is_private k ≡ true → works_on k (edit.Lrem count text) ≡ true
+takes k count text e = grind (arith, e)
+
+-- a release is a worker's command
+no_release : (ident held : Bytes) (a : Action) → is_workers a ≡ false → is_release ident held a ≡ false
+no_release ident held (action.Edit key (edit.Lrem count text)) other = by_key (bytes_eq key (private_key ident)) refl where
+  by_key : (b : Bool) → bytes_eq key (private_key ident) ≡ b → b && (is_eq (int_cmp count (pos 1)) && bytes_eq text held) ≡ false
+  by_key true same =
+      let is : key ≡ private_key ident = (bytes_eq-Decides key (private_key ident)).0 same in
+      absurd (cc (takes (class_of key) count text (ap (λ k. is_private (class_of k)) is ∙ listed ident), other))
+  by_key false same = refl
+no_release ident held a other = grind (arith, other)
+
+pub releases_not : (phase : Phase) (a : Action) → is_workers a ≡ false → releases phase a ≡ false
+releases_not Plain a other = refl
+releases_not (Idle ident) a other = refl
+releases_not (Held ident held) a other = refl
+releases_not (Put ident held) a other = no_release ident held a other
+releases_not (Settled ident held end) a other = no_release ident held a other
+
+-- ## The step
+
+pub not_built_script : (w : World) (seat now : ℕ) (c : ScriptCommand) → is_script_built c ≡ false → tells say.NotBuilt ≡ script_outcome w seat now c
+not_built_script w seat now c e = ap (λ b. cond b (at_moment now (run (changed w (Passes now)) seat (phase_of w seat) c)) (tells say.NotBuilt)) (sym e)
+
+-- what comes about at the moment comes about where that is still to be handed in
+at_passed : (w new : World) (now : ℕ) (o : Outcome) (reply : Reply) → Comes (passed now w) o reply new → Comes w (at_moment now o) reply new
+at_passed w new now o reply k = record { reply_is = k.reply_is; new_is = k.new_is }
+
+pub script_comes : (w mid new : World) (seat now : ℕ) (c : ScriptCommand) (reply : Reply) → is_script_built c ≡ true → mid ≡ passed now w → Comes mid (run mid seat (phase_of mid seat) c) reply new → Comes w (script_outcome w seat now c) reply new
+script_comes w mid new seat now c reply e f comes =
+    subst (λ b. Comes w (cond b (at_moment now (run (changed w (Passes now)) seat (phase_of w seat) c)) (tells say.NotBuilt)) reply new) (sym e)
+    (at_passed w new now (run (passed now w) seat (phase_of w seat) c) reply (subst (λ m. Comes m (run m seat (phase_of m seat) c) reply new) f comes))
+
+pub plain_comes : (w mid new : World) (seat now : ℕ) (c : PlainCommand) (reply : Reply) → mid ≡ passed now w → Comes mid (by_seat mid seat (phase_of mid seat) c) reply new → Comes w (at_moment now (by_seat (passed now w) seat (phase_of w seat) c)) reply new
+plain_comes w mid new seat now c reply f comes = at_passed w new now (by_seat (passed now w) seat (phase_of w seat) c) reply (subst (λ m. Comes m (by_seat m seat (phase_of m seat) c) reply new) f comes)
+
+-- ## A sound world
+
+-- A step leaves a sound world sound.
+pub steps_sound : (w new : World) (seat now : ℕ) (c : Command) (reply : Reply) → (o : Outcome) × Steps w seat now c o × Comes w o reply new → IsSound w → IsSound new
+steps_sound w new seat now c reply (o, is, comes) s = subst IsSound (sym comes.new_is) (step_sound w seat now c o is s)

@@ -1,0 +1,42 @@
+-- The counters under `stat:`: jobs that ran, and runs that failed, in all and of each day.
+use Rattle.std.specs.Prelude.{ℕ, suc, ◌-◌, ◌^◌, ◌++◌, List, Option, min, codes, unwrap_or}
+use Rattle.std.specs.Map.{lookup}
+use Rattle.std.specs.BTreeMap.{is_at, insert_entry}
+use Rattle.sk_resp.specs.Spelling.{Bytes}
+use Rattle.sk_value.specs.Order.{text_cmp}
+use Rattle.sk_counters.specs.Date.{date_of, text_of}
+use Rattle.sk_counters.specs.declared.counters.Counted.{Counted}
+use Rattle.sk_counters.specs.declared.counters.Counted.TheVariants.{Processed, Failed}
+
+-- names behind `stat:`, in the order of their bytes, each with its count
+abbrev pub Counters : Type 0
+Counters = List (Bytes × ℕ)
+
+abbrev pub processed : Bytes
+processed = codes "processed"
+
+abbrev pub failed : Bytes
+failed = codes "failed"
+
+-- the name of what is counted
+abbrev pub name_of : Counted → Bytes
+name_of Processed = processed
+name_of Failed = failed
+
+-- a counter's name for a day
+abbrev pub of_day : Bytes → ℕ → Bytes
+of_day name moment = name ++ codes ":" ++ text_of (date_of moment)
+
+abbrev pub count_in : Counters → Bytes → Option ℕ
+count_in counters name = lookup (is_at (text_cmp name)) counters
+
+-- A counter stays at the last value of a signed number of 64 bits.
+abbrev pub last_count : ℕ
+last_count = 2 ^ 63 - 1
+
+abbrev pub raised : Bytes → Counters → Counters
+raised name counters = insert_entry text_cmp counters name (min last_count (suc (unwrap_or (count_in counters name) 0)))
+
+-- one more, in all and of the day
+abbrev pub counted_at : ℕ → Bytes → Counters → Counters
+counted_at moment name counters = raised (of_day name moment) (raised name counters)

@@ -1,0 +1,297 @@
+-- The changes by which a batch is told of a job.
+use Rattle.std.proofs.Common.{◌≡◌, ◌≤◌, List, [], ◌∷◌, refl, sym, ap, subst, ◌∙◌, arith, Bool, true, false, cond, not, ◌&&◌, ◌||◌}
+use Rattle.std.specs.Prelude.{Option, Some, None, filter}
+use Rattle.std.specs.List.{list_any}
+use Rattle.std.specs.Str.{bytes_eq}
+use Rattle.sk_resp.specs.Spelling.{Bytes}
+use Rattle.sk_cmd.specs.declared.argument.Side.TheVariants.{Left}
+use Rattle.sk_payload.specs.Head.{head}
+use Rattle.sk_payload.specs.declared.head.Head.{Head}
+use Rattle.sk_places.specs.declared.row.Place.TheVariants.{Queue}
+use Rattle.sk_places.specs.declared.row.Row.{Row}
+use Rattle.sk_places.specs.Rows.{row_at, stands_before}
+use Rattle.sk_batch.specs.Batched.{Batched, is_job, is_member, is_there}
+use Rattle.sk_batch.specs.Events.{fired, marked}
+use Rattle.sk_batch.specs.Fires.{complete_fires, completes, success_fires, succeeds, death_fires}
+use Rattle.sk_batch.specs.Lines.{line}
+use Rattle.sk_batch.specs.Open.{with_mark}
+use Rattle.sk_batch.specs.Told.{fires_of, later_fires, mark_of}
+use Rattle.sk_batch.specs.declared.event.Event.{Event}
+use Rattle.sk_batch.specs.declared.event.Event.TheVariants as event
+use Rattle.sk_batch.specs.declared.firing.Firing.{Firing}
+use Rattle.sk_batch.specs.declared.firing.Kind.{Kind}
+use Rattle.sk_batch.specs.declared.firing.Kind.TheVariants.{Complete, Success, Death}
+use Rattle.sk_batch.specs.declared.member.Mark.{Mark}
+use Rattle.sk_batch.specs.declared.member.Mark.TheVariants.{Reported, Returned}
+use Rattle.sk_batch.proofs.Places.{retagged_none}
+use Rattle.sk_lives.specs.declared.origin.Origin.{Origin}
+use Rattle.sk_lives.specs.declared.origin.Origin.TheVariants.{Inner}
+use Rattle.sk_model.specs.World.{World}
+use Rattle.sk_lives.specs.Lives.{one_if}
+use Rattle.sk_model.specs.Change.{Fire, Tells, Change, Moves, changed, perform}
+use Rattle.sk_places.specs.Rows.{copies_of}
+use Rattle.sk_model.specs.Told.{push_to, push_job, call, fire_all, tell_in, tell_of, tell}
+use Rattle.sk_model.specs.Once.{CallsFollow, times, buries, is_of_batch, names_batch}
+use Rattle.sk_model.proofs.Texts.{bytes_tell}
+use Rattle.sk_model.proofs.Going.{count_put}
+use Rattle.sk_model.proofs.Marked.{Sane, home_there}
+use Rattle.sk_model.proofs.Fired.{any-append, any_death, any_others, count-append, count_death, count_named, count_others, fire_all_batches, fire_all_times, fired_after, named, perform-append}
+use Rattle.sk_model.proofs.Leads.{Leads, StaysWhole, leads_own, leads_same}
+use Rattle.sk_model.proofs.Telling.{fires_are, leads, stays_whole, told_fires}
+use Rattle.sk_model.proofs.Calls.{AllCalled, all_called-append, calls_fired, death_called, line_own, own_called}
+use Rattle.sk_model.proofs.Keeps.{KeepsJobs, keeps_nothing, keeps_append, keeps_others, keeps_add, keeps_fire, keeps_tells}
+use Rattle.sk_model.proofs.Good.{Good, buries-append, good_nothing, has_died}
+
+-- ## A job that is no member
+
+fires_none : (e : Event) (bid jid : Bytes) (s : Batched) → is_member bid jid s.members ≡ false → fires_of e bid jid s ≡ []
+fires_none event.Reported bid jid s m = ap (λ b. cond b (complete_fires (marked Reported bid jid s) bid) []) m
+fires_none event.Returned bid jid s m = ap (λ b. cond b (told_fires event.Returned bid jid s) []) m
+fires_none event.Died bid jid s m = ap (λ b. cond b (told_fires event.Died bid jid s) []) m
+
+marked_none : (by : Mark) (bid jid : Bytes) (s : Batched) → is_member bid jid s.members ≡ false → marked by bid jid s ≡ s
+marked_none by bid jid s m = ap (λ ms. record s { members = ms }) (retagged_none (is_job bid jid) (with_mark by) s.members m)
+
+-- ## The batches
+
+-- the batches after a batch was told
+abbrev pub after_told : Event → Bytes → Bytes → Batched → Batched
+after_told e bid jid s = fired (fires_of e bid jid s) (marked (mark_of e) bid jid s)
+
+leads_told : (e : Event) (bid jid : Bytes) (s : Batched) → Leads s (after_told e bid jid s) (λ kind b. count_named kind b (fires_of e bid jid s))
+leads_told e bid jid s = by_member (is_member bid jid s.members) refl where
+  by_member : (m : Bool) → is_member bid jid s.members ≡ m → Leads s (after_told e bid jid s) (λ kind b. count_named kind b (fires_of e bid jid s))
+  by_member true m = subst (λ fs. Leads s (fired fs (marked (mark_of e) bid jid s)) (λ kind b. count_named kind b fs)) (sym (fires_are e bid jid s m)) (leads e bid jid s m)
+  by_member false m = subst (λ fs. Leads s (fired fs (marked (mark_of e) bid jid s)) (λ kind b. count_named kind b fs)) (sym (fires_none e bid jid s m))
+      (subst (λ (t : Batched). Leads s t (λ kind b. 0)) (sym (marked_none (mark_of e) bid jid s m)) (leads_own s (λ kind b. 0) (λ kind b. refl)))
+
+stays_told : (e : Event) (bid jid : Bytes) (s : Batched) → StaysWhole s (after_told e bid jid s)
+stays_told e bid jid s = by_member (is_member bid jid s.members) refl where
+  by_member : (m : Bool) → is_member bid jid s.members ≡ m → StaysWhole s (after_told e bid jid s)
+  by_member true m = subst (λ fs. StaysWhole s (fired fs (marked (mark_of e) bid jid s))) (sym (fires_are e bid jid s m)) (stays_whole e bid jid s m)
+  by_member false m = subst (λ fs. StaysWhole s (fired fs (marked (mark_of e) bid jid s))) (sym (fires_none e bid jid s m))
+      (subst (StaysWhole s) (sym (marked_none (mark_of e) bid jid s m)) (λ b h. h))
+
+-- ## Death
+
+-- how often death is fired, and whether it is
+abbrev Dies : Event → Bytes → Bytes → Batched → Bytes → Bool → Type 0
+Dies e bid jid s b dies = (count_named Death b (fires_of e bid jid s) ≡ one_if dies) × (list_any (named Death b) (fires_of e bid jid s) ≡ dies)
+
+-- by nothing but a burying
+none_dies : (e : Event) (bid jid : Bytes) (s : Batched) (b : Bytes) → (e ≡ event.Died → ⊥) → Dies e bid jid s b false
+none_dies e bid jid s b alive = by_member (is_member bid jid s.members) refl where
+  told_none : (e : Event) → (e ≡ event.Died → ⊥) → (count_named Death b (told_fires e bid jid s) ≡ 0) × (list_any (named Death b) (told_fires e bid jid s) ≡ false)
+  told_none event.Reported alive =
+      let es = filter (completes (marked Reported bid jid s)) (line s.batches bid) in
+      let fs = complete_fires (marked Reported bid jid s) bid in
+      (omega (arith, count-append Death b fs [], count_others Death Complete b es refl), any-append Death b fs [] ∙ ap (λ x. x || false) (any_others Death Complete b es refl))
+  told_none event.Returned alive =
+      let t = marked Returned bid jid s in
+      let es = filter (completes t) (line s.batches bid) in
+      let es' = filter (succeeds s t) (line s.batches bid) in
+      let fs = complete_fires t bid in
+      let gs = success_fires s t bid in
+      (omega (arith, count-append Death b fs gs, count_others Death Complete b es refl, count_others Death Success b es' refl), any-append Death b fs gs ∙ ap (λ x. x || list_any (named Death b) gs) (any_others Death Complete b es refl) ∙ any_others Death Success b es' refl)
+  told_none event.Died alive = absurd (alive refl)
+
+  by_member : (m : Bool) → is_member bid jid s.members ≡ m → Dies e bid jid s b false
+  by_member true m = subst (λ fs. (count_named Death b fs ≡ 0) × (list_any (named Death b) fs ≡ false)) (sym (fires_are e bid jid s m)) (told_none e alive)
+  by_member false m = subst (λ fs. (count_named Death b fs ≡ 0) × (list_any (named Death b) fs ≡ false)) (sym (fires_none e bid jid s m)) (refl, refl)
+
+-- by the first one of a member
+member_dies : (bid jid : Bytes) (s : Batched) (b : Bytes) → Sane s → Dies event.Died bid jid s b ((bytes_eq bid b && is_member bid jid s.members) && not (has_died s b))
+member_dies bid jid s b sane = by_member (is_member bid jid s.members) refl where
+  by_member : (m : Bool) → is_member bid jid s.members ≡ m → Dies event.Died bid jid s b ((bytes_eq bid b && is_member bid jid s.members) && not (has_died s b))
+  by_member true m =
+      let t = marked Reported bid jid s in
+      let es = filter (completes t) (line s.batches bid) in
+      let fs = complete_fires t bid in
+      let gs = death_fires s bid in
+      let there = home_there s.batches s.members bid jid sane.homes m in
+      let count = count-append Death b fs gs in
+      let some = any-append Death b fs gs in
+      let no = count_others Death Complete b es refl in
+      let none = any_others Death Complete b es refl in
+      let one = count_death s.batches bid b there in
+      let once = any_death s.batches bid b there in
+      subst (λ fs. (count_named Death b fs ≡ one_if ((bytes_eq bid b && is_member bid jid s.members) && not (has_died s b))) × (list_any (named Death b) fs ≡ (bytes_eq bid b && is_member bid jid s.members) && not (has_died s b)))
+      (sym (fires_are event.Died bid jid s m)) (grind (arith, bytes_tell, count, no, one, m), grind (arith, bytes_tell, some, none, once, m))
+  by_member false m =
+      subst (λ fs. (count_named Death b fs ≡ one_if ((bytes_eq bid b && is_member bid jid s.members) && not (has_died s b))) × (list_any (named Death b) fs ≡ (bytes_eq bid b && is_member bid jid s.members) && not (has_died s b)))
+      (sym (fires_none event.Died bid jid s m)) (grind (arith, m), grind (arith, m))
+
+-- ## Callbacks
+
+-- each firing has the callback of its batch
+fires_called : (e : Event) (bid jid : Bytes) (s : Batched) → Sane s → AllCalled (marked (mark_of e) bid jid s) (fires_of e bid jid s)
+fires_called e bid jid s sane = by_member (is_member bid jid s.members) refl where
+  later_called : (e : Event) → AllCalled (marked (mark_of e) bid jid s) (later_fires e bid jid s)
+  later_called event.Reported = tt
+  later_called event.Returned = let t = marked Returned bid jid s in own_called Success t (succeeds s t) (line s.batches bid) (line_own Success s.batches bid sane.tree)
+  later_called event.Died = death_called (marked Reported bid jid s) (line s.batches bid) (line_own Death s.batches bid sane.tree)
+
+  by_member : (m : Bool) → is_member bid jid s.members ≡ m → AllCalled (marked (mark_of e) bid jid s) (fires_of e bid jid s)
+  by_member true m =
+      let t = marked (mark_of e) bid jid s in
+      subst (AllCalled t) (sym (fires_are e bid jid s m))
+      (all_called-append t (complete_fires t bid) (later_fires e bid jid s) (own_called Complete t (completes t) (line s.batches bid) (line_own Complete s.batches bid sane.tree)) (later_called e))
+  by_member false m = subst (AllCalled (marked (mark_of e) bid jid s)) (sym (fires_none e bid jid s m)) tt
+
+-- ## Firings, one after another
+
+module _ (b : Bytes) where
+  push_buries : (w : World) (from : Origin) (text : Bytes) (found : Option Head) → buries b w (push_to from text found) ≡ false
+  push_buries w from text None = refl
+  push_buries w from text (Some h) = refl
+
+  pub job_buries : (w : World) (from : Origin) (text : Bytes) → buries b w (push_job from text) ≡ false
+  job_buries w from text = push_buries w from text (head text)
+
+  call_buries : (w : World) (o : Option Bytes) → buries b w (call o) ≡ false
+  call_buries w None = refl
+  call_buries w (Some text) = job_buries w Inner text
+
+  pub fires_bury : (w : World) (fs : List Firing) → buries b w (fire_all fs) ≡ false
+  fires_bury w [] = refl
+  fires_bury w (f ∷ fs) =
+      let v : World = changed w (Moves (Fire f.bid f.kind)) in
+      let both = buries-append b v (call f.payload) (fire_all fs) in
+      let one = call_buries v f.payload in
+      let more = fires_bury (perform v (call f.payload)) fs in
+      grind (arith, both, one, more)
+
+push_keeps : (w : World) (from : Origin) (text : Bytes) (found : Option Head) → KeepsJobs w (push_to from text found)
+push_keeps w from text None = keeps_nothing w
+push_keeps w from text (Some h) = keeps_add w (row_at (Queue h.queue) text) Left from
+
+pub job_keeps : (w : World) (from : Origin) (text : Bytes) → KeepsJobs w (push_job from text)
+job_keeps w from text = push_keeps w from text (head text)
+
+call_keeps : (w : World) (o : Option Bytes) → KeepsJobs w (call o)
+call_keeps w None = keeps_nothing w
+call_keeps w (Some text) = job_keeps w Inner text
+
+pub fires_keep : (w : World) (fs : List Firing) → KeepsJobs w (fire_all fs)
+fires_keep w [] = keeps_nothing w
+fires_keep w (f ∷ fs) =
+    let v : World = changed w (Moves (Fire f.bid f.kind)) in
+    keeps_others w (Moves (Fire f.bid f.kind)) _ (keeps_fire w f.bid f.kind)
+    (keeps_append v (call f.payload) (fire_all fs) (call_keeps v f.payload) (fires_keep (perform v (call f.payload)) fs))
+
+-- each row is there as often as before, or more often
+module _ (other : Row) where
+  push_more : (w : World) (from : Origin) (text : Bytes) (found : Option Head) → copies_of other w.rows ≤ copies_of other (perform w (push_to from text found)).rows
+  push_more w from text None = omega arith
+  push_more w from text (Some h) = count_put other (row_at (Queue h.queue) text) (stands_before Left (row_at (Queue h.queue) text)) w.rows
+
+  call_more : (w : World) (o : Option Bytes) → copies_of other w.rows ≤ copies_of other (perform w (call o)).rows
+  call_more w None = omega arith
+  call_more w (Some text) = push_more w Inner text (head text)
+
+  fires_more : (w : World) (fs : List Firing) → copies_of other w.rows ≤ copies_of other (perform w (fire_all fs)).rows
+  fires_more w [] = omega arith
+  fires_more w (f ∷ fs) =
+      let v : World = changed w (Moves (Fire f.bid f.kind)) in
+      omega (
+        arith,
+        call_more v f.payload,
+        fires_more (perform v (call f.payload)) fs,
+        ap (λ (u : World). copies_of other u.rows) (perform-append v (call f.payload) (fire_all fs)),
+      )
+
+  tell_in_more : (e : Event) (w : World) (jid : Bytes) (o : Option Bytes) → copies_of other w.rows ≤ copies_of other (perform w (tell_in e w jid o).changes).rows
+  tell_in_more e w jid None = omega arith
+  tell_in_more e w jid (Some bid) = fires_more (changed w (Tells e bid jid)) (fires_of e bid jid w.batches)
+
+  pub tell_more : (e : Event) (w : World) (found : Option Head) → copies_of other w.rows ≤ copies_of other (perform w (tell_of e w found).changes).rows
+  tell_more e w None = omega arith
+  tell_more e w (Some h) = tell_in_more e w h.jid h.bid
+
+-- ## What is told
+
+module _ (e : Event) (w : World) (bid jid : Bytes) where
+  abbrev fs : List Firing
+  fs = fires_of e bid jid w.batches
+
+  pub told_batches : (perform w (tell_in e w jid (Some bid)).changes).batches ≡ after_told e bid jid w.batches
+  told_batches = fire_all_batches (changed w (Tells e bid jid)) fs
+
+  told_times : (kind : Kind) (b : Bytes) → times kind b (tell_in e w jid (Some bid)).changes ≡ count_named kind b fs
+  told_times kind b = omega (arith, fire_all_times kind b fs)
+
+  told_leads : Leads w.batches (perform w (tell_in e w jid (Some bid)).changes).batches (λ kind b. times kind b (tell_in e w jid (Some bid)).changes)
+  told_leads = leads_same w.batches _ _ _ told_times (subst (λ (t : Batched). Leads w.batches t (λ kind b. count_named kind b fs)) (sym told_batches) (leads_told e bid jid w.batches))
+
+  told_stays : StaysWhole w.batches (perform w (tell_in e w jid (Some bid)).changes).batches
+  told_stays = subst (StaysWhole w.batches) (sym told_batches) (stays_told e bid jid w.batches)
+
+  told_keeps : KeepsJobs w (tell_in e w jid (Some bid)).changes
+  told_keeps = keeps_others w (Tells e bid jid) (fire_all fs) (keeps_tells w e bid jid) (fires_keep (changed w (Tells e bid jid)) fs)
+
+  told_buries : (b : Bytes) → buries b w (tell_in e w jid (Some bid)).changes ≡ false
+  told_buries b = fires_bury b (changed w (Tells e bid jid)) fs
+
+  told_calls : Sane w.batches → CallsFollow w (tell_in e w jid (Some bid)).changes
+  told_calls sane = ((fire_all fs, refl), calls_fired (changed w (Tells e bid jid)) fs (fires_called e bid jid w.batches sane))
+
+  -- what is kept of deaths
+  told_died : (b : Bytes) → has_died (perform w (tell_in e w jid (Some bid)).changes).batches b ≡ has_died w.batches b || (is_there b w.batches.batches && list_any (named Death b) fs)
+  told_died b = ap (λ (t : Batched). has_died t b) told_batches ∙ fired_after Death b fs w.batches.batches
+
+-- what is told but for a burying
+module _ (e : Event) (alive : e ≡ event.Died → ⊥) where
+  tell_in_good : (w : World) (jid : Bytes) (o : Option Bytes) → Good w (tell_in e w jid o).changes
+  tell_in_good w jid None = good_nothing w
+  tell_in_good w jid (Some bid) = record {
+    lawful = record {
+      keeps = told_keeps e w bid jid;
+      leads = told_leads e w bid jid;
+      deaths = record {
+        once = λ s b. let none = none_dies e bid jid w.batches b alive in let t = told_times e w bid jid Death b in let no = told_buries e w bid jid b in grind (arith, none.0, t, no);
+        died = λ s b. let none = none_dies e bid jid w.batches b alive in let is = told_died e w bid jid b in let no = told_buries e w bid jid b in grind (arith, none.1, is, no);
+      };
+      calls = told_calls e w bid jid;
+    };
+    stays = told_stays e w bid jid;
+  }
+
+  tell_of_good : (w : World) (found : Option Head) → Good w (tell_of e w found).changes
+  tell_of_good w None = good_nothing w
+  tell_of_good w (Some h) = tell_in_good w h.jid h.bid
+
+  pub tell_good : (w : World) (text : Bytes) → Good w (tell e w text).changes
+  tell_good w text = tell_of_good w (head text)
+
+-- what is told of a burying
+pub record TellsDeath (w : World) (changes : List Change) (dies : Bytes → Bool) : Type 0 where
+  pub keeps : KeepsJobs w changes
+  pub leads : Leads w.batches (perform w changes).batches (λ kind b. times kind b changes)
+  pub stays : StaysWhole w.batches (perform w changes).batches
+  pub buries_none : (b : Bytes) → buries b w changes ≡ false
+  pub calls : Sane w.batches → CallsFollow w changes
+  pub once : Sane w.batches → (b : Bytes) → times Death b changes ≡ one_if (dies b && not (has_died w.batches b))
+  pub died : Sane w.batches → (b : Bytes) → has_died (perform w changes).batches b ≡ has_died w.batches b || dies b
+
+nothing_dies : (w : World) → TellsDeath w [] (λ b. false)
+nothing_dies w = record { keeps = keeps_nothing w; leads = (good_nothing w).lawful.leads; stays = λ b h. h; buries_none = λ b. refl; calls = λ s. tt; once = λ s b. refl; died = λ s b. grind arith }
+
+in_dies : (w : World) (jid : Bytes) (o : Option Bytes) → TellsDeath w (tell_in event.Died w jid o).changes (λ b. names_batch b w.batches jid o)
+in_dies w jid None = nothing_dies w
+in_dies w jid (Some bid) = record {
+  keeps = told_keeps event.Died w bid jid;
+  leads = told_leads event.Died w bid jid;
+  stays = told_stays event.Died w bid jid;
+  buries_none = told_buries event.Died w bid jid;
+  calls = told_calls event.Died w bid jid;
+  once = λ s b. told_times event.Died w bid jid Death b ∙ (member_dies bid jid w.batches b s).0;
+  died = λ s b.
+      let one = member_dies bid jid w.batches b s in
+      let is = told_died event.Died w bid jid b in
+      let there = home_there w.batches.batches w.batches.members bid jid s.homes in
+      grind (arith, bytes_tell, one.1, is, there);
+}
+
+pub tells_death : (w : World) (found : Option Head) → TellsDeath w (tell_of event.Died w found).changes (λ b. is_of_batch b w.batches found)
+tells_death w None = nothing_dies w
+tells_death w (Some h) = in_dies w h.jid h.bid

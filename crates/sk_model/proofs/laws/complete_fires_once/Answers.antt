@@ -1,0 +1,5 @@
+use Rattle.sk_model.proofs.Firing.{complete_once}
+use Rattle.sk_model.proofs.laws.complete_fires_once.Goals as goal
+
+pub returns : goal.returns
+returns c = complete_once

@@ -1,0 +1,5 @@
+use Rattle.sk_model.proofs.Runs.{balance}
+use Rattle.sk_model.proofs.laws.tally_balances.Goals as goal
+
+pub returns : goal.returns
+returns c = balance

@@ -1,0 +1,158 @@
+-- What is fired of batches in every run: success, complete and death of each once, at the very turn at which it comes about.
+use Rattle.std.specs.Prelude.{◌≡◌, ℕ, ◌+◌, List, [], ◌∷◌, ◌++◌, filter, Option, Some, None, Bool, true, false, not, ◌&&◌, ◌||◌}
+use Rattle.std.specs.Str.{bytes_eq}
+use Rattle.sk_resp.specs.Spelling.{Bytes}
+use Rattle.sk_cmd.specs.declared.argument.Scored.TheVariants.{Schedule, Retry, Dead}
+use Rattle.sk_payload.specs.Head.{head}
+use Rattle.sk_payload.specs.declared.head.Head.{Head}
+use Rattle.sk_places.specs.declared.row.Place.{Place}
+use Rattle.sk_places.specs.declared.row.Place.TheVariants.{Queue, Private, Set}
+use Rattle.sk_batch.specs.Batched.{Batched, BatchEntry, has_bid, is_there, is_member}
+use Rattle.sk_batch.specs.Fires.{callback}
+use Rattle.sk_batch.specs.Open.{is_reported, is_settled}
+use Rattle.sk_batch.specs.declared.firing.Kind.{Kind}
+use Rattle.sk_batch.specs.declared.firing.Kind.TheVariants.{Complete, Success, Death}
+use Rattle.sk_model.specs.declared.limits.Limits.{Limits}
+use Rattle.sk_model.specs.World.{World}
+use Rattle.sk_lives.specs.Lives.{one_if}
+use Rattle.sk_model.specs.Change.{Carry, PutBack, Fire, Change, Moves, changed, perform}
+use Rattle.sk_model.specs.Told.{call}
+use Rattle.sk_model.specs.Reading.{Words}
+use Rattle.sk_model.specs.Run.{Turn, Run, first}
+
+-- ## How often something is fired
+
+abbrev pub same_kind : Kind → Kind → Bool
+same_kind Complete Complete = true
+same_kind Success Success = true
+same_kind Death Death = true
+same_kind kind other = false
+
+abbrev pub times_in : Kind → Bytes → Change → ℕ
+times_in kind bid (Moves (Fire other k)) = one_if (bytes_eq other bid && same_kind kind k)
+times_in kind bid other = 0
+
+-- how many of the changes fire this of the batch
+abbrev pub times : Kind → Bytes → List Change → ℕ
+times kind bid [] = 0
+times kind bid (change ∷ changes) = times_in kind bid change + times kind bid changes
+
+-- ## Success
+
+-- the batch was made in between
+abbrev pub is_new : Batched → Batched → Bytes → Bool
+is_new before after bid = is_there bid after.batches && not (is_there bid before.batches)
+
+-- the batch is settled now, and was made in between or wasn't settled before
+abbrev pub settles : Batched → Batched → Bytes → Bool
+settles before after bid = is_settled after bid && (is_new before after bid || not (is_settled before bid))
+
+abbrev pub SuccessOnceFrom : World → List Turn → Type 0
+SuccessOnceFrom w [] = Unit {0}
+SuccessOnceFrom w (t ∷ turns) =
+    ((bid : Bytes) → times Success bid t.changes ≡ one_if (settles w.batches (perform w t.changes).batches bid)) × SuccessOnceFrom (perform w t.changes) turns
+
+-- Success of a batch is fired once, in the turn that leaves no job of it open, and in no other.
+abbrev pub BatchOnce : Type 0
+BatchOnce = (limits : Limits) (commands : List Words) (turns : List Turn) → Run (first limits) commands turns → SuccessOnceFrom (first limits).world turns
+
+-- after each of these turns the batch is settled
+abbrev pub AllSettled : Bytes → World → List Turn → Type 0
+AllSettled bid w [] = Unit {0}
+AllSettled bid w (t ∷ turns) = (is_settled (perform w t.changes).batches bid ≡ true) × AllSettled bid (perform w t.changes) turns
+
+abbrev pub SettledStaysFrom : World → List Turn → Type 0
+SettledStaysFrom w [] = Unit {0}
+SettledStaysFrom w (t ∷ turns) =
+    let v : World = perform w t.changes in
+    ((bid : Bytes) → is_there bid v.batches.batches ≡ true → is_settled v.batches bid ≡ true → AllSettled bid v turns) × SettledStaysFrom v turns
+
+-- A batch that is settled after a turn is settled after every later one.
+abbrev pub SettledStays : Type 0
+SettledStays = (limits : Limits) (commands : List Words) (turns : List Turn) → Run (first limits) commands turns → SettledStaysFrom (first limits).world turns
+
+-- ## Complete
+
+-- the batch is there, and each job in it was reported
+abbrev pub is_whole : Batched → Bytes → Bool
+is_whole s bid = is_there bid s.batches && is_reported s bid
+
+-- had: whether it was so after some turn before these
+abbrev pub CompleteOnceFrom : World → (Bytes → Bool) → List Turn → Type 0
+CompleteOnceFrom w had [] = Unit {0}
+CompleteOnceFrom w had (t ∷ turns) =
+    let v : World = perform w t.changes in
+    ((bid : Bytes) → times Complete bid t.changes ≡ one_if (is_whole v.batches bid && not (had bid))) × CompleteOnceFrom v (λ bid. had bid || is_whole v.batches bid) turns
+
+-- Complete of a batch is fired once, in the first turn that leaves each job in it reported, and in no other.
+abbrev pub CompleteOnce : Type 0
+CompleteOnce = (limits : Limits) (commands : List Words) (turns : List Turn) → Run (first limits) commands turns → CompleteOnceFrom (first limits).world (λ bid. false) turns
+
+-- ## Death
+
+abbrev pub is_dead_set : Place → Bool
+is_dead_set (Set Dead) = true
+is_dead_set (Set Schedule) = false
+is_dead_set (Set Retry) = false
+is_dead_set (Queue queue) = false
+is_dead_set (Private ident) = false
+
+-- the job of this id names the batch, and is a member of it
+abbrev pub names_batch : Bytes → Batched → Bytes → Option Bytes → Bool
+names_batch bid s jid None = false
+names_batch bid s jid (Some other) = bytes_eq other bid && is_member other jid s.members
+
+abbrev pub is_of_batch : Bytes → Batched → Option Head → Bool
+is_of_batch bid s None = false
+is_of_batch bid s (Some h) = names_batch bid s h.jid h.bid
+
+-- the change buries a member of the batch: its text comes into the dead set
+abbrev pub buries_in : Bytes → World → Change → Bool
+buries_in bid w (Moves (Carry row from to score end)) = is_dead_set to && is_of_batch bid w.batches (head row.text)
+buries_in bid w (Moves (PutBack row)) = is_dead_set row.place && is_of_batch bid w.batches (head row.text)
+buries_in bid w other = false
+
+abbrev pub buries : Bytes → World → List Change → Bool
+buries bid w [] = false
+buries bid w (change ∷ changes) = buries_in bid w change || buries bid (changed w change) changes
+
+-- had: whether a member was buried in some turn before these
+abbrev pub DeathOnceFrom : World → (Bytes → Bool) → List Turn → Type 0
+DeathOnceFrom w had [] = Unit {0}
+DeathOnceFrom w had (t ∷ turns) =
+    ((bid : Bytes) → times Death bid t.changes ≡ one_if (buries bid w t.changes && not (had bid))) × DeathOnceFrom (perform w t.changes) (λ bid. had bid || buries bid w t.changes) turns
+
+-- Death of a batch is fired once, in the first turn that buries a member of it, and in no other.
+abbrev pub DeathOnce : Type 0
+DeathOnce = (limits : Limits) (commands : List Words) (turns : List Turn) → Run (first limits) commands turns → DeathOnceFrom (first limits).world (λ bid. false) turns
+
+-- ## Callbacks
+
+abbrev pub callback_of : Kind → List BatchEntry → Option Bytes
+callback_of kind [] = None
+callback_of kind (b ∷ more) = callback kind b.1.callbacks
+
+-- the callback of the batch of this id, where it has one
+abbrev pub called : Kind → Bytes → Batched → Option Bytes
+called kind bid s = callback_of kind (filter (has_bid bid) s.batches)
+
+-- what is to follow a change: a firing's callback is pushed
+abbrev pub called_by : World → Change → List Change
+called_by w (Moves (Fire bid kind)) = call (called kind bid w.batches)
+called_by w other = []
+
+-- these changes come first
+abbrev pub Begins : List Change → List Change → Type 0
+Begins first changes = (more : List Change) × (changes ≡ first ++ more)
+
+abbrev pub CallsFollow : World → List Change → Type 0
+CallsFollow w [] = Unit {0}
+CallsFollow w (change ∷ changes) = Begins (called_by w change) changes × CallsFollow (changed w change) changes
+
+abbrev pub CallsFollowFrom : World → List Turn → Type 0
+CallsFollowFrom w [] = Unit {0}
+CallsFollowFrom w (t ∷ turns) = CallsFollow w t.changes × CallsFollowFrom (perform w t.changes) turns
+
+-- Each firing is followed at once by the push of the batch's callback, where it has one.
+abbrev pub CallbacksFollow : Type 0
+CallbacksFollow = (limits : Limits) (commands : List Words) (turns : List Turn) → Run (first limits) commands turns → CallsFollowFrom (first limits).world turns

@@ -1,0 +1,20 @@
+use Rattle.std.proofs.Common.{◌≡◌, ◌≤◌, ◌^◌, ◌-◌, List, None, length, false}
+use Rattle.sk_base.specs.Outside.{Gives, Takes}
+use Rattle.sk_resp.specs.Spelling.{Bytes}
+use Rattle.sk_resp.specs.Request.{Command}
+use Rattle.sk_resp.specs.Stream.{Reads}
+use Rattle.sk_pipe.specs.Pipe.{Serves}
+use Rattle.sk_pipe.proofs.driver.drive.Given as goal
+
+-- The bytes so far were read, and their commands served, none of which ended the pipe.
+abbrev pub invariant-loop-count : goal.invariant-loop-count
+invariant-loop-count g l = record {
+  so_far : (bytes : Bytes) × ((commands : List Command) × ((written : Bytes) × Gives (g.S.Source.left l.fn.source) bytes (g.S.Source.left l.source)
+      × Takes (g.K.Sink.taken l.fn.sink) written (g.K.Sink.taken l.sink) × Reads bytes commands l.feeder.rest × Serves false l.fn.session commands l.session written × (length bytes ≡ l.count)));
+  sound : l.feeder.fault ≡ None;
+  source_count : g.S.Source.read_faults l.fn.source ≤ g.S.Source.read_faults l.source;
+  sink_count : g.K.Sink.write_faults l.fn.sink ≤ g.K.Sink.write_faults l.sink;
+}
+
+abbrev pub decreases-loop-count : goal.decreases-loop-count
+decreases-loop-count g l = 2 ^ 40 - l.count

@@ -1,0 +1,12 @@
+pub mod Batching
+pub mod Beating
+pub mod Burying
+pub mod Calling
+pub mod Counting
+pub mod Fronts
+pub mod Passing
+pub mod Rescuing
+pub mod SentOn
+pub mod Stocking
+pub mod Telling
+pub mod Working

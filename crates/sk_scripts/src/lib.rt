@@ -1,0 +1,30 @@
+//! The commands of workers, and the store's own scripts: what moves jobs between queues, private lists and sets, and what is told of batches.
+#![tactic(auto)]
+
+mod batches;
+mod burials;
+mod calls;
+mod dead;
+mod fetches;
+mod processes;
+mod releases;
+mod report;
+mod rescue;
+mod retries;
+mod runs;
+mod scripts;
+mod sending;
+mod status;
+mod stock;
+mod workers;
+
+pub use batches::{BatchWords, add_to_batch, batch_stat, push_batch};
+pub use burials::bury;
+pub use processes::{beat, join};
+pub use releases::back;
+pub use runs::{discard, fail, start, succeed};
+pub use scripts::{SetScript, send};
+pub use status::{locate, numbers, status_page, tally};
+pub use std::alloc::AllocError as Memory;
+pub use stock::Stock;
+pub use workers::work;

@@ -1,0 +1,4 @@
+pub mod Held
+pub mod Order
+pub mod Seats
+pub mod Turn
