@@ -14,7 +14,7 @@ sys.path.insert(0, directory)
 import fuzz
 import rows
 
-BUILT = '5'
+BUILT = '7'
 
 sys.exit(
     rows.main(['--program', program, '--stage', 'R' + BUILT])
