@@ -1,6 +1,7 @@
 // What no clause says: which reads and writes fail, and where the pieces end.
 
 use super::*;
+use std::io::{self, ErrorKind, Read, Write};
 use std::test::Fail;
 
 #[test]
@@ -40,64 +41,60 @@ fn a_tray_takes_bytes_and_fails_where_it_is_told(rt: HostRuntime) -> Result<(), 
     Ok(())
 }
 
-#[test]
-fn names_are_text_without_control_characters(rt: HostRuntime) {
-    for (text, most, want) in [
-        (b"default".as_slice(), 255, true),
-        (b"".as_slice(), 255, false),
-        (b"abc".as_slice(), 3, true),
-        (b"abcd".as_slice(), 3, false),
-        (b"a b".as_slice(), 255, true),
-        (b"a\x1fb".as_slice(), 255, false),
-        (b"a\x7f".as_slice(), 255, false),
-        (b"\xc3\xa9".as_slice(), 255, true),
-        (b"\xc3".as_slice(), 255, false),
-        (b"\xed\xa0\x80".as_slice(), 255, false),
-    ] {
-        assert_eq!(rt; is_name(text, most), want);
+/// A writer that takes one byte at a call, as long as it is the next one of these, and then fails.
+#[derive(Drop)]
+struct Expecting(&'static [u8]);
+
+impl Write for Expecting {
+    fn write(&mut self, buf: &[u8]) -> io::Result<usize> {
+        match (buf, self.0) {
+            ([], _) => Ok(0),
+            ([byte, ..], [next, rest @ ..]) if byte == next => {
+                self.0 = rest;
+                Ok(1)
+            }
+            _ => Err(io::Error::from(ErrorKind::BrokenPipe)),
+        }
+    }
+
+    fn flush(&mut self) -> io::Result<()> {
+        Ok(())
     }
 }
 
 #[test]
-fn a_score_is_read_and_written_as_its_shortest_text(rt: HostRuntime) -> Result<(), Fail> {
-    let alloc = rt.alloc();
-    let rows: [(&str, &str); 9] = [
-        ("0", "0"),
-        ("-0.0", "0"),
-        ("007", "7"),
-        ("1.50", "1.5"),
-        ("-0.000001", "-0.000001"),
-        ("-1.0000019", "-1.000001"),
-        ("9223372036854.7758079", "9223372036854.775807"),
-        ("-9223372036854.775807", "-9223372036854.775807"),
-        ("00000000000000000000000000000001.05", "1.05"),
-    ];
-    for (text, want) in rows {
-        let Ok(score) = Score::read(text.as_bytes()) else {
-            return Err(Fail::new("no score"));
-        };
-        let mut written = Vec::new(alloc);
-        score.write(alloc, &mut written)?;
-        assert_eq!(rt; written.as_slice(), want.as_bytes());
+fn a_real_sink_goes_on_after_a_short_write_and_tells_a_failed_one(rt: HostRuntime) {
+    let mut sink = StdSink::new(Expecting(b"abcd"));
+    assert_eq!(rt; sink.write(b"ab"), Ok(1));
+    assert_eq!(rt; write_all(&mut sink, b"bc"), Ok(()));
+    assert_eq!(rt; write_all(&mut sink, b""), Ok(()));
+    assert_eq!(rt; write_all(&mut sink, b"de"), Err(Failed));
+    assert_eq!(rt; sink.write(b"d"), Err(Failed));
+}
+
+/// A reader that gives one byte at a call, and then fails.
+#[derive(Drop)]
+struct Giving(&'static [u8]);
+
+impl Read for Giving {
+    fn read(&mut self, buf: &mut [u8]) -> io::Result<usize> {
+        match self.0 {
+            [byte, rest @ ..] if !buf.is_empty() => {
+                buf[0] = *byte;
+                self.0 = rest;
+                Ok(1)
+            }
+            _ => Err(io::Error::from(ErrorKind::BrokenPipe)),
+        }
     }
-    Ok(())
 }
 
 #[test]
-fn another_text_is_no_score(rt: HostRuntime) -> Result<(), Fail> {
-    let decimal: [&str; 12] = [
-        "", "-", "+1", ".5", "5.", "-.5", "1e9", "1.5.2", " 1", "1 ", "inf", "0x10",
-    ];
-    for text in decimal {
-        assert_eq!(rt; Score::read(text.as_bytes()), Err(ScoreFault::NotDecimal));
-    }
-    let range: [&str; 3] = [
-        "9223372036854.775808",
-        "-9223372036854.775808",
-        "99999999999999999999",
-    ];
-    for text in range {
-        assert_eq!(rt; Score::read(text.as_bytes()), Err(ScoreFault::Range));
-    }
-    Ok(())
+fn a_real_source_gives_what_its_reader_does_and_tells_its_failure(rt: HostRuntime) {
+    let mut source = StdSource::new(Giving(b"ab"));
+    let mut buf = [0u8; 8];
+    assert_eq!(rt; source.read(&mut buf), Ok(1));
+    assert_eq!(rt; source.read(&mut buf[1..]), Ok(1));
+    assert_eq!(rt; &buf[..2], b"ab".as_slice());
+    assert_eq!(rt; source.read(&mut buf), Err(Failed));
 }

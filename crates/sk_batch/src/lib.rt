@@ -26,6 +26,3 @@ pub use event::Event;
 pub use firing::{Firing, Kind};
 pub use member::{Mark, Marks, Member};
 pub use std::alloc::AllocError as Memory;
-
-#[cfg(test)]
-mod tests;

@@ -25,6 +25,3 @@ pub use command::{Command, PlainCommand, ScriptCommand};
 pub use laws::one_command;
 pub use pairs::{Pairs, Scores};
 pub use read::read_command;
-
-#[cfg(test)]
-mod tests;

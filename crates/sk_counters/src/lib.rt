@@ -7,6 +7,3 @@ mod entries;
 
 pub use counters::{Counted, Counters};
 pub use std::alloc::AllocError as Memory;
-
-#[cfg(test)]
-mod tests;

@@ -13,6 +13,3 @@ mod put;
 mod set;
 
 pub use keys::Keys;
-
-#[cfg(test)]
-mod tests;

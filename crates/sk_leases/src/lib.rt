@@ -9,6 +9,3 @@ mod leases;
 
 pub use leases::Leases;
 pub use std::alloc::AllocError as Memory;
-
-#[cfg(test)]
-mod tests;

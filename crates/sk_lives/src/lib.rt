@@ -16,6 +16,3 @@ pub use origin::Origin;
 pub use std::alloc::AllocError as Memory;
 pub use totals::Totals;
 pub use word_set::WordSet;
-
-#[cfg(test)]
-mod tests;

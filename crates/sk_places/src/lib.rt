@@ -16,6 +16,3 @@ pub use places::Places;
 pub use row::{Place, Row};
 use rows::Rows;
 pub use std::alloc::AllocError as Memory;
-
-#[cfg(test)]
-mod tests;

@@ -28,6 +28,3 @@ pub use std::alloc::AllocError as Memory;
 pub use text::Text;
 pub use wire_fault::WireFault;
 pub use word::{Word, Words};
-
-#[cfg(test)]
-mod tests;

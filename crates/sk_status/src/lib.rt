@@ -10,6 +10,3 @@ pub use counts::Counts;
 pub use numbers::{Numbers, page};
 pub use std::alloc::AllocError as Memory;
 pub use tally::{Tally, tally_text};
-
-#[cfg(test)]
-mod tests;

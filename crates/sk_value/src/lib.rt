@@ -33,6 +33,3 @@ pub use replies::{counted, one_if};
 pub use sorted::Sorted;
 pub use std::alloc::AllocError as Memory;
 pub use value::Value;
-
-#[cfg(test)]
-mod tests;

@@ -9,6 +9,3 @@ mod zset;
 
 pub use std::alloc::AllocError as Memory;
 pub use zset::ZSet;
-
-#[cfg(test)]
-mod tests;
