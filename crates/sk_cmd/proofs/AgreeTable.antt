@@ -1,18 +1,14 @@
 -- Words are one command, or have one first fault.
-use Rattle.std.proofs.Common.{◌≡◌, ◌≢◌, [], ◌∷◌, refl, sym, ap, subst, ◌∙◌, Bool, true, false, Option, Some, None, Result, Ok, Err, length, arith, IsTrue}
-use Rattle.std.specs.Prelude.{List, cond}
-use Rattle.std.specs.Str.{str_eq_ignore_ascii_case, str_to_ascii_lowercase, bytes_eq}
-use Rattle.std.proofs.lemmas.Slice.Eq.{bytes_eq-Decides}
-use Rattle.sk_resp.specs.Spelling.{Bytes}
-use Rattle.sk_resp.specs.Name.{spelling}
+use Rattle.std.proofs.Common.{[], ◌∷◌, sym, ◌∙◌, length}
 use Rattle.sk_resp.specs.Request.{Command as Words}
 use Rattle.sk_resp.specs.declared.name.Name.{Name}
 use Rattle.sk_resp.specs.declared.name.Name.TheVariants as name
-use Rattle.sk_cmd.specs.Counts.{is_odd, is_from, is_range_count}
+use Rattle.sk_cmd.specs.Counts.{is_odd}
 use Rattle.sk_cmd.specs.Options.{no_set_options, no_range_options}
-use Rattle.sk_cmd.specs.Table.{IsKeyWhole, IsKeyRange, IsRanks, Reads, Names, IsRead}
+use Rattle.sk_cmd.specs.Table.{IsKeyWhole, IsKeyRange, IsRanks, Reads}
 use Rattle.sk_cmd.specs.Laws.{OneCommand}
 use Rattle.sk_cmd.proofs.Agree.{Agree, is_agrees, bool_agrees, memory_agrees, then_agrees, follows_agrees, option_agrees}
+use Rattle.sk_cmd.proofs.Names.{names_same}
 use Rattle.sk_cmd.proofs.AgreeCounts.{zero_agrees, one_agrees, two_agrees, three_agrees, four_agrees, some_agrees, one_and_agrees, two_and_agrees, three_and_agrees, five_and_agrees}
 use Rattle.sk_cmd.proofs.AgreeArguments.{side_agrees, due_set_agrees, scored_agrees, whole_agrees, slot_agrees, limit_agrees, bound_agrees, score_option_agrees, pairs_agree, scores_agree, set_options_agree, range_options_agree, with_scores_agree}
 
@@ -87,92 +83,6 @@ reads_agree name.Status words = then_agrees (zero_agrees name.Status words) (λ 
 reads_agree name.As words = is_agrees _
 reads_agree name.Now words = is_agrees _
 reads_agree name.Cut words = is_agrees _
-
--- ## Names
-
-every : List Name
-every = name.Lpush ∷ name.Rpush ∷ name.Lmove ∷ name.Lrange ∷ name.Llen ∷ name.Lrem ∷ name.Ping ∷ name.Echo ∷ name.Quit ∷ name.Shutdown ∷ name.Flushall ∷ name.Get ∷ name.Set ∷ name.Del ∷ name.Exists ∷ name.KindOf ∷ name.Incrby ∷ name.Pexpire ∷ name.Pttl ∷ name.Sadd ∷ name.Srem ∷ name.Smembers ∷ name.Scard ∷ name.Sismember ∷ name.Hset ∷ name.Hget ∷ name.Hlen ∷ name.Hdel ∷ name.Hgetall ∷ name.Zadd ∷ name.Zrem ∷ name.Zcard ∷ name.Zscore ∷ name.Zrange ∷ name.Zrangebyscore ∷ name.Zremrangebyrank ∷ name.Zremrangebyscore ∷ name.Beat ∷ name.Join ∷ name.Start ∷ name.Ok ∷ name.Fail ∷ name.Drop ∷ name.Bury ∷ name.Back ∷ name.Due ∷ name.Rescue ∷ name.Upush ∷ name.Bpush ∷ name.Badd ∷ name.Bstat ∷ name.Lead ∷ name.Cron ∷ name.Revive ∷ name.Kill ∷ name.Where ∷ name.Status ∷ name.As ∷ name.Now ∷ name.Cut ∷ []
-
-lower : Name → Bytes
-lower name = str_to_ascii_lowercase (spelling name)
-
-find : Bytes → List Name → Option Name
-find text [] = None
-find text (name ∷ names) = cond (bytes_eq text (lower name)) (Some name) (find text names)
-
--- no two commands have one spelling
-found : (name : Name) → find (lower name) every ≡ Some name
-unfolding every lower find
-found name.Lpush = refl
-found name.Rpush = refl
-found name.Lmove = refl
-found name.Lrange = refl
-found name.Llen = refl
-found name.Lrem = refl
-found name.Ping = refl
-found name.Echo = refl
-found name.Quit = refl
-found name.Shutdown = refl
-found name.Flushall = refl
-found name.Get = refl
-found name.Set = refl
-found name.Del = refl
-found name.Exists = refl
-found name.KindOf = refl
-found name.Incrby = refl
-found name.Pexpire = refl
-found name.Pttl = refl
-found name.Sadd = refl
-found name.Srem = refl
-found name.Smembers = refl
-found name.Scard = refl
-found name.Sismember = refl
-found name.Hset = refl
-found name.Hget = refl
-found name.Hlen = refl
-found name.Hdel = refl
-found name.Hgetall = refl
-found name.Zadd = refl
-found name.Zrem = refl
-found name.Zcard = refl
-found name.Zscore = refl
-found name.Zrange = refl
-found name.Zrangebyscore = refl
-found name.Zremrangebyrank = refl
-found name.Zremrangebyscore = refl
-found name.Beat = refl
-found name.Join = refl
-found name.Start = refl
-found name.Ok = refl
-found name.Fail = refl
-found name.Drop = refl
-found name.Bury = refl
-found name.Back = refl
-found name.Due = refl
-found name.Rescue = refl
-found name.Upush = refl
-found name.Bpush = refl
-found name.Badd = refl
-found name.Bstat = refl
-found name.Lead = refl
-found name.Cron = refl
-found name.Revive = refl
-found name.Kill = refl
-found name.Where = refl
-found name.Status = refl
-found name.As = refl
-found name.Now = refl
-found name.Cut = refl
-
-lower_is : (word : Bytes) (name : Name) → IsTrue (str_eq_ignore_ascii_case word (spelling name)) → str_to_ascii_lowercase word ≡ lower name
-unfolding lower
-lower_is word name t = (bytes_eq-Decides (str_to_ascii_lowercase word) (str_to_ascii_lowercase (spelling name))).0 t
-
-names_same : (word : Bytes) (m n : Option Name) → Names word m → Names word n → m ≡ n
-names_same word None None p q = refl
-names_same word None (Some n) p q = absurd (p n q)
-names_same word (Some m) None p q = absurd (q m p)
-names_same word (Some m) (Some n) p q = sym (found m) ∙ ap (λ text. find text every) (sym (lower_is word m p) ∙ lower_is word n q) ∙ found n
 
 -- ## Commands
 

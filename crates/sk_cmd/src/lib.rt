@@ -22,6 +22,6 @@ mod sorted_sets;
 pub use argument::{Expire, RangeOptions, Scored, SetOptions, Side};
 pub use cmd_fault::{CmdFault, fault_reply};
 pub use command::{Command, PlainCommand, ScriptCommand};
-pub use laws::one_command;
+pub use laws::{one_command, some_command};
 pub use pairs::{Pairs, Scores};
 pub use read::read_command;
