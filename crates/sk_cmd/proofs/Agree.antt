@@ -1,5 +1,5 @@
 -- Readings that answer one thing, want of memory aside; and how they are put together.
-use Rattle.std.proofs.Common.{◌≡◌, ◌≢◌, ◌⊎◌, inl, inr, refl, sym, ap, subst, ◌∙◌, Bool, true, false, Option, Some, None, Result, Ok, Err, arith}
+use Rattle.std.proofs.Common.{◌≡◌, ◌≢◌, inl, inr, sym, ap, subst, ◌∙◌, Bool, true, false, Option, Some, None, Result, Ok, Err}
 use Rattle.std.specs.Prelude.{MatchResult, MatchOption}
 use Rattle.std.specs.Bool.{MatchBool}
 use Rattle.sk_cmd.specs.declared.cmd_fault.CmdFault.{CmdFault}

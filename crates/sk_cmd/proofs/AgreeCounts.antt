@@ -1,5 +1,5 @@
 -- A number of words fits, or doesn't.
-use Rattle.std.proofs.Common.{◌≡◌, ◌≢◌, ◌<◌, ◌⊎◌, inl, inr, List, [], ◌∷◌, refl, sym, ap, ◌∙◌, Bool, true, false, Result, Ok, Err, length, arith}
+use Rattle.std.proofs.Common.{◌≡◌, ◌⊎◌, inl, inr, refl, sym, ap, ◌∙◌, Bool, true, false, Ok, Err, length, arith}
 use Rattle.sk_resp.specs.Request.{Command as Words}
 use Rattle.sk_resp.specs.declared.name.Name.{Name}
 use Rattle.sk_cmd.specs.Counts.{IsZero, IsOne, IsTwo, IsThree, IsFour, IsSome, IsOneAnd, IsTwoAnd, IsThreeAnd, IsFiveAnd}

@@ -1,5 +1,5 @@
 -- One argument: what it is read as, or why it isn't.
-use Rattle.std.specs.Prelude.{◌≡◌, ◌++◌, ◌==◌, ℕ, ℤ, pos, int_lt, List, [], ◌∷◌, Option, Some, None, Result, Ok, Err, MatchResult, MatchOption, codes, Bool, true, false}
+use Rattle.std.specs.Prelude.{◌≡◌, ◌++◌, ◌==◌, ℤ, pos, int_lt, List, [], ◌∷◌, Option, Some, None, Result, Ok, Err, MatchResult, MatchOption, codes}
 use Rattle.std.specs.Bool.{MatchBool}
 use Rattle.std.specs.Str.{str_eq_ignore_ascii_case, bytes_eq}
 use Rattle.sk_base.specs.Score.{IsScore}

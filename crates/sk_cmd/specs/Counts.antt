@@ -1,5 +1,5 @@
 -- How many words follow a command's name.
-use Rattle.std.specs.Prelude.{◌≡◌, ◌≢◌, ◌<◌, ◌≤◌, ◌⊎◌, ◌%◌, ◌==◌, ◌&&◌, ◌||◌, nat_le, ℕ, List, [], ◌∷◌, length, Option, Some, None, Result, Ok, Err, Bool, true, false}
+use Rattle.std.specs.Prelude.{◌≡◌, ◌≢◌, ◌<◌, ◌≤◌, ◌⊎◌, ◌%◌, ◌==◌, ◌&&◌, ◌||◌, nat_le, ℕ, [], ◌∷◌, length, Ok, Err, Bool, true, false}
 use Rattle.sk_resp.specs.Spelling.{Bytes}
 use Rattle.sk_resp.specs.Request.{Command as Words}
 use Rattle.sk_resp.specs.declared.name.Name.{Name}

@@ -1,5 +1,5 @@
 -- Options: in any order, each at most once, read word by word from left to right.
-use Rattle.std.specs.Prelude.{◌≡◌, ℤ, List, [], ◌∷◌, Option, Some, None, is_some, Result, Ok, Err, codes, Bool, true, false}
+use Rattle.std.specs.Prelude.{◌≡◌, [], ◌∷◌, Some, None, is_some, Ok, Err, codes, Bool, true, false}
 use Rattle.std.specs.Bool.{MatchBool}
 use Rattle.sk_resp.specs.Spelling.{Bytes}
 use Rattle.sk_resp.specs.Request.{Command as Words}

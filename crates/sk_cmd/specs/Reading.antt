@@ -1,5 +1,5 @@
 -- What reading a command, or a part of it, comes to.
-use Rattle.std.specs.Prelude.{◌≡◌, ◌⊎◌, List, Result, Ok, Err, MatchResult}
+use Rattle.std.specs.Prelude.{◌≡◌, ◌⊎◌, Result, Err, MatchResult}
 use Rattle.sk_cmd.specs.declared.cmd_fault.CmdFault.{CmdFault}
 use Rattle.sk_cmd.specs.declared.cmd_fault.CmdFault.TheVariants as fault
 

@@ -1,5 +1,5 @@
 -- The table of commands: what follows each name, one line a command. A line says how many words there are, what each of them is, and the command.
-use Rattle.std.specs.Prelude.{◌≡◌, ℕ, ℤ, nat_le, ◌&&◌, List, [], ◌∷◌, length, Option, Some, None, Result, Ok, Err, MatchOption, IsTrue}
+use Rattle.std.specs.Prelude.{◌≡◌, ℤ, nat_le, ◌&&◌, [], ◌∷◌, length, Option, Some, None, Ok, Err, MatchOption, IsTrue}
 use Rattle.std.specs.Bool.{MatchBool}
 use Rattle.std.specs.Str.{str_eq_ignore_ascii_case}
 use Rattle.sk_resp.specs.Spelling.{Bytes}

@@ -1,4 +1,4 @@
-use Rattle.std.proofs.Common.{◌≡◌, [], ℕ, List, ◌∷◌, ◌++◌, subst, sym, ◌∙◌, ap}
+use Rattle.std.proofs.Common.{◌∷◌, subst, sym, ◌∙◌, ap}
 use Rattle.sk_cmd.specs.Arguments.{IsPairs}
 use Rattle.sk_cmd.proofs.pairs.read_pairs.Goals as goal
 

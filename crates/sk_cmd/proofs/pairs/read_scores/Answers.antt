@@ -1,4 +1,4 @@
-use Rattle.std.proofs.Common.{◌≡◌, [], ℕ, List, ◌∷◌, ◌++◌, subst, sym, ◌∙◌, ap, Ok}
+use Rattle.std.proofs.Common.{◌∷◌, subst, sym, ◌∙◌, ap, Ok}
 use Rattle.sk_cmd.specs.Arguments.{IsScoreText}
 use Rattle.sk_cmd.specs.Arguments.{IsScores}
 use Rattle.sk_cmd.proofs.pairs.read_scores.Goals as goal

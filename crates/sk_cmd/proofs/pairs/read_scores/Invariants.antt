@@ -1,4 +1,4 @@
-use Rattle.std.proofs.Common.{◌≡◌, [], ℕ, List, length}
+use Rattle.std.proofs.Common.{[], List, length}
 use Rattle.std.specs.Prelude.{ℤ}
 use Rattle.sk_resp.specs.Spelling.{Bytes}
 use Rattle.sk_cmd.specs.Reading.{Read}
