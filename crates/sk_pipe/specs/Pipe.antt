@@ -1,5 +1,5 @@
 -- What a pipe has written when it ends, of the bytes that it took.
-use Rattle.std.specs.Prelude.{◌≡◌, ◌≢◌, ◌⊎◌, ◌≤◌, ◌^◌, ◌++◌, List, [], length, map, Option, IfSome, Bool, true, false}
+use Rattle.std.specs.Prelude.{◌≡◌, ◌≢◌, ◌⊎◌, ℕ, ◌<◌, ◌≤◌, ◌+◌, ◌^◌, ◌++◌, List, [], length, map, Option, IfSome, Bool, true, false}
 use Rattle.sk_base.specs.Outside.{Gives, Takes, IsFront}
 use Rattle.sk_resp.specs.Spelling.{Bytes, joined}
 use Rattle.sk_resp.specs.Request.{Command}
@@ -55,6 +55,10 @@ Finishes old bytes left new written = (commands : List Command) × Reads bytes c
 abbrev pub Quits : State → Bytes → State → Bytes → Type 0
 Quits old bytes new written = (commands : List Command) × ((rest : Bytes) × Opens bytes commands rest × Serves true old commands new written)
 
+-- The budget of bytes is spent, with the piece that was last: 2^40 bytes, and less than 65,536 more.
+abbrev pub IsSpent : ℕ → Type 0
+IsSpent count = (2 ^ 40 ≤ count) × (count < 2 ^ 40 + 65536)
+
 -- The pipe began at the old state, took these bytes, wrote these, and ended so, at the new state; this is what the source had left then. Only at Done has an
 -- accepted QUIT or SHUTDOWN ended the pipe. At WriteFault and Memory the last command that was done may be one, whose reply failed.
 abbrev pub Ends : State → PipeEnd → Bytes → Option Bytes → State → Bytes → Type 0
@@ -62,7 +66,7 @@ Ends old Done bytes left new written = Finishes old bytes left new written ⊎ Q
 Ends old Cut bytes left new written = (commands : List Command) × ((rest : Bytes) × (rest ≢ []) × Reads bytes commands rest × Serves false old commands new written × IsAtEnd left)
 Ends old Wire bytes left new written = (commands : List Command) × ((fault : WireFault) × Faulty bytes commands fault × Refuses old commands fault new written)
 Ends old ReadFault bytes left new written = (commands : List Command) × ((rest : Bytes) × Reads bytes commands rest × Serves false old commands new written)
-Ends old Budget bytes left new written = (commands : List Command) × ((rest : Bytes) × Reads bytes commands rest × Serves false old commands new written × (2 ^ 40 ≤ length bytes))
+Ends old Budget bytes left new written = (commands : List Command) × ((rest : Bytes) × Reads bytes commands rest × Serves false old commands new written × IsSpent (length bytes))
 Ends old WriteFault bytes left new written = DueFront old bytes new written
 Ends old Memory bytes left new written = DueFront old bytes new written
 

@@ -24,6 +24,10 @@ status_of Budget = 9
 abbrev pub IsPipeLine : List Bytes → Type 0
 IsPipeLine words = words ≡ codes "pipe" ∷ []
 
+-- how much the store of the program takes: 4,000,000 rows, 2^31 bytes of their texts, and 1,000,000 batches
+abbrev pub shipped : Limits
+shipped = record { rows = 4000000; bytes = 2 ^ 31; batches = 1000000 }
+
 -- A pipe from the source to the sink, over a store with these limits, ended so. The functions are what source and sink tell, and their counts of faults.
 pub record IsPiped {S K : Type 0} (limits : Limits) (left : S → Option Bytes) (reads : S → ℕ) (taken : K → Option Bytes) (writes : K → ℕ) (source source' : S) (sink sink' : K) (end : PipeEnd) : Type 0 where
   -- the source gave some bytes, and the sink took what these call for

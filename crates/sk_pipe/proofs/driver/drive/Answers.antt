@@ -22,6 +22,7 @@ loop-count-init g c = record {
       ),
     ),
   );
+  spent = lit< tt;
   sound = rw c.new-feeder.ensures refl;
   source_count = omega arith;
   sink_count = omega arith;
@@ -80,6 +81,7 @@ loop-count-preserved g c =
           ),
         ),
       );
+      spent = omega (arith, length-take c.in-Ok.n c.read.new.buf, c.in-Ok.ensures.within, c.read.auto.buf, c.while-count.true);
       sound = on.0;
       source_count = omega (arith, c.in-Ok.ensures.cause.later);
       sink_count = omega (arith, c.in-Ok-pass.ensures.later);
