@@ -1,0 +1,306 @@
+#!/usr/bin/env python3
+"""Checks what the documents say against the tree, and prints a line for each check. Status 1 where one fails.
+
+    docs.py            check
+    docs.py --write    first bring the counted blocks of docs/PROVED.md up to date
+
+The checks, in order:
+- map         docs/CODE.md names every file of each crate's src/ and specs/, and no other.
+- statement   The list in docs/PROVED.md of the files that the headline's meaning needs, with their lines, is what is counted.
+- edits       So is its table of must-fail edits.
+- contracts   Each row `definition` | `file` of a document's table names a file that has the word.
+- links       Each relative link of a document leads somewhere.
+- citations   No file of the repository cites a numbered paper.
+- lines       No line of a document is longer than 150 characters.
+- clauses     How many clauses in src/ are longer than 150 characters. (It is told, and fails nothing.)
+"""
+import re
+import subprocess
+import sys
+from pathlib import Path
+
+TOP = Path(__file__).resolve().parent.parent
+CRATES = TOP / 'crates'
+LONGEST = 150
+DOCUMENTS = [TOP / 'README.md', *sorted((TOP / 'docs').glob('*.md'))]
+PROVED, CODE = TOP / 'docs' / 'PROVED.md', TOP / 'docs' / 'CODE.md'
+
+# The top call, whose contract is the headline.
+HEADLINE = CRATES / 'sk_pipe' / 'src' / 'command_line.rt'
+
+
+def text_of(path):
+    return path.read_text(encoding='utf-8') if path.is_file() else ''
+
+
+def short(path):
+    return str(path.relative_to(TOP))
+
+
+def crate_names():
+    lines = (it.split(':')[0].split() for it in text_of(TOP / 'crates.txt').splitlines() if not it.startswith('#'))
+    return [it[0] for it in lines if it]
+
+
+def tracked():
+    """The repository's files, or, where there is no git, all but what was built."""
+    try:
+        said = subprocess.run(['git', 'ls-files', '-co', '--exclude-standard'], cwd=TOP, capture_output=True, text=True, check=True).stdout
+        found = [TOP / it for it in said.splitlines()]
+    except (OSError, subprocess.CalledProcessError):
+        found = [it for it in TOP.rglob('*') if '.git' not in it.parts and 'out' not in it.parts]
+    return [it for it in found if it.is_file()]
+
+
+# ---------------------------------------------------------------------------------------------
+# The map
+
+UNNAMED = {'src/lib.rt', 'src/tests.rt', 'specs/Lib.antt'}     # a crate's root, its tests, and the list of its specs
+
+
+def sections(text):
+    """The crates' sections of the map: name to text."""
+    parts = re.split(r'(?m)^## (\w+)[^\n]*\n', text)
+    return {name: body for name, body in zip(parts[1::2], parts[2::2]) if (CRATES / name).is_dir()}
+
+
+def files_in(crate, *parts):
+    found = (it for part in parts for it in (CRATES / crate / part).rglob('*') if it.suffix in ('.rt', '.antt'))
+    return {str(it.relative_to(CRATES / crate)) for it in found}
+
+
+def named_in(body, files):
+    """Which of the files the backticked words name, and which words name none: a path, or the name alone of a file that is deeper in src/."""
+    named, lost = set(), []
+    for word in re.findall(r'`([\w/*]+\.(?:rt|antt))`', body):
+        pattern = re.compile(re.escape(word).replace(r'\*', r'\w*') + '$')
+        found = {it for it in files if pattern.match(it) or ('/' not in word and it.count('/') > 1 and pattern.match(it.split('/')[-1]))}
+        named |= found
+        lost += [word] * (not found)
+    return named, lost
+
+
+def check_map():
+    wrong, bodies, count = [], sections(text_of(CODE)), 0
+    for crate in crate_names():
+        if crate not in bodies:
+            wrong.append('docs/CODE.md has no section "## %s"' % crate)
+            continue
+        files = files_in(crate, 'src', 'specs')
+        named, lost = named_in(bodies[crate], files | files_in(crate, 'proofs'))
+        missing = {it for it in files - named if it not in UNNAMED and not it.endswith('/tests.rt')}
+        count += len(files)
+        wrong += ['docs/CODE.md, %s: %s is not named' % (crate, it) for it in sorted(missing)]
+        wrong += ['docs/CODE.md, %s: there is no %s' % (crate, it) for it in lost]
+    return wrong, '%d files of %d crates' % (count, len(crate_names()))
+
+
+# ---------------------------------------------------------------------------------------------
+# Blocks of docs/PROVED.md that are counted: between `<!-- counted: NAME -->` and `<!-- end -->`
+
+BLOCK = r'(?s)(<!-- counted: %s -->\n)(.*?)(<!-- end -->)'
+
+
+def imports(text):
+    """What the use lines of a file name: (crate, module of specs/), and (crate, path of a file of src/, name of a type)."""
+    specs, types = set(), set()
+    for crate, path in re.findall(r'\buse Rattle\.(\w+)\.specs\.([\w.]+)', text):
+        words = path.rstrip('.').split('.')
+        if words[0] != 'declared':
+            specs.add((crate, words[0]))
+        else:
+            at = next((i for i, it in enumerate(words) if it[0].isupper()), None)
+            if at:
+                types.add((crate, '/'.join(words[1:at]), words[at]))
+    return specs, types
+
+
+def statement():
+    """The specs that the contract of the top call names, and those that these name, with the types: two sets of paths and names."""
+    specs, types, left = set(), set(), [HEADLINE]
+    while left:
+        more, declared = imports(text_of(left.pop()))
+        types |= {it for it in declared if (CRATES / it[0]).is_dir()}
+        for crate, module in more:
+            path = CRATES / crate / 'specs' / (module + '.antt')
+            if path.is_file() and path not in specs:
+                specs.add(path)
+                left.append(path)
+    return specs, types
+
+
+def lines_of(path):
+    """How many lines of a spec define something: no blank ones, and none that import."""
+    text = re.sub(r'(?m)^(?:pub )?use [^\n{]*(?:\{[^}]*\})?[^\n]*\n', '', text_of(path))
+    return sum(1 for it in text.splitlines() if it.strip())
+
+
+def counted_statement():
+    specs, types = statement()
+    rows = []
+    for crate in crate_names():
+        files = sorted(it for it in specs if it.parts[-3] == crate)
+        if files:
+            rows.append('| `%s` | %s | %d |' % (crate, ', '.join(it.stem for it in files), sum(map(lines_of, files))))
+    total = sum(map(lines_of, specs))
+    head = ['%d files with %s lines (imports and blank lines left out), some %d pages of 60 lines, and %d types of `src/`:'
+            % (len(specs), format(total, ','), -(-total // 60), len(types)), '', '| Crate | Files of `specs/` | Lines |', '|---|---|---|']
+    return '\n'.join([*head, *rows, '']), '%d files, %s lines' % (len(specs), format(total, ','))
+
+
+def edits_of(crate):
+    return len(list((CRATES / crate / 'must-fail').glob('*.edit')))
+
+
+def counted_edits():
+    counts = {it: edits_of(it) for it in crate_names() if edits_of(it)}
+    told = ', '.join('`%s` %d' % it for it in counts.items())
+    lines, line = [], ''
+    for word in ('%d in %d crates: %s.' % (sum(counts.values()), len(counts), told)).split(' '):
+        if len(line) + len(word) >= LONGEST - 10:
+            lines, line = [*lines, line], ''
+        line = (line + ' ' + word).strip()
+    return '\n'.join([*lines, line, '']), '%d edits' % sum(counts.values())
+
+
+COUNTED = {'statement': counted_statement, 'edits': counted_edits}
+
+
+def wrapped(text):
+    """The same table with rows below the longest line, the files of a long row in two."""
+    out = []
+    for line in text.splitlines():
+        cells = [it.strip() for it in line.strip('|').split('|')] if line.startswith('| `') else []
+        while cells and len(line) > LONGEST:
+            at = cells[1].rfind(', ', 0, LONGEST - 40)
+            out.append('| %s | %s, | |' % (cells[0], cells[1][:at]))
+            cells = ['', cells[1][at + 2:], cells[2]]
+            line = '| %s | %s | %s |' % tuple(cells)
+        out.append(line)
+    return '\n'.join(out) + '\n'
+
+
+def check_counted(name):
+    made, summary = COUNTED[name]()
+    found = re.search(BLOCK % name, text_of(PROVED))
+    if not found:
+        return ['docs/PROVED.md has no block "counted: %s"' % name], summary
+    return ['docs/PROVED.md: what is counted of "%s" has changed: run .ci/docs.py --write' % name] * (found[2] != wrapped(made)), summary
+
+
+def write():
+    text = text_of(PROVED)
+    for name, call in COUNTED.items():
+        text = re.sub(BLOCK % name, lambda it: it[1] + wrapped(call()[0]) + it[3], text)
+    PROVED.write_text(text, encoding='utf-8')
+
+
+# ---------------------------------------------------------------------------------------------
+# Rows that name a definition and its file, links, citations, lengths
+
+
+def stands(word, text):
+    """Whether a file has the word: of `Type::function` both, of a name the whole word, and anything else as it is written."""
+    call = re.fullmatch(r'([A-Z]\w*)::([a-z]\w*)', word)
+    if call:
+        return call[1] in text and bool(re.search(r'\bfn %s\b' % call[2], text))
+    return bool(re.search(r'\b%s\b' % word, text)) if re.fullmatch(r'\w+', word) else word in text
+
+
+def check_contracts():
+    """A table row whose last cell is files, and whose cell before it has words: each word stands in one of the files."""
+    wrong, count = [], 0
+    for document in DOCUMENTS:
+        for line in text_of(document).splitlines():
+            cells = [it.strip() for it in re.split(r'(?<!\\)\|', line)[1:-1]] if line.startswith('|') else []
+            paths = re.findall(r'`(sk_\w+/[\w/]+\.(?:rt|antt))`', cells[-1]) if len(cells) > 1 else []
+            if not paths:
+                continue
+            texts = [text_of(CRATES / it) for it in paths]
+            wrong += ['%s: there is no crates/%s' % (short(document), it) for it, text in zip(paths, texts) if not text]
+            for word in re.findall(r'`([^`]+)`', cells[-2]):
+                count += 1
+                if not any(stands(word, it) for it in texts):
+                    wrong.append('%s: `%s` is not in %s' % (short(document), word, ', '.join(paths)))
+    return wrong, '%d words' % count
+
+
+def check_links():
+    wrong, count = [], 0
+    for document in DOCUMENTS:
+        for link in re.findall(r'\]\(([^)#:]+)(?:#[^)]*)?\)', text_of(document)):
+            count += 1
+            if not (document.parent / link).exists():
+                wrong.append('%s: the link %s leads nowhere' % (short(document), link))
+    return wrong, '%d links' % count
+
+
+CITATION = re.compile(r'\b(?:D\d{1,2}|T\d\.\d|[RSW]\d{1,2})\b|\bdocument 0\d\b', re.ASCII)
+NO_CITATION = re.compile(r'RFC \d+|RESP[23]|ISO 8601')
+
+
+def check_citations():
+    wrong, files = [], [it for it in tracked() if it != Path(__file__).resolve()]
+    for path in files:
+        try:
+            text = text_of(path)
+        except UnicodeDecodeError:
+            continue
+        for number, line in enumerate(text.splitlines(), 1):
+            found = CITATION.search(NO_CITATION.sub('', line))
+            if found:
+                wrong.append('%s:%d cites %s' % (short(path), number, found[0]))
+    return wrong, '%d files' % len(files)
+
+
+def check_lines():
+    wrong = ['%s:%d has %d characters' % (short(it), number, len(line)) for it in DOCUMENTS
+             for number, line in enumerate(prose(text_of(it)), 1) if len(line) > LONGEST]
+    return wrong, '%d documents' % len(DOCUMENTS)
+
+
+def prose(text):
+    """The lines of a document, those of its code blocks blank."""
+    is_code = False
+    for line in text.splitlines():
+        is_code ^= line.startswith('```')
+        yield '' if is_code else line
+
+
+def check_clauses():
+    clause = re.compile(r'\s*(?:requires|ensures|invariant|decreases|×|→|⊎|\()')
+    files = [it for crate in crate_names() for it in (CRATES / crate / 'src').rglob('*.rt')]
+    long = sum(1 for it in files for line in text_of(it).splitlines() if len(line) > LONGEST and clause.match(line))
+    return [], '%d clauses are longer than %d characters' % (long, LONGEST)
+
+
+CHECKS = {
+    'map': check_map,
+    'statement': lambda: check_counted('statement'),
+    'edits': lambda: check_counted('edits'),
+    'contracts': check_contracts,
+    'links': check_links,
+    'citations': check_citations,
+    'lines': check_lines,
+    'clauses': check_clauses,
+}
+
+
+def main(words):
+    if words not in ([], ['--write']):
+        print(__doc__.strip())
+        return 2
+    if words:
+        write()
+    failed = False
+    for name, check in CHECKS.items():
+        wrong, summary = check()
+        for it in wrong:
+            print('docs: %s' % it)
+        print('docs: %s: %s (%s)' % (name, 'FAILED, %d' % len(wrong) if wrong else 'ok', summary))
+        failed = failed or bool(wrong)
+    return int(failed)
+
+
+if __name__ == '__main__':
+    sys.exit(main(sys.argv[1:]))
