@@ -3,6 +3,7 @@
 
     docs.py            check
     docs.py --write    first bring the counted blocks of docs/PROVED.md up to date
+    docs.py --clauses  print the clauses that are too long
 
 The checks, in order:
 - map         docs/CODE.md names every file of each crate's src/ and specs/, and no other.
@@ -10,6 +11,7 @@ The checks, in order:
 - edits       So is its table of must-fail edits.
 - contracts   Each row `definition` | `file` of a document's table names a file that has the word.
 - links       Each relative link of a document leads somewhere.
+- toolchain   docs/PROVED.md names the toolchain by what `rt version` prints, where there is one.
 - citations   No file of the repository cites a numbered paper.
 - lines       No line of a document is longer than 150 characters.
 - clauses     How many clauses in src/ are longer than 150 characters. (It is told, and fails nothing.)
@@ -235,6 +237,14 @@ def check_links():
     return wrong, '%d links' % count
 
 
+def check_toolchain():
+    try:
+        version = subprocess.run(['rt', 'version'], capture_output=True, text=True, check=True).stdout.strip()
+    except (OSError, subprocess.CalledProcessError):
+        return [], 'no rt here'
+    return ['docs/PROVED.md names another toolchain than %s' % version] * (version not in text_of(PROVED)), version
+
+
 CITATION = re.compile(r'\b(?:D\d{1,2}|T\d\.\d|[RSW]\d{1,2})\b|\bdocument 0\d\b', re.ASCII)
 NO_CITATION = re.compile(r'RFC \d+|RESP[23]|ISO 8601')
 
@@ -267,11 +277,17 @@ def prose(text):
         yield '' if is_code else line
 
 
+CLAUSE = re.compile(r'\s*(?:requires|ensures|invariant|decreases|×|→|⊎|\()')
+
+
+def long_clauses():
+    files = [it for crate in crate_names() for it in sorted((CRATES / crate / 'src').rglob('*.rt'))]
+    return ['%s:%d has %d characters' % (short(it), number, len(line)) for it in files
+            for number, line in enumerate(text_of(it).splitlines(), 1) if len(line) > LONGEST and CLAUSE.match(line)]
+
+
 def check_clauses():
-    clause = re.compile(r'\s*(?:requires|ensures|invariant|decreases|×|→|⊎|\()')
-    files = [it for crate in crate_names() for it in (CRATES / crate / 'src').rglob('*.rt')]
-    long = sum(1 for it in files for line in text_of(it).splitlines() if len(line) > LONGEST and clause.match(line))
-    return [], '%d clauses are longer than %d characters' % (long, LONGEST)
+    return [], '%d clauses are longer than %d characters' % (len(long_clauses()), LONGEST)
 
 
 CHECKS = {
@@ -280,6 +296,7 @@ CHECKS = {
     'edits': lambda: check_counted('edits'),
     'contracts': check_contracts,
     'links': check_links,
+    'toolchain': check_toolchain,
     'citations': check_citations,
     'lines': check_lines,
     'clauses': check_clauses,
@@ -287,10 +304,13 @@ CHECKS = {
 
 
 def main(words):
-    if words not in ([], ['--write']):
+    if words not in ([], ['--write'], ['--clauses']):
         print(__doc__.strip())
         return 2
-    if words:
+    if words == ['--clauses']:
+        print('\n'.join(long_clauses()))
+        return 0
+    if words == ['--write']:
         write()
     failed = False
     for name, check in CHECKS.items():
