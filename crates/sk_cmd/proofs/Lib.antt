@@ -1,10 +1,10 @@
 mod Agree
 mod AgreeCounts
 pub mod AgreeArguments
-mod Names
+pub mod Names
 pub mod AgreeTable
 mod Exists
 mod ExistsCounts
-mod ExistsNumbers
+pub mod ExistsNumbers
 mod ExistsArguments
 pub mod ExistsTable
