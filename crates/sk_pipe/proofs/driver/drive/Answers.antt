@@ -1,4 +1,4 @@
-use Rattle.std.proofs.Common.{◌++◌, [], take, refl, ap, arith, subst, Ok, false, length-append, length-take}
+use Rattle.std.proofs.Common.{◌++◌, [], take, refl, ap, arith, subst, Ok, false, length-append, length-take, lit<}
 use Rattle.sk_base.specs.Outside.{Gives}
 use Rattle.sk_base.proofs.OutsideLaws.{gives_nothing, takes_nothing, gives_no_more, gives_more, takes_more}
 use Rattle.sk_resp.proofs.Readings.{reads_on}
@@ -81,7 +81,7 @@ loop-count-preserved g c =
           ),
         ),
       );
-      spent = omega (arith, length-take c.in-Ok.n c.read.new.buf, c.in-Ok.ensures.within, c.read.auto.buf, c.while-count.true);
+      spent = omega (arith, length-take c.in-Ok.n c.read.new.buf, c.in-Ok.ensures.within, c.read.auto.buf, c.loop-count-test.true);
       sound = on.0;
       source_count = omega (arith, c.in-Ok.ensures.cause.later);
       sink_count = omega (arith, c.in-Ok-pass.ensures.later);
