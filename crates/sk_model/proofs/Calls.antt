@@ -49,7 +49,7 @@ called_retagged : (kind k : Kind) (x b : Bytes) (bs : List BatchEntry) → callb
 called_retagged kind k x b [] = refl
 called_retagged kind k x b (e ∷ es) = grind (arith, called_retagged kind k x b es)
 
-all_called_after : (s : Batched) (x : Bytes) (k : Kind) (fs : List Firing) → AllCalled s fs → AllCalled (after_fire x k s) fs
+pub all_called_after : (s : Batched) (x : Bytes) (k : Kind) (fs : List Firing) → AllCalled s fs → AllCalled (after_fire x k s) fs
 all_called_after s x k [] a = tt
 all_called_after s x k (f ∷ fs) a = (called_retagged f.kind k x f.bid s.batches ∙ a.0, all_called_after s x k fs a.1)
 

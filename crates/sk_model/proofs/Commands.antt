@@ -1,9 +1,10 @@
 -- The changes of each command are good.
 use Rattle.std.proofs.Common.{◌≡◌, ◌≤◌, ℕ, zero, suc, List, [], ◌∷◌, ◌++◌, refl, sym, subst, inl, inr, arith, Bool, true, false, cond, ◌&&◌, ◌||◌}
-use Rattle.std.specs.Prelude.{nat_abs, pos, Option, Some, None, map}
+use Rattle.std.specs.Prelude.{nat_abs, pos, Option, Some, None, Ok, Err, map}
 use Rattle.std.specs.List.{list_all}
 use Rattle.sk_resp.specs.Spelling.{Bytes}
 use Rattle.sk_cmd.specs.declared.argument.Side.{Side}
+use Rattle.sk_cmd.specs.Reading.{Read}
 use Rattle.sk_cmd.specs.declared.command.Command.{Command}
 use Rattle.sk_cmd.specs.declared.command.Command.TheVariants as command
 use Rattle.sk_cmd.specs.declared.command.PlainCommand.{PlainCommand}
@@ -33,8 +34,7 @@ use Rattle.sk_places.specs.Rows.{copies_of, end_taken}
 use Rattle.sk_model.specs.Deletes.{take_all, delete_as, delete_each, delete, may_go, flush}
 use Rattle.sk_model.specs.Outcome.{Outcome}
 use Rattle.sk_model.specs.Life.{IsSound}
-use Rattle.sk_model.specs.Reading.{Words, Said, Refused, Sets, Sits, Cuts, Asks}
-use Rattle.sk_model.specs.Run.{State, Turn, ComesTo, Speaks, turn}
+use Rattle.sk_model.specs.Event.{Event, Ask, Cut, Gives, Happens}
 use Rattle.sk_model.specs.Room.{is_full}
 use Rattle.sk_model.specs.Seats.{is_workers, is_for_all}
 use Rattle.sk_model.specs.Step.{Steps, act, by_seat, cut, run, is_script_built, edits, edit_queue, edit_names, on_plain, moves, outcome}
@@ -215,20 +215,14 @@ step_sound w seat now c o (inr (may, e)) s = subst (λ (u : Outcome). IsSound (p
 pub cut_sound : (w : World) (seat : ℕ) → IsSound w → IsSound (perform w (cut seat).changes)
 cut_sound w seat s = (good_turn w seat Plain tt).lawful.keeps.sound s
 
--- ## Words
+-- ## Events
 
-turn_lawful : (s : State) (said : Said) → Lawful s.world (turn s said).changes
-turn_lawful s (Refused say) = (good_nothing s.world).lawful
-turn_lawful s (Sets now) = (good_nothing s.world).lawful
-turn_lawful s (Sits seat) = (good_nothing s.world).lawful
-turn_lawful s (Cuts seat) = (good_turn s.world seat Plain tt).lawful
-turn_lawful s (Asks c) = outcome_lawful s.world s.seat s.now c
+gives_lawful : (w : World) (seat now : ℕ) (r : Read Command) (o : Outcome) → Gives w seat now r o → Lawful w o.changes
+gives_lawful w seat now (Ok c) o (inl e) = subst (λ (u : Outcome). Lawful w u.changes) (sym e) (outcome_lawful w seat now c)
+gives_lawful w seat now (Ok c) o (inr (may, e)) = subst (λ (u : Outcome). Lawful w u.changes) (sym e) (good_passes w now).lawful
+gives_lawful w seat now (Err fault) o e = subst (λ (u : Outcome). Lawful w u.changes) (sym e) (good_nothing w).lawful
 
-comes_lawful : (s : State) (said : Said) (t : Turn) → ComesTo s said t → Lawful s.world t.changes
-comes_lawful s said t (inl e) = subst (λ (u : Turn). Lawful s.world u.changes) (sym e) (turn_lawful s said)
-comes_lawful s said t (inr (may, e)) = subst (λ (u : Turn). Lawful s.world u.changes) (sym e) (good_passes s.world s.now).lawful
-
--- whatever words come, and wherever memory runs out
-pub lawful : (s : State) (words : Words) (t : Turn) → Speaks s words t → Lawful s.world t.changes
-lawful s words t (inl (said, is, comes)) = comes_lawful s said t comes
-lawful s words t (inr (memory, e)) = subst (λ (u : Turn). Lawful s.world u.changes) (sym e) (good_nothing s.world).lawful
+-- whatever event comes, and wherever memory runs out
+pub lawful : (w : World) (event : Event) (o : Outcome) → Happens w event o → Lawful w o.changes
+lawful w (Ask seat now words) o (r, is, gives) = gives_lawful w seat now r o gives
+lawful w (Cut seat) o e = subst (λ (u : Outcome). Lawful w u.changes) (sym e) (good_turn w seat Plain tt).lawful

@@ -24,6 +24,10 @@ pub mod Making
 pub mod Commands
 pub mod Runs
 pub mod Firing
+pub mod Causing
+pub mod Caused
+pub mod Reliable
+pub mod Starving
 pub mod Running
 pub mod Readings
 mod Worked

@@ -130,7 +130,7 @@ module _ (s : Batched) (batch : Batch) (jids : List Bytes) (new : is_there batch
       grind (arith, bytes_tell, after, none, before)
 
   -- its firings have its callbacks
-  made_called : AllCalled v fs
+  pub made_called : AllCalled v fs
   made_called = by_jids jids where
     own : (kind : Kind) → called kind batch.bid v ≡ callback kind batch.callbacks
     own kind = grind (arith, bytes_tell)
@@ -155,7 +155,7 @@ joined_leads s x jids takes = record {
 
 -- ## The jobs are pushed
 
-jobs_quiet : (texts : List Bytes) → all_quiet (push_jobs texts) ≡ true
+pub jobs_quiet : (texts : List Bytes) → all_quiet (push_jobs texts) ≡ true
 jobs_quiet [] = refl
 jobs_quiet (text ∷ texts) = quiet-append (push_job Outside text) (push_jobs texts) (job_quiet Outside text) (jobs_quiet texts)
 
@@ -254,7 +254,7 @@ fault_or : (w : World) (fault : Option BatchFault) (o : Outcome) → (fault ≡ 
 fault_or w None o f = f refl
 fault_or w (Some fault) o f = (good_nothing w).lawful
 
-bid_clear : (bid : Bytes) (parent : Option Bytes) (s : Batched) → bid_fault bid parent s None ≡ None → (is_there bid s.batches ≡ false) × ParentTakes s parent
+pub bid_clear : (bid : Bytes) (parent : Option Bytes) (s : Batched) → bid_fault bid parent s None ≡ None → (is_there bid s.batches ≡ false) × ParentTakes s parent
 bid_clear bid None s e = (grind (arith, e), tt)
 bid_clear bid (Some p) s e = (grind (arith, e), (grind (arith, e), grind (arith, e)))
 

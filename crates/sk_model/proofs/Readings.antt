@@ -1,12 +1,15 @@
--- The words of a command are read in one way.
-use Rattle.std.proofs.Common.{◌≡◌, [], ◌∷◌, sym, ap, ◌∙◌, Bool, true, false}
+-- The words of a command are read in one way, and there is one.
+use Rattle.std.proofs.Common.{◌≡◌, [], ◌∷◌, refl, sym, ap, ◌∙◌, Bool, true, false}
 use Rattle.std.specs.Bool.{MatchBool}
 use Rattle.std.specs.Prelude.{ℤ, Option}
 use Rattle.sk_resp.specs.declared.name.Name.{Name}
 use Rattle.sk_resp.specs.declared.name.Name.TheVariants.{As, Now, Cut}
 use Rattle.sk_cmd.proofs.AgreeArguments.{int_same}
 use Rattle.sk_cmd.proofs.AgreeTable.{one_command}
-use Rattle.sk_model.specs.Reading.{Words, Said, Sits, Cuts, IsSaid, IsNumber, IsAsked, is_word, moment_said, seat_said, told}
+use Rattle.sk_cmd.proofs.ExistsNumbers.{int_exists}
+use Rattle.sk_cmd.proofs.ExistsTable.{some_command}
+use Rattle.sk_resp.specs.declared.say.Say.TheVariants as say
+use Rattle.sk_model.specs.Reading.{Words, Said, Refused, Sits, Cuts, IsSaid, IsNumber, IsAsked, SomeReading, is_word, moment_said, seat_said, told}
 
 asked_one : (words : Words) (a b : Said) → IsAsked words a → IsAsked words b → a ≡ b
 asked_one words a b p q = p.3 ∙ ap told (one_command words p.0 q.0 p.1 q.1 p.2 q.2) ∙ sym q.3
@@ -27,3 +30,23 @@ one_reading (word ∷ words) a b p q =
     either a b (is_word Now word) (number_one Now moment_said words a b)
     (λ p q. either a b (is_word As word) (number_one As (seat_said Sits) words a b)
     (λ p q. either a b (is_word Cut word) (number_one Cut (seat_said Cuts) words a b) (asked_one (word ∷ words) a b) p q) p q) p q
+
+-- ## There is one
+
+asked_exists : (words : Words) → (said : Said) × IsAsked words said
+asked_exists words = let c = some_command words in (told c.0, (c.0, c.1, c.2, refl))
+
+number_exists : (name : Name) (meant : Option ℤ → Said) (words : Words) → (said : Said) × IsNumber name meant words said
+number_exists name meant [] = (Refused (say.Arity name), refl)
+number_exists name meant (text ∷ []) = let n = int_exists text in (meant n.0, (n.0, n.1, refl))
+number_exists name meant (text ∷ more ∷ words) = (Refused (say.Arity name), refl)
+
+one_of : {P Q : Said → Type 0} (test : Bool) → (said : Said) × P said → (said : Said) × Q said → (said : Said) × MatchBool test (P said) (Q said)
+one_of true p q = p
+one_of false p q = q
+
+pub some_reading : SomeReading
+some_reading [] = asked_exists []
+some_reading (word ∷ words) =
+    one_of (is_word Now word) (number_exists Now moment_said words)
+    (one_of (is_word As word) (number_exists As (seat_said Sits) words) (one_of (is_word Cut word) (number_exists Cut (seat_said Cuts) words) (asked_exists (word ∷ words))))

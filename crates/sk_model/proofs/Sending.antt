@@ -92,7 +92,7 @@ row_at_place text row test rows e =
 
 -- ## All of a list
 
-all_own : {A : Type 0} (test : A → Bool) (xs : List A) → list_all test (filter test xs) ≡ true
+pub all_own : {A : Type 0} (test : A → Bool) (xs : List A) → list_all test (filter test xs) ≡ true
 all_own test [] = refl
 all_own test (x ∷ xs) = grind (arith, all_own test xs)
 
@@ -154,7 +154,7 @@ surplus_among w rows all among row =
     let n : ℕ = length young - most_dead in
     omega (arith, append_count (is_same row) (filter (is_old w) rows) (take n young), take_fewer (is_same row) n young, both_parts (is_same row) (is_old w) rows, among row)
 
-trims_quiet : (rows : List Row) → all_quiet (map (λ row. Moves (Trim row)) rows) ≡ true
+pub trims_quiet : (rows : List Row) → all_quiet (map (λ row. Moves (Trim row)) rows) ≡ true
 trims_quiet [] = refl
 trims_quiet (row ∷ rows) = trims_quiet rows
 
@@ -269,7 +269,7 @@ trims_keep w (row ∷ rows) other all alive =
     let rest : list_all (is_at (Set Dead)) rows ≡ true = grind (arith, all) in
     trims_keep (changed w (Moves (Trim row))) rows other rest alive ∙ count_apart other row w.rows (apart_by (is_at (Set Dead)) row other dead alive)
 
-surplus_dead : (w : World) (rows : List Row) → list_all (is_at (Set Dead)) rows ≡ true → list_all (is_at (Set Dead)) (surplus w rows) ≡ true
+pub surplus_dead : (w : World) (rows : List Row) → list_all (is_at (Set Dead)) rows ≡ true → list_all (is_at (Set Dead)) (surplus w rows) ≡ true
 surplus_dead w rows all =
     let young : List Row = filter (λ row. not (is_old w row)) rows in
     all_append (is_at (Set Dead)) (filter (is_old w) rows) (take (length young - most_dead) young)

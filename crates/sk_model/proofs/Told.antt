@@ -124,7 +124,7 @@ member_dies bid jid s b sane = by_member (is_member bid jid s.members) refl wher
 -- ## Callbacks
 
 -- each firing has the callback of its batch
-fires_called : (e : Event) (bid jid : Bytes) (s : Batched) → Sane s → AllCalled (marked (mark_of e) bid jid s) (fires_of e bid jid s)
+pub fires_called : (e : Event) (bid jid : Bytes) (s : Batched) → Sane s → AllCalled (marked (mark_of e) bid jid s) (fires_of e bid jid s)
 fires_called e bid jid s sane = by_member (is_member bid jid s.members) refl where
   later_called : (e : Event) → AllCalled (marked (mark_of e) bid jid s) (later_fires e bid jid s)
   later_called event.Reported = tt

@@ -143,7 +143,7 @@ put_keeps w seat ident held set pair newer = keeps_others w (put_back w set pair
     (put_as_keeps w set pair _ refl)
     (keeps_turn (changed w (put_back w set pair)) seat (Put ident held) (λ jid named. newer_stands w set pair _ held jid refl (newer jid named)))
 
-put_quiet : (set : Scored) (pair : Pair) (found : Option Row) (seat : ℕ) (phase : Phase) → all_quiet (put_as set pair found ∷ Turns seat phase ∷ []) ≡ true
+pub put_quiet : (set : Scored) (pair : Pair) (found : Option Row) (seat : ℕ) (phase : Phase) → all_quiet (put_as set pair found ∷ Turns seat phase ∷ []) ≡ true
 put_quiet set pair None seat phase = refl
 put_quiet set pair (Some row) seat phase = refl
 
@@ -169,7 +169,7 @@ following_is held [] pair e = absurd (cc e)
 following_is held (one ∷ []) pair e = let found = found_by (follows held one.1) one pair e in ap (λ (p : Pair). follows held p.1) (sym found.1) ∙ found.0
 following_is held (one ∷ other ∷ pairs) pair e = absurd (cc e)
 
-retried_follows : (held : Bytes) (a : Action) (pair : Pair) → retried held a ≡ Some pair → follows held pair.1 ≡ true
+pub retried_follows : (held : Bytes) (a : Action) (pair : Pair) → retried held a ≡ Some pair → follows held pair.1 ≡ true
 retried_follows held (action.Edit key change) pair e = following_is held (added_by change) pair e
 retried_follows held action.Ping pair e = absurd (cc e)
 retried_follows held (action.Echo text) pair e = absurd (cc e)

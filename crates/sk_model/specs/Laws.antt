@@ -1,4 +1,4 @@
--- What holds of every run.
+-- What holds of every run of events.
 use Rattle.std.specs.Prelude.{◌≡◌, ℕ, ◌+◌, List, [], ◌∷◌, Bool, true, ◌&&◌, cond}
 use Rattle.std.specs.List.{list_any}
 use Rattle.std.specs.Str.{bytes_eq}
@@ -9,28 +9,27 @@ use Rattle.sk_places.specs.declared.row.Row.{Row}
 use Rattle.sk_places.specs.Rows.{is_same, row_at}
 use Rattle.sk_model.specs.declared.phase.Phase.{Phase}
 use Rattle.sk_model.specs.declared.phase.Phase.TheVariants.{Plain, Idle, Held, Put, Settled}
-use Rattle.sk_model.specs.World.{World, phase_of}
-use Rattle.sk_model.specs.Change.{Add, Take, Trim, Merge, PutBack, Free, Change, Moves, changed, perform}
-use Rattle.sk_model.specs.Reading.{Words}
-use Rattle.sk_model.specs.Run.{Turn, Run, first}
+use Rattle.sk_model.specs.World.{World, first, phase_of}
+use Rattle.sk_model.specs.Change.{Add, Take, Trim, Merge, PutBack, Free, Change, Moves, changed}
+use Rattle.sk_model.specs.Event.{Run, Step, after}
 use Rattle.sk_model.specs.Life.{Life, Unborn, Kept, Balanced, Knows, is_distinct, life_through}
 
 -- ## Every live job stands
 
--- After each turn every live job is kept, where the jobs had these lives before.
-abbrev pub ConserveFrom : World → (Bytes → Life) → List Turn → Type 0
+-- After each step every live job is kept, where the jobs had these lives before.
+abbrev pub ConserveFrom : World → (Bytes → Life) → List Step → Type 0
 ConserveFrom w lives [] = Unit {0}
-ConserveFrom w lives (t ∷ turns) =
-    let now : Bytes → Life = λ jid. life_through w jid (lives jid) t.changes in
-    Kept (perform w t.changes) now × ConserveFrom (perform w t.changes) now turns
+ConserveFrom w lives (step ∷ steps) =
+    let now : Bytes → Life = λ jid. life_through w jid (lives jid) step.outcome.changes in
+    Kept (after w step) now × ConserveFrom (after w step) now steps
 
 -- It is so from the first world on, before which no job was born.
-abbrev pub LiveJobsStand : Limits → List Turn → Type 0
-LiveJobsStand limits turns = ConserveFrom (first limits).world (λ jid. Unborn) turns
+abbrev pub LiveJobsStand : Limits → List Step → Type 0
+LiveJobsStand limits steps = ConserveFrom (first limits) (λ jid. Unborn) steps
 
--- After every command of every run each live job stands, and is kept while a worker has it in its hands.
+-- After every step of every run each live job stands, and is kept while a worker has it in its hands.
 abbrev pub Conserve : Type 0
-Conserve = (limits : Limits) (commands : List Words) (turns : List Turn) → Run (first limits) commands turns → LiveJobsStand limits turns
+Conserve = (limits : Limits) (steps : List Step) → Run (first limits) steps → LiveJobsStand limits steps
 
 -- ## Every pushed row is accounted for
 
@@ -41,14 +40,14 @@ pub record Tallied (w : World) (lives : Bytes → Life) : Type 0 where
   pub once : is_distinct w.live ≡ true
   pub known : (jid : Bytes) → Knows w jid (lives jid)
 
-abbrev pub BalanceFrom : World → (Bytes → Life) → List Turn → Type 0
+abbrev pub BalanceFrom : World → (Bytes → Life) → List Step → Type 0
 BalanceFrom w lives [] = Unit {0}
-BalanceFrom w lives (t ∷ turns) =
-    let now : Bytes → Life = λ jid. life_through w jid (lives jid) t.changes in
-    Tallied (perform w t.changes) now × BalanceFrom (perform w t.changes) now turns
+BalanceFrom w lives (step ∷ steps) =
+    let now : Bytes → Life = λ jid. life_through w jid (lives jid) step.outcome.changes in
+    Tallied (after w step) now × BalanceFrom (after w step) now steps
 
 abbrev pub Balance : Type 0
-Balance = (limits : Limits) (commands : List Words) (turns : List Turn) → Run (first limits) commands turns → BalanceFrom (first limits).world (λ jid. Unborn) turns
+Balance = (limits : Limits) (steps : List Step) → Run (first limits) steps → BalanceFrom (first limits) (λ jid. Unborn) steps
 
 -- ## Every text stands as often as it was brought and not taken
 
@@ -97,13 +96,13 @@ abbrev pub taken : Bytes → World → List Change → ℕ
 taken text w [] = 0
 taken text w (change ∷ changes) = taken_by text w change + taken text (changed w change) changes
 
--- After each turn the rows of a text and those that were taken are together as many as were brought, where so many were brought and taken before.
-abbrev pub CopiesKeptFrom : World → (Bytes → ℕ) → (Bytes → ℕ) → List Turn → Type 0
+-- After each step the rows of a text and those that were taken are together as many as were brought, where so many were brought and taken before.
+abbrev pub CopiesKeptFrom : World → (Bytes → ℕ) → (Bytes → ℕ) → List Step → Type 0
 CopiesKeptFrom w before gone [] = Unit {0}
-CopiesKeptFrom w before gone (t ∷ turns) =
-    let all : Bytes → ℕ = λ text. pushed text t.changes + before text in
-    let lost : Bytes → ℕ = λ text. taken text w t.changes + gone text in
-    ((text : Bytes) → copies text (perform w t.changes) + lost text ≡ all text) × CopiesKeptFrom (perform w t.changes) all lost turns
+CopiesKeptFrom w before gone (step ∷ steps) =
+    let all : Bytes → ℕ = λ text. pushed text step.outcome.changes + before text in
+    let lost : Bytes → ℕ = λ text. taken text w step.outcome.changes + gone text in
+    ((text : Bytes) → copies text (after w step) + lost text ≡ all text) × CopiesKeptFrom (after w step) all lost steps
 
 abbrev pub CopiesKept : Type 0
-CopiesKept = (limits : Limits) (commands : List Words) (turns : List Turn) → Run (first limits) commands turns → CopiesKeptFrom (first limits).world (λ text. 0) (λ text. 0) turns
+CopiesKept = (limits : Limits) (steps : List Step) → Run (first limits) steps → CopiesKeptFrom (first limits) (λ text. 0) (λ text. 0) steps

@@ -18,7 +18,11 @@ pub mod Rescue
 pub mod Status
 pub mod Step
 pub mod Reading
+pub mod Event
 pub mod Run
 pub mod Life
 pub mod Laws
 pub mod Once
+pub mod Causes
+pub mod Reliable
+pub mod Starving

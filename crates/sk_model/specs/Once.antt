@@ -1,4 +1,4 @@
--- What is fired of batches in every run: success, complete and death of each once, at the very turn at which it comes about.
+-- What is fired of batches in every run: success, complete and death of each once, at the very step at which it comes about.
 use Rattle.std.specs.Prelude.{◌≡◌, ℕ, ◌+◌, List, [], ◌∷◌, ◌++◌, filter, Option, Some, None, Bool, true, false, not, ◌&&◌, ◌||◌}
 use Rattle.std.specs.Str.{bytes_eq}
 use Rattle.sk_resp.specs.Spelling.{Bytes}
@@ -13,12 +13,11 @@ use Rattle.sk_batch.specs.Open.{is_reported, is_settled}
 use Rattle.sk_batch.specs.declared.firing.Kind.{Kind}
 use Rattle.sk_batch.specs.declared.firing.Kind.TheVariants.{Complete, Success, Death}
 use Rattle.sk_model.specs.declared.limits.Limits.{Limits}
-use Rattle.sk_model.specs.World.{World}
+use Rattle.sk_model.specs.World.{World, first}
 use Rattle.sk_lives.specs.Lives.{one_if}
-use Rattle.sk_model.specs.Change.{Carry, PutBack, Fire, Change, Moves, changed, perform}
+use Rattle.sk_model.specs.Change.{Carry, PutBack, Fire, Change, Moves, changed}
 use Rattle.sk_model.specs.Told.{call}
-use Rattle.sk_model.specs.Reading.{Words}
-use Rattle.sk_model.specs.Run.{Turn, Run, first}
+use Rattle.sk_model.specs.Event.{Run, Step, after}
 
 -- ## How often something is fired
 
@@ -47,29 +46,29 @@ is_new before after bid = is_there bid after.batches && not (is_there bid before
 abbrev pub settles : Batched → Batched → Bytes → Bool
 settles before after bid = is_settled after bid && (is_new before after bid || not (is_settled before bid))
 
-abbrev pub SuccessOnceFrom : World → List Turn → Type 0
+abbrev pub SuccessOnceFrom : World → List Step → Type 0
 SuccessOnceFrom w [] = Unit {0}
-SuccessOnceFrom w (t ∷ turns) =
-    ((bid : Bytes) → times Success bid t.changes ≡ one_if (settles w.batches (perform w t.changes).batches bid)) × SuccessOnceFrom (perform w t.changes) turns
+SuccessOnceFrom w (step ∷ steps) =
+    ((bid : Bytes) → times Success bid step.outcome.changes ≡ one_if (settles w.batches (after w step).batches bid)) × SuccessOnceFrom (after w step) steps
 
--- Success of a batch is fired once, in the turn that leaves no job of it open, and in no other.
+-- Success of a batch is fired once, in the step that leaves no job of it open, and in no other.
 abbrev pub BatchOnce : Type 0
-BatchOnce = (limits : Limits) (commands : List Words) (turns : List Turn) → Run (first limits) commands turns → SuccessOnceFrom (first limits).world turns
+BatchOnce = (limits : Limits) (steps : List Step) → Run (first limits) steps → SuccessOnceFrom (first limits) steps
 
--- after each of these turns the batch is settled
-abbrev pub AllSettled : Bytes → World → List Turn → Type 0
+-- after each of these steps the batch is settled
+abbrev pub AllSettled : Bytes → World → List Step → Type 0
 AllSettled bid w [] = Unit {0}
-AllSettled bid w (t ∷ turns) = (is_settled (perform w t.changes).batches bid ≡ true) × AllSettled bid (perform w t.changes) turns
+AllSettled bid w (step ∷ steps) = (is_settled (after w step).batches bid ≡ true) × AllSettled bid (after w step) steps
 
-abbrev pub SettledStaysFrom : World → List Turn → Type 0
+abbrev pub SettledStaysFrom : World → List Step → Type 0
 SettledStaysFrom w [] = Unit {0}
-SettledStaysFrom w (t ∷ turns) =
-    let v : World = perform w t.changes in
-    ((bid : Bytes) → is_there bid v.batches.batches ≡ true → is_settled v.batches bid ≡ true → AllSettled bid v turns) × SettledStaysFrom v turns
+SettledStaysFrom w (step ∷ steps) =
+    let v : World = after w step in
+    ((bid : Bytes) → is_there bid v.batches.batches ≡ true → is_settled v.batches bid ≡ true → AllSettled bid v steps) × SettledStaysFrom v steps
 
--- A batch that is settled after a turn is settled after every later one.
+-- A batch that is settled after a step is settled after every later one.
 abbrev pub SettledStays : Type 0
-SettledStays = (limits : Limits) (commands : List Words) (turns : List Turn) → Run (first limits) commands turns → SettledStaysFrom (first limits).world turns
+SettledStays = (limits : Limits) (steps : List Step) → Run (first limits) steps → SettledStaysFrom (first limits) steps
 
 -- ## Complete
 
@@ -77,16 +76,16 @@ SettledStays = (limits : Limits) (commands : List Words) (turns : List Turn) →
 abbrev pub is_whole : Batched → Bytes → Bool
 is_whole s bid = is_there bid s.batches && is_reported s bid
 
--- had: whether it was so after some turn before these
-abbrev pub CompleteOnceFrom : World → (Bytes → Bool) → List Turn → Type 0
+-- had: whether it was so after some step before these
+abbrev pub CompleteOnceFrom : World → (Bytes → Bool) → List Step → Type 0
 CompleteOnceFrom w had [] = Unit {0}
-CompleteOnceFrom w had (t ∷ turns) =
-    let v : World = perform w t.changes in
-    ((bid : Bytes) → times Complete bid t.changes ≡ one_if (is_whole v.batches bid && not (had bid))) × CompleteOnceFrom v (λ bid. had bid || is_whole v.batches bid) turns
+CompleteOnceFrom w had (step ∷ steps) =
+    let v : World = after w step in
+    ((bid : Bytes) → times Complete bid step.outcome.changes ≡ one_if (is_whole v.batches bid && not (had bid))) × CompleteOnceFrom v (λ bid. had bid || is_whole v.batches bid) steps
 
--- Complete of a batch is fired once, in the first turn that leaves each job in it reported, and in no other.
+-- Complete of a batch is fired once, in the first step that leaves each job in it reported, and in no other.
 abbrev pub CompleteOnce : Type 0
-CompleteOnce = (limits : Limits) (commands : List Words) (turns : List Turn) → Run (first limits) commands turns → CompleteOnceFrom (first limits).world (λ bid. false) turns
+CompleteOnce = (limits : Limits) (steps : List Step) → Run (first limits) steps → CompleteOnceFrom (first limits) (λ bid. false) steps
 
 -- ## Death
 
@@ -116,15 +115,15 @@ abbrev pub buries : Bytes → World → List Change → Bool
 buries bid w [] = false
 buries bid w (change ∷ changes) = buries_in bid w change || buries bid (changed w change) changes
 
--- had: whether a member was buried in some turn before these
-abbrev pub DeathOnceFrom : World → (Bytes → Bool) → List Turn → Type 0
+-- had: whether a member was buried in some step before these
+abbrev pub DeathOnceFrom : World → (Bytes → Bool) → List Step → Type 0
 DeathOnceFrom w had [] = Unit {0}
-DeathOnceFrom w had (t ∷ turns) =
-    ((bid : Bytes) → times Death bid t.changes ≡ one_if (buries bid w t.changes && not (had bid))) × DeathOnceFrom (perform w t.changes) (λ bid. had bid || buries bid w t.changes) turns
+DeathOnceFrom w had (step ∷ steps) =
+    ((bid : Bytes) → times Death bid step.outcome.changes ≡ one_if (buries bid w step.outcome.changes && not (had bid))) × DeathOnceFrom (after w step) (λ bid. had bid || buries bid w step.outcome.changes) steps
 
--- Death of a batch is fired once, in the first turn that buries a member of it, and in no other.
+-- Death of a batch is fired once, in the first step that buries a member of it, and in no other.
 abbrev pub DeathOnce : Type 0
-DeathOnce = (limits : Limits) (commands : List Words) (turns : List Turn) → Run (first limits) commands turns → DeathOnceFrom (first limits).world (λ bid. false) turns
+DeathOnce = (limits : Limits) (steps : List Step) → Run (first limits) steps → DeathOnceFrom (first limits) (λ bid. false) steps
 
 -- ## Callbacks
 
@@ -149,10 +148,10 @@ abbrev pub CallsFollow : World → List Change → Type 0
 CallsFollow w [] = Unit {0}
 CallsFollow w (change ∷ changes) = Begins (called_by w change) changes × CallsFollow (changed w change) changes
 
-abbrev pub CallsFollowFrom : World → List Turn → Type 0
+abbrev pub CallsFollowFrom : World → List Step → Type 0
 CallsFollowFrom w [] = Unit {0}
-CallsFollowFrom w (t ∷ turns) = CallsFollow w t.changes × CallsFollowFrom (perform w t.changes) turns
+CallsFollowFrom w (step ∷ steps) = CallsFollow w step.outcome.changes × CallsFollowFrom (after w step) steps
 
 -- Each firing is followed at once by the push of the batch's callback, where it has one.
 abbrev pub CallbacksFollow : Type 0
-CallbacksFollow = (limits : Limits) (commands : List Words) (turns : List Turn) → Run (first limits) commands turns → CallsFollowFrom (first limits).world turns
+CallbacksFollow = (limits : Limits) (steps : List Step) → Run (first limits) steps → CallsFollowFrom (first limits) steps

@@ -1,5 +1,5 @@
 -- What the words of a command are to a pipe: a command for the store, a word of the pipe's own, or neither.
-use Rattle.std.specs.Prelude.{◌≡◌, ◌≢◌, ℕ, ℤ, pos, negsuc, nat_le, cond, [], ◌∷◌, Option, Some, None, Result, Ok, Err, Bool}
+use Rattle.std.specs.Prelude.{◌≡◌, ◌≢◌, ℕ, ℤ, pos, negsuc, nat_le, cond, [], ◌∷◌, Option, Some, None, Result, Ok, Err, Bool, false, ◌||◌}
 use Rattle.std.specs.Bool.{MatchBool}
 use Rattle.std.specs.Str.{str_eq_ignore_ascii_case}
 use Rattle.sk_resp.specs.Spelling.{Bytes}
@@ -66,9 +66,18 @@ IsAsked words said = (r : Result Command CmdFault) × IsRead words r × (r ≢ E
 
 -- ## All words
 
+-- SK.NOW, SK.AS or SK.CUT comes first
+abbrev pub is_own : Words → Bool
+is_own [] = false
+is_own (word ∷ words) = is_word Now word || (is_word As word || is_word Cut word)
+
 abbrev pub IsSaid : Words → Said → Type 0
 IsSaid [] said = IsAsked [] said
 IsSaid (word ∷ words) said = MatchBool (is_word Now word) (IsNumber Now moment_said words said)
     (MatchBool (is_word As word) (IsNumber As (seat_said Sits) words said)
     (MatchBool (is_word Cut word) (IsNumber Cut (seat_said Cuts) words said)
     (IsAsked (word ∷ words) said)))
+
+-- Any words have a reading, and in it there was memory for them.
+abbrev pub SomeReading : Type 0
+SomeReading = (words : Words) → (said : Said) × IsSaid words said

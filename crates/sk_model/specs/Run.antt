@@ -1,22 +1,21 @@
--- Runs of commands over a pipe, one after another.
-use Rattle.std.specs.Prelude.{◌≡◌, ◌⊎◌, ℕ, List, [], ◌∷◌, Err, map, Bool, true, false, ◌||◌, ◌&&◌}
+-- Runs of a pipe. Its commands are events, and words of its own, which set the seat that acts and the moment.
+use Rattle.std.specs.Prelude.{◌≡◌, ◌↔◌, ℕ, List, [], ◌∷◌, ◌++◌, Ok, map, Bool, true, false, ◌||◌, ◌&&◌}
 use Rattle.std.specs.Bool.{MatchBool}
 use Rattle.sk_resp.specs.declared.reply.Reply.{Reply}
 use Rattle.sk_resp.specs.declared.reply.Reply.TheVariants as reply
+use Rattle.sk_resp.specs.declared.say.Say.{Say}
 use Rattle.sk_resp.specs.declared.say.Say.TheVariants as say
-use Rattle.sk_cmd.specs.declared.cmd_fault.CmdFault.TheVariants.{Memory}
 use Rattle.sk_cmd.specs.Table.{IsRead}
 use Rattle.sk_cmd.specs.declared.command.Command.{Command}
 use Rattle.sk_cmd.specs.declared.command.Command.TheVariants as command
 use Rattle.sk_cmd.specs.declared.command.PlainCommand.TheVariants as plain
 use Rattle.sk_model.specs.declared.limits.Limits.{Limits}
 use Rattle.sk_model.specs.World.{World, first as first_world}
-use Rattle.sk_model.specs.Change.{Change, Passes, perform}
 use Rattle.sk_model.specs.Outcome.{Outcome}
-use Rattle.sk_model.specs.Step.{outcome, cut, may_starve}
-use Rattle.sk_model.specs.Reading.{Words, Said, Refused, Sets, Sits, Cuts, Asks, IsSaid}
+use Rattle.sk_model.specs.Event.{Event, Ask, Cut, Step, world_after, Run}
+use Rattle.sk_model.specs.Reading.{Words, Said, Refused, Sets, Sits, Cuts, Asks, IsSaid, is_own}
 
--- ## One command
+-- ## State and turn
 
 -- the store, the seat that acts, and the moment that a pipe hands it
 pub record State : Type 0 where
@@ -30,12 +29,34 @@ first limits = record { world = first_world limits; seat = 0; now = 0 }
 -- What a command of a pipe came to.
 pub record Turn : Type 0 where
   pub reply : Reply
-  pub changes : List Change
+  -- the event that it was; none, where the pipe answered by itself
+  pub steps : List Step
   -- the seat that acts from then on, and the moment that the store is handed
   pub seat : ℕ
   pub now : ℕ
   -- whether the pipe ends with it
   pub ends : Bool
+
+abbrev pub after : State → Turn → State
+after s t = record { world = world_after s.world t.steps; seat = t.seat; now = t.now }
+
+-- ## The schedule
+
+-- The pipe answers by itself. That is no event, and the store stays as it is.
+abbrev pub fixed : ℕ → ℕ → Say → Turn
+fixed seat now say = record { reply = reply.Say say; steps = []; seat = seat; now = now; ends = false }
+
+-- An event came to an outcome. The seat and the moment stay as they are.
+abbrev pub happened : ℕ → ℕ → Event → Outcome → Bool → Turn
+happened seat now event o ends = record { reply = o.reply; steps = record { event = event; outcome = o } ∷ []; seat = seat; now = now; ends = ends }
+
+-- What a word of the pipe's own comes to. SK.CUT is an event.
+abbrev pub IsOwnTurn : ℕ → ℕ → Said → Turn → Type 0
+IsOwnTurn seat now (Refused say) t = t ≡ fixed seat now say
+IsOwnTurn seat now (Sets other) t = t ≡ fixed seat other say.Ok
+IsOwnTurn seat now (Sits other) t = t ≡ fixed other now say.Ok
+IsOwnTurn seat now (Cuts other) t = (o : Outcome) × (t ≡ happened seat now (Cut other) o false)
+IsOwnTurn seat now (Asks c) t = ⊥
 
 -- QUIT and SHUTDOWN
 abbrev pub quits : Command → Bool
@@ -47,49 +68,30 @@ abbrev pub is_ok : Reply → Bool
 is_ok (reply.Say say.Ok) = true
 is_ok other = false
 
--- a reply after which the pipe goes on, at the same seat and moment
-abbrev pub stays : State → Reply → List Change → Turn
-stays s reply changes = record { reply = reply; changes = changes; seat = s.seat; now = s.now; ends = false }
+-- the words are QUIT or SHUTDOWN, and are answered `+OK`
+abbrev pub Quits : Words → Reply → Type 0
+Quits words reply = (c : Command) × IsRead words (Ok c) × (quits c && is_ok reply ≡ true)
 
--- A QUIT or SHUTDOWN that is answered `+OK` ends the pipe.
-abbrev pub asked : State → Command → Outcome → Turn
-asked s c o = record (stays s o.reply o.changes) { ends = quits c && is_ok o.reply }
+-- All other words are an event: the acting seat hands them to the store. An accepted QUIT or SHUTDOWN ends the pipe.
+abbrev pub IsAskTurn : ℕ → ℕ → Words → Turn → Type 0
+IsAskTurn seat now words t = (o : Outcome) × ((ends : Bool) × (t ≡ happened seat now (Ask seat now words) o ends) × ((ends ≡ true) ↔ Quits words o.reply))
 
-abbrev pub turn : State → Said → Turn
-turn s (Refused say) = stays s (reply.Say say) []
-turn s (Sets now) = record (stays s (reply.Say say.Ok) []) { now = now }
-turn s (Sits seat) = record (stays s (reply.Say say.Ok) []) { seat = seat }
-turn s (Cuts seat) = stays s (cut seat).reply (cut seat).changes
-turn s (Asks c) = asked s c (outcome s.world s.seat s.now c)
+abbrev pub IsTurn : ℕ → ℕ → Words → Turn → Type 0
+IsTurn seat now words t = MatchBool (is_own words) ((said : Said) × IsSaid words said × IsOwnTurn seat now said t) (IsAskTurn seat now words t)
 
--- there is no memory for it
-abbrev pub starved : State → List Change → Turn
-starved s changes = stays s (reply.Say say.Oom) changes
-
--- There may be no memory for a command, but for a release. There is for the pipe's own words, a cut among them.
-abbrev pub may_starve_at : State → Said → Bool
-may_starve_at s (Asks c) = may_starve s.world s.seat c
-may_starve_at s other = false
-
--- What is said comes to this turn. A command may starve: then time alone goes on.
-abbrev pub ComesTo : State → Said → Turn → Type 0
-ComesTo s said t = (t ≡ turn s said) ⊎ ((may_starve_at s said ≡ true) × (t ≡ starved s (Passes s.now ∷ [])))
-
--- The words come to this turn. Where there is no memory to read them, nothing changes.
-abbrev pub Speaks : State → Words → Turn → Type 0
-Speaks s words t = ((said : Said) × IsSaid words said × ComesTo s said t) ⊎ (IsRead words (Err Memory) × (t ≡ starved s []))
-
-abbrev pub after : State → Turn → State
-after s t = record { world = perform s.world t.changes; seat = t.seat; now = t.now }
+-- From this seat and moment on, each command comes to its turn. Nothing follows one that ends the pipe.
+abbrev pub Schedule : ℕ → ℕ → List Words → List Turn → Type 0
+Schedule seat now [] [] = Unit {0}
+Schedule seat now (words ∷ commands) (t ∷ turns) = IsTurn seat now words t × MatchBool t.ends ((commands ≡ []) × (turns ≡ [])) (Schedule t.seat t.now commands turns)
+Schedule seat now [] (t ∷ turns) = ⊥
+Schedule seat now (words ∷ commands) [] = ⊥
 
 -- ## Runs
 
--- Each command comes to its turn, from the state that the ones before it left. Nothing follows one that ends the pipe.
-abbrev pub Run : State → List Words → List Turn → Type 0
-Run s [] [] = Unit {0}
-Run s (words ∷ commands) (t ∷ turns) = Speaks s words t × MatchBool t.ends ((commands ≡ []) × (turns ≡ [])) (Run (after s t) commands turns)
-Run s [] (t ∷ turns) = ⊥
-Run s (words ∷ commands) [] = ⊥
+-- the events of the turns, with what each came to
+abbrev pub steps_in : List Turn → List Step
+steps_in [] = []
+steps_in (t ∷ turns) = t.steps ++ steps_in turns
 
 -- the state that turns lead to
 abbrev pub state_after : State → List Turn → State
@@ -104,10 +106,12 @@ abbrev pub ended : List Turn → Bool
 ended [] = false
 ended (t ∷ turns) = t.ends || ended turns
 
--- The replies of one run of the commands from the old state, which leads to the new one, and whether it ends the pipe.
+-- The commands are scheduled from the old state on, and their events are one run of the store. These are the replies, this is the new state, and so
+-- it is told whether the pipe ends with the last of them.
 pub record Answers (old : State) (commands : List Words) (replies : List Reply) (new : State) (ends : Bool) : Type 0 where
   pub turns : List Turn
-  pub run : Run old commands turns
+  pub schedule : Schedule old.seat old.now commands turns
+  pub run : Run old.world (steps_in turns)
   pub replies_are : replies ≡ replies_in turns
   pub new_is : new ≡ state_after old turns
   pub ends_is : ended turns ≡ ends

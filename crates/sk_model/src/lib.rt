@@ -1,4 +1,4 @@
-//! The abstract store: what it keeps, what each command does to it, what runs of commands are, and what holds of every run.
+//! The abstract store: what it keeps, what each command does to it, what runs of events are, and what holds of every run.
 #![tactic(auto)]
 
 mod key_class;
@@ -8,8 +8,10 @@ mod phase;
 
 pub use key_class::KeyClass;
 pub use laws::{
-    callbacks_follow, complete_fires_once, death_fires_once, live_jobs_stand, nothing_is_lost,
-    settled_stays, success_fires_once, tally_balances, words_have_one_reading,
+    callbacks_follow, complete_fires_once, death_fires_once, events_are_served_or_starve,
+    limits_stay, live_jobs_stand, moves_have_causes, nothing_is_lost, own_words_never_starve,
+    releases_never_starve, runs_are_reliable, settled_stays, success_fires_once, tally_balances,
+    words_have_one_reading, words_have_some_reading,
 };
 pub use limits::Limits;
 pub use phase::{End, Phase};

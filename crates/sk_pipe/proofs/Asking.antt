@@ -1,43 +1,235 @@
--- What the store's answer to a command is to the pipe.
-use Rattle.std.proofs.Common.{◌≡◌, ◌∷◌, [], refl, sym, ap, ◌∙◌, subst, inl, inr, Bool, true, false, ◌&&◌}
+-- What the words of a command come to, from what the session reads them as and from the store's answer.
+use Rattle.std.proofs.Common.{◌≡◌, ◌≢◌, ◌∷◌, [], refl, sym, ap, ◌∙◌, subst, Bool, true, false, ◌&&◌, ℕ, arith, Ok, Err}
+use Rattle.std.specs.Bool.{MatchBool}
+use Rattle.std.specs.Prelude.{ℤ, Option, Some, None, pos, negsuc, nat_le, cond}
+use Rattle.sk_resp.specs.declared.name.Name.{Name}
+use Rattle.sk_resp.specs.declared.name.Name.TheVariants as name
 use Rattle.sk_resp.specs.declared.reply.Reply.{Reply}
 use Rattle.sk_resp.specs.declared.reply.Reply.TheVariants as reply
+use Rattle.sk_resp.specs.declared.say.Say.{Say}
 use Rattle.sk_resp.specs.declared.say.Say.TheVariants as say
+use Rattle.sk_cmd.proofs.AgreeTable.{one_command}
+use Rattle.sk_cmd.specs.Fault.{fault_say}
+use Rattle.sk_cmd.specs.Reading.{Read}
+use Rattle.sk_cmd.specs.Table.{IsRead}
+use Rattle.sk_cmd.specs.declared.cmd_fault.CmdFault.{CmdFault}
+use Rattle.sk_cmd.specs.declared.cmd_fault.CmdFault.TheVariants as fault
 use Rattle.sk_cmd.specs.declared.command.Command.{Command}
 use Rattle.sk_model.specs.World.{World}
-use Rattle.sk_model.specs.Change.{Passes, perform}
-use Rattle.sk_model.specs.Outcome.{Outcome, Comes}
-use Rattle.sk_model.specs.Step.{outcome, Steps}
-use Rattle.sk_model.specs.Reading.{Words, Asks}
-use Rattle.sk_model.specs.Run.{State, Answers, quits, is_ok, turn, starved}
+use Rattle.sk_model.specs.Change.{perform}
+use Rattle.sk_model.specs.Event.{Ask, Cut}
+use Rattle.sk_model.specs.Outcome.{Outcome, Comes, tells}
+use Rattle.sk_model.specs.Step.{Steps, cut}
+use Rattle.sk_model.specs.Reading.{Words, Said, Refused, Sets, Sits, Cuts, Asks, IsAsked, IsNumber, IsSaid, is_own, is_word, moment_said, seat_said, last_seat, told}
+use Rattle.sk_model.specs.Run.{State, Answers, Quits, fixed, happened, quits, is_ok}
 use Rattle.sk_model.proofs.Running.{answers_one}
 use Rattle.sk_pipe.specs.declared.session.Answer.{Answer}
 use Rattle.sk_pipe.specs.Session.{Asked, Spoke}
 
-neither : (b : Bool) → b && false ≡ false
-neither true = refl
-neither false = refl
-
--- The store's step is a turn of the pipe.
+-- the store's step, as the session has it
 pub asked : (old : State) (w : World) (c : Command) (o : Outcome) (r : Reply) (ends : Bool) → Steps old.world old.seat old.now c o → Comes old.world o r w → ends ≡ (quits c && is_ok r)
     → Asked old c (record { reply = r; ends = ends }) (record { world = w; seat = old.seat; now = old.now })
-asked old w c o r ends (inl is) comes e =
-    let due : Outcome = outcome old.world old.seat old.now c in
-    let said : r ≡ due.reply = comes.reply_is ∙ ap (λ o. o.reply) is in
-    let new : w ≡ perform old.world due.changes = comes.new_is ∙ ap (λ o. perform old.world o.changes) is in
-    (turn old (Asks c), inl refl, record { reply_is = said; ends_is = e ∙ ap (λ r. quits c && is_ok r) said; new_is = ap (λ w. record { world = w; seat = old.seat; now = old.now }) new })
-asked old w c o r ends (inr starves) comes e =
-    let said : r ≡ reply.Say say.Oom = comes.reply_is ∙ ap (λ o. o.reply) starves.1 in
-    let new : w ≡ perform old.world (Passes old.now ∷ []) = comes.new_is ∙ ap (λ o. perform old.world o.changes) starves.1 in (
-      starved old (Passes old.now ∷ []),
-      inr (starves.0, refl),
-      record { reply_is = said; ends_is = e ∙ ap (λ r. quits c && is_ok r) said ∙ neither (quits c); new_is = ap (λ w. record { world = w; seat = old.seat; now = old.now }) new },
-    )
+asked old w c o r ends steps comes e = record {
+  outcome = o;
+  steps = steps;
+  reply_is = comes.reply_is;
+  ends_is = e ∙ ap (λ r. quits c && is_ok r) comes.reply_is;
+  new_is = ap (λ w. record { world = w; seat = old.seat; now = old.now }) comes.new_is;
+}
+
+-- ## Words of the pipe's own, and others
+
+passes_by : (P Q : Type 0) (test : Bool) → test ≡ false → MatchBool test P Q → Q
+passes_by P Q true e m = absurd (cc e)
+passes_by P Q false e m = m
+
+-- what isn't the pipe's own is read by the table
+others : (words : Words) (said : Said) → is_own words ≡ false → IsSaid words said → IsAsked words said
+others [] said none is = is
+others (word ∷ words) said none is =
+    passes_by _ _ (is_word name.Cut word) (grind (arith, none))
+    (passes_by _ _ (is_word name.As word) (grind (arith, none))
+    (passes_by _ _ (is_word name.Now word) (grind (arith, none)) is))
+
+-- a word of the pipe's own is no command for the store
+moment_own : (n : Option ℤ) (c : Command) → Asks c ≢ moment_said n
+moment_own (Some (pos n)) c = λ e. cc e
+moment_own (Some (negsuc n)) c = λ e. cc e
+moment_own None c = λ e. cc e
+
+seat_own : (says : ℕ → Said) (n : Option ℤ) (c : Command) → ((m : ℕ) → Asks c ≢ says m) → Asks c ≢ seat_said says n
+seat_own says (Some (pos n)) c other = by_size (nat_le n last_seat) where
+  by_size : (b : Bool) → Asks c ≢ cond b (says n) (Refused say.NotInt)
+  by_size true = other n
+  by_size false = λ e. cc e
+seat_own says (Some (negsuc n)) c other = λ e. cc e
+seat_own says None c other = λ e. cc e
+
+number_own : (name : Name) (meant : Option ℤ → Said) (words : Words) (c : Command) → ((n : Option ℤ) → Asks c ≢ meant n) → IsNumber name meant words (Asks c) → ⊥
+number_own name meant [] c other is = cc is
+number_own name meant (text ∷ []) c other is = other is.0 is.2
+number_own name meant (text ∷ more ∷ words) c other is = cc is
+
+asks_apart : (words : Words) (c : Command) → IsSaid words (Asks c) → is_own words ≡ false
+asks_apart [] c is = refl
+asks_apart (word ∷ words) c is = by_now (is_word name.Now word) refl is where
+  by_cut : (b : Bool) → is_word name.Cut word ≡ b → MatchBool b (IsNumber name.Cut (seat_said Cuts) words (Asks c)) (IsAsked (word ∷ words) (Asks c)) → is_word name.Now word ≡ false → is_word name.As word ≡ false → is_own (word ∷ words) ≡ false
+  by_cut true e is now acts = absurd (number_own name.Cut (seat_said Cuts) words c (λ n. seat_own Cuts n c (λ m e. cc e)) is)
+  by_cut false e is now acts = grind (arith, e, now, acts)
+
+  by_as : (b : Bool) → is_word name.As word ≡ b → MatchBool b (IsNumber name.As (seat_said Sits) words (Asks c)) (MatchBool (is_word name.Cut word) (IsNumber name.Cut (seat_said Cuts) words (Asks c)) (IsAsked (word ∷ words) (Asks c))) → is_word name.Now word ≡ false → is_own (word ∷ words) ≡ false
+  by_as true e is now = absurd (number_own name.As (seat_said Sits) words c (λ n. seat_own Sits n c (λ m e. cc e)) is)
+  by_as false e is now = by_cut (is_word name.Cut word) refl is now e
+
+  by_now : (b : Bool) → is_word name.Now word ≡ b
+      → MatchBool b (IsNumber name.Now moment_said words (Asks c)) (MatchBool (is_word name.As word) (IsNumber name.As (seat_said Sits) words (Asks c)) (MatchBool (is_word name.Cut word) (IsNumber name.Cut (seat_said Cuts) words (Asks c)) (IsAsked (word ∷ words) (Asks c)))) → is_own (word ∷ words) ≡ false
+  by_now true e is = absurd (number_own name.Now moment_said words c (λ n. moment_own n c) is)
+  by_now false e is = by_as (is_word name.As word) refl is e
+
+-- what the table reads is a command or a refusal
+told_cases : (words : Words) (said : Said) → IsAsked words said → (P : Said → Type 0) → ((c : Command) → P (Asks c)) → ((s : Say) → P (Refused s)) → P said
+told_cases words said (Ok c, read, some, is) P asks refused = subst P (sym is) (asks c)
+told_cases words said (Err f, read, some, is) P asks refused = subst P (sym is) (refused (fault_say f))
+
+abbrev IsOfTable : Said → Type 0
+IsOfTable (Refused say) = Unit {0}
+IsOfTable (Asks c) = Unit {0}
+IsOfTable (Sets now) = ⊥
+IsOfTable (Sits seat) = ⊥
+IsOfTable (Cuts seat) = ⊥
+
+-- what sets or cuts is the pipe's own
+pipes_own : (words : Words) (said : Said) → IsSaid words said → (IsOfTable said → ⊥) → is_own words ≡ true
+pipes_own words said is none = by_own (is_own words) refl where
+  by_own : (b : Bool) → is_own words ≡ b → b ≡ true
+  by_own true e = refl
+  by_own false e = absurd (none (told_cases words said (others words said e is) IsOfTable (λ c. tt) (λ s. tt)))
+
+-- ## Turns
+
+in_own : (P Q : Type 0) (test : Bool) → test ≡ true → P → MatchBool test P Q
+in_own P Q true e p = p
+in_own P Q false e p = absurd (cc e)
+
+in_others : (P Q : Type 0) (test : Bool) → test ≡ false → Q → MatchBool test P Q
+in_others P Q true e q = absurd (cc e)
+in_others P Q false e q = q
+
+-- a fixed text, after which the pipe goes on
+abbrev fixed_answer : Say → Answer
+fixed_answer s = record { reply = reply.Say s; ends = false }
+
+module _ (old : State) (words : Words) where
+  -- the moment or the seat is set
+  pub spoke_sets : (now : ℕ) (a : Answer) (new : State) → IsSaid words (Sets now) → a ≡ fixed_answer say.Ok → new ≡ record old { now = now } → Spoke old words a new
+  spoke_sets now a new is answered new_is = record {
+    turn = fixed old.seat now say.Ok;
+    is_turn = in_own _ _ (is_own words) (pipes_own words (Sets now) is (λ e. e)) (Sets now, is, refl);
+    run = tt;
+    reply_is = ap (λ (a : Answer). a.reply) answered;
+    ends_is = ap (λ (a : Answer). a.ends) answered;
+    new_is = new_is;
+  }
+
+  pub spoke_sits : (seat : ℕ) (a : Answer) (new : State) → IsSaid words (Sits seat) → a ≡ fixed_answer say.Ok → new ≡ record old { seat = seat } → Spoke old words a new
+  spoke_sits seat a new is answered new_is = record {
+    turn = fixed seat old.now say.Ok;
+    is_turn = in_own _ _ (is_own words) (pipes_own words (Sits seat) is (λ e. e)) (Sits seat, is, refl);
+    run = tt;
+    reply_is = ap (λ (a : Answer). a.reply) answered;
+    ends_is = ap (λ (a : Answer). a.ends) answered;
+    new_is = new_is;
+  }
+
+  -- a seat is cut off
+  pub spoke_cuts : (seat : ℕ) (a : Answer) (new : State) → IsSaid words (Cuts seat) → a ≡ fixed_answer say.Ok → new ≡ record old { world = perform old.world (cut seat).changes } → Spoke old words a new
+  spoke_cuts seat a new is answered new_is = record {
+    turn = happened old.seat old.now (Cut seat) (cut seat) false;
+    is_turn = in_own _ _ (is_own words) (pipes_own words (Cuts seat) is (λ e. e)) (Cuts seat, is, (cut seat, refl));
+    run = (refl, tt);
+    reply_is = ap (λ (a : Answer). a.reply) answered;
+    ends_is = ap (λ (a : Answer). a.ends) answered;
+    new_is = new_is;
+  }
+
+  -- nothing but an accepted QUIT or SHUTDOWN ends the pipe
+  no_quit : (f : CmdFault) → IsRead words (Err f) → f ≢ fault.Memory → Quits words (reply.Say (fault_say f)) → ⊥
+  no_quit f read some (c, is, accepted) = cc (one_command words (Err f) (Ok c) read is (λ e. some (cc e)) (λ e. cc e))
+
+  -- a fault of the words
+  fault_turn : (f : CmdFault) (a : Answer) → is_own words ≡ false → IsRead words (Err f) → (Quits words (reply.Say (fault_say f)) → ⊥) → a ≡ fixed_answer (fault_say f) → Spoke old words a old
+  fault_turn f a none read never answered = record {
+    turn = happened old.seat old.now (Ask old.seat old.now words) (tells (fault_say f)) false;
+    is_turn = in_others _ _ (is_own words) none (tells (fault_say f), (false, refl, (λ e. absurd (cc e), λ q. absurd (never q))));
+    run = ((Err f, read, refl), tt);
+    reply_is = ap (λ (a : Answer). a.reply) answered;
+    ends_is = ap (λ (a : Answer). a.ends) answered;
+    new_is = refl;
+  }
+
+  -- there was no memory to read them
+  pub spoke_starved : (a : Answer) → is_own words ≡ false → IsRead words (Err fault.Memory) → a ≡ fixed_answer say.Oom → Spoke old words a old
+  spoke_starved a none read answered = fault_turn fault.Memory a none read (λ q. not_ok q.0 q.2) answered where
+    not_ok : (c : Command) → quits c && false ≡ true → ⊥
+    not_ok c e = grind (arith, e)
+
+  refused_turn : (r : Read Command) (s : Say) (a : Answer) → is_own words ≡ false → IsRead words r → r ≢ Err fault.Memory → Refused s ≡ told r → a ≡ fixed_answer s → Spoke old words a old
+  refused_turn (Ok c) s a none read some is answered = absurd (cc is)
+  refused_turn (Err f) s a none read some is answered =
+      fault_turn f a none read (no_quit f read (λ e. some (ap Err e))) (answered ∙ ap fixed_answer (cc is))
+
+  -- the words are refused
+  pub spoke_refused : (s : Say) (a : Answer) → IsSaid words (Refused s) → a ≡ fixed_answer s → Spoke old words a old
+  spoke_refused s a is answered = by_own (is_own words) refl where
+    by_own : (b : Bool) → is_own words ≡ b → Spoke old words a old
+    by_own true e = record {
+      turn = fixed old.seat old.now s;
+      is_turn = in_own _ _ (is_own words) e (Refused s, is, refl);
+      run = tt;
+      reply_is = ap (λ (a : Answer). a.reply) answered;
+      ends_is = ap (λ (a : Answer). a.ends) answered;
+      new_is = refl;
+    }
+    by_own false e = let asked = others words (Refused s) e is in refused_turn asked.0 s a e asked.1 asked.2 asked.3 answered
+
+  -- the store is asked
+  asked_turn : (r : Read Command) (c : Command) (a : Answer) (new : State) → is_own words ≡ false → IsRead words r → Asks c ≡ told r → Asked old c a new → Spoke old words a new
+  asked_turn (Err f) c a new none read is done = absurd (cc is)
+  asked_turn (Ok d) c a new none read is done =
+      let same : d ≡ c = cc is in
+      let of_c : IsRead words (Ok c) = subst (λ c. IsRead words (Ok c)) same read in
+      record {
+        turn = happened old.seat old.now (Ask old.seat old.now words) done.outcome a.ends;
+        is_turn = in_others _ _ (is_own words) none (
+          done.outcome,
+          (
+            a.ends,
+            refl,
+            (
+              λ e. (c, of_c, sym done.ends_is ∙ e),
+              λ q. done.ends_is ∙ ap (λ c. quits c && is_ok done.outcome.reply) (the_same c q.0 of_c q.1) ∙ q.2,
+            ),
+          ),
+        );
+        run = ((Ok c, of_c, done.steps), tt);
+        reply_is = done.reply_is;
+        ends_is = refl;
+        new_is = done.new_is;
+      }
+    where
+      the_same : (c d : Command) → IsRead words (Ok c) → IsRead words (Ok d) → c ≡ d
+      the_same c d p q = cc (one_command words (Ok c) (Ok d) p q (λ e. cc e) (λ e. cc e))
+
+  pub spoke_asks : (c : Command) (a : Answer) (new : State) → IsSaid words (Asks c) → Asked old c a new → Spoke old words a new
+  spoke_asks c a new is done =
+      let none = asks_apart words c is in
+      let asked = others words (Asks c) none is in
+      asked_turn asked.0 c a new none asked.1 asked.3 done
 
 -- A turn as a run of one command.
 pub answers_turn : (old new : State) (words : Words) (a : Answer) → Spoke old words a new → Answers old (words ∷ []) (a.reply ∷ []) new a.ends
 answers_turn old new words a s =
-    let t = s.0 in
-    subst (λ r. Answers old (words ∷ []) (r ∷ []) new a.ends) (sym s.2.reply_is)
-    (subst (λ e. Answers old (words ∷ []) (t.reply ∷ []) new e) (sym s.2.ends_is)
-    (subst (λ n. Answers old (words ∷ []) (t.reply ∷ []) n t.ends) (sym s.2.new_is) (answers_one old words t s.1)))
+    let t = s.turn in
+    subst (λ r. Answers old (words ∷ []) (r ∷ []) new a.ends) (sym s.reply_is)
+    (subst (λ e. Answers old (words ∷ []) (t.reply ∷ []) new e) (sym s.ends_is)
+    (subst (λ n. Answers old (words ∷ []) (t.reply ∷ []) n t.ends) (sym s.new_is) (answers_one old words t s.is_turn s.run)))

@@ -15,10 +15,10 @@ use Rattle.sk_resp.proofs.Fewer.{opens_on, opens_fewer}
 use Rattle.sk_pipe.specs.declared.pipe_end.PipeEnd.{PipeEnd}
 use Rattle.sk_pipe.specs.declared.pipe_end.PipeEnd.TheVariants.{Done, Wire, Cut, ReadFault, WriteFault, Memory, Budget}
 use Rattle.sk_resp.specs.declared.reply.Reply.{Reply}
-use Rattle.sk_model.specs.Run.{State, Answers}
+use Rattle.sk_model.specs.Event.{Run}
+use Rattle.sk_model.specs.Run.{State, Answers, steps_in}
+use Rattle.sk_model.proofs.Reliable.{reliable}
 use Rattle.sk_model.proofs.Running.{answers_nothing, answers_on}
-use Rattle.sk_model.proofs.Firing.{answers_batch_once, answers_callbacks_follow, answers_complete_once, answers_death_once, answers_settled_stays}
-use Rattle.sk_model.proofs.Runs.{answers_balance, answers_conserve}
 use Rattle.sk_pipe.specs.Reliable.{AreReliable}
 use Rattle.sk_pipe.specs.Pipe.{Serves, Refuses, Due, DueFront, IsAtEnd, Ends, refusal}
 use Rattle.sk_pipe.specs.Driving.{IsWriteStop, IsStop, EndsAt, ServesFront, Stopped, StopsAt, StopsReply}
@@ -29,21 +29,13 @@ joined-append : (xs ys : List Bytes) → joined (xs ++ ys) ≡ joined xs ++ join
 joined-append [] ys = refl
 joined-append (x ∷ xs) ys = ap (λ z. x ++ z) (joined-append xs ys) ∙ sym (append_assoc x (joined xs) (joined ys))
 
-reliable : (old new : State) (commands : List Command) (replies : List Reply) (ends : Bool) (answers : Answers old commands replies new ends) → AreReliable old answers.turns
+served_reliable : (old new : State) (commands : List Command) (replies : List Reply) (ends : Bool) (answers : Answers old commands replies new ends) → AreReliable old.world (steps_in answers.turns)
 unfolding AreReliable
-reliable old new commands replies ends answers = λ limits is. record {
-  live_jobs_stand = answers_conserve limits old new commands replies ends answers is;
-  tally_balances = answers_balance limits old new commands replies ends answers is;
-  success_once = answers_batch_once limits old new commands replies ends answers is;
-  settled_stays = answers_settled_stays limits old new commands replies ends answers is;
-  complete_once = answers_complete_once limits old new commands replies ends answers is;
-  death_once = answers_death_once limits old new commands replies ends answers is;
-  callbacks_follow = answers_callbacks_follow limits old new commands replies ends answers is;
-}
+served_reliable old new commands replies ends answers = λ limits is. reliable limits (steps_in answers.turns) (subst (λ w. Run w (steps_in answers.turns)) is answers.run)
 
 serves_text : (ends : Bool) (old new : State) (commands : List Command) (replies : List Reply) (written : Bytes) → Answers old commands replies new ends → written ≡ joined (map wire replies) → Serves ends old commands new written
 serves_text ends old new commands replies written answers text =
-    record { replies = replies; answers = answers; reliable = reliable old new commands replies ends answers; text = text }
+    record { replies = replies; answers = answers; reliable = served_reliable old new commands replies ends answers; text = text }
 
 pub serves_nothing : (s : State) → Serves false s [] s []
 serves_nothing s = serves_text false s s [] [] [] (answers_nothing s) refl

@@ -10,7 +10,7 @@ use Rattle.sk_resp.specs.declared.say.Say.TheVariants as say
 use Rattle.sk_resp.specs.declared.reply.Reply.{Reply}
 use Rattle.sk_resp.specs.declared.reply.Reply.TheVariants as reply
 use Rattle.sk_model.specs.declared.limits.Limits.{Limits}
-use Rattle.sk_model.specs.Run.{State, Answers, first}
+use Rattle.sk_model.specs.Run.{State, Answers, first, steps_in}
 use Rattle.sk_pipe.specs.Reliable.{AreReliable}
 use Rattle.sk_pipe.specs.declared.pipe_end.PipeEnd.{PipeEnd}
 use Rattle.sk_pipe.specs.declared.pipe_end.PipeEnd.TheVariants.{Done, Wire, Cut, ReadFault, WriteFault, Memory, Budget}
@@ -18,11 +18,12 @@ use Rattle.sk_pipe.specs.declared.pipe_end.PipeEnd.TheVariants.{Done, Wire, Cut,
 -- ## Replies
 
 -- These are the replies of one run of the commands, in order, from the old state to the new one. Either the last command, an accepted QUIT or SHUTDOWN,
--- ends the pipe, or none does. Where the run begins at a first state, no live job is lost in it, and each batch calls back once.
+-- ends the pipe, or none does. Their events are one run of the store. Where it begins at a first world, no live job is lost in it, and each batch calls
+-- back once.
 pub record Serves (ends : Bool) (old : State) (commands : List Command) (new : State) (written : Bytes) : Type 0 where
   pub replies : List Reply
   pub answers : Answers old commands replies new ends
-  pub reliable : AreReliable old answers.turns
+  pub reliable : AreReliable old.world (steps_in answers.turns)
   pub text : written ≡ joined (map wire replies)
 
 -- the reply to a fault of the stream

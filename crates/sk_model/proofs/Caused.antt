@@ -1,0 +1,544 @@
+-- Each command's moves have causes.
+use Rattle.std.proofs.Common.{◌≡◌, ℕ, zero, suc, List, [], ◌∷◌, ◌++◌, refl, sym, ap, subst, ◌∙◌, inl, inr, arith, Bool, true, false, cond, not, ◌||◌, ◌&&◌, map}
+use Rattle.std.specs.Prelude.{Option, Some, None, Ok, Err, nat_abs, filter}
+use Rattle.std.specs.Option.{is_some}
+use Rattle.std.specs.List.{list_all}
+use Rattle.std.specs.Str.{bytes_eq}
+use Rattle.sk_resp.specs.Spelling.{Bytes}
+use Rattle.sk_cmd.specs.Reading.{Read}
+use Rattle.sk_cmd.specs.Table.{IsRead}
+use Rattle.sk_cmd.specs.declared.argument.Side.{Side}
+use Rattle.sk_cmd.specs.declared.argument.Side.TheVariants.{Left, Right}
+use Rattle.sk_cmd.specs.declared.argument.Scored.{Scored}
+use Rattle.sk_cmd.specs.declared.argument.Scored.TheVariants.{Schedule, Retry, Dead}
+use Rattle.sk_cmd.specs.declared.command.Command.{Command}
+use Rattle.sk_cmd.specs.declared.command.Command.TheVariants as command
+use Rattle.sk_cmd.specs.declared.command.PlainCommand.{PlainCommand}
+use Rattle.sk_cmd.specs.declared.command.ScriptCommand.{ScriptCommand}
+use Rattle.sk_cmd.specs.declared.command.ScriptCommand.TheVariants as script
+use Rattle.sk_payload.specs.Follows.{follows}
+use Rattle.sk_payload.specs.Head.{head}
+use Rattle.sk_payload.specs.Member.{is_name}
+use Rattle.sk_payload.specs.declared.head.Head.{Head}
+use Rattle.sk_zset.specs.Bounds.{is_between}
+use Rattle.sk_zset.specs.Pair.{Pair}
+use Rattle.sk_value.specs.Lists.{range_of}
+use Rattle.sk_value.specs.Sets.{is_member}
+use Rattle.sk_value.specs.Action.{action_of}
+use Rattle.sk_value.specs.declared.action.Action.{Action}
+use Rattle.sk_value.specs.declared.action.Action.TheVariants as action
+use Rattle.sk_value.specs.declared.edit.Edit.{Edit}
+use Rattle.sk_value.specs.declared.edit.Edit.TheVariants as edit
+use Rattle.sk_places.specs.declared.row.Place.{Place}
+use Rattle.sk_places.specs.declared.row.Place.TheVariants.{Queue, Set}
+use Rattle.sk_places.specs.declared.row.Row.{Row}
+use Rattle.sk_places.specs.Rows.{copies_of, end_taken, number_taken, pair_of, row_at, row_of, rows_at}
+use Rattle.sk_batch.specs.Batched.{Batched, is_there}
+use Rattle.sk_batch.specs.Events.{made_fires}
+use Rattle.sk_batch.specs.Faults.{bid_fault, batch_fault, jids_fault, breaks, is_full}
+use Rattle.sk_batch.specs.Stat.{stat}
+use Rattle.sk_batch.specs.declared.batch.Batch.{Batch}
+use Rattle.sk_batch.specs.declared.batch_fault.BatchFault.{BatchFault}
+use Rattle.sk_batch.specs.declared.batch_fault.BatchFault.TheVariants.{Full}
+use Rattle.sk_batch.specs.declared.batch_stat.BatchStat.{BatchStat}
+use Rattle.sk_batch.specs.declared.event.Event.TheVariants.{Returned, Reported}
+use Rattle.sk_batch.specs.declared.firing.Firing.{Firing}
+use Rattle.sk_lives.specs.declared.origin.Origin.TheVariants.{Outside}
+use Rattle.sk_model.specs.declared.key_class.KeyClass.{KeyClass}
+use Rattle.sk_model.specs.declared.key_class.KeyClass.TheVariants as class
+use Rattle.sk_model.specs.declared.phase.End.TheVariants as end
+use Rattle.sk_model.specs.declared.phase.Phase.{Phase}
+use Rattle.sk_model.specs.declared.phase.Phase.TheVariants.{Plain, Idle, Held, Put, Settled}
+use Rattle.sk_model.specs.Phases.{is_plain as is_plain_seat}
+use Rattle.sk_counters.specs.Counters.{processed, failed}
+use Rattle.sk_leases.specs.Leased.{is_alive}
+use Rattle.sk_model.specs.Reading.{Words}
+use Rattle.sk_model.specs.World.{World, phase_of, first}
+use Rattle.sk_model.specs.Change.{Carry, Trim, Change, Moves, Passes, Names, Unnames, Turns, Counts, Recovers, Forgets, Makes, changed, perform}
+use Rattle.sk_model.specs.Class.{class_of, queue_of, is_plain, is_queue}
+use Rattle.sk_model.specs.Outcome.{Outcome}
+use Rattle.sk_model.specs.Room.{is_full as is_store_full, is_too_much}
+use Rattle.sk_model.specs.Queues.{pushes, takes, move_row}
+use Rattle.sk_model.specs.Deletes.{take_all, delete_as, delete_each, may_go}
+use Rattle.sk_model.specs.Sets.{add_as, add_one, add_each, edit_jobs, put_as, put_back}
+use Rattle.sk_model.specs.Seats.{fetched_from, is_for_all, is_release, is_workers, releases, retried, where_plain, where_held, where_same}
+use Rattle.sk_model.specs.Jobs.{Sent, bury, buried_by, due_rows, each, kill_row, merge, moment_score, put_dead, revive_as, revive_row, send, surplus, to_queue}
+use Rattle.sk_model.specs.Told.{push_job, push_to, fire_all}
+use Rattle.sk_model.specs.Batches.{all_may_join, are_callbacks, batch_add, batch_of, batch_push, jids_of, join as join_batch, make, push_jobs, tells_stat, unless}
+use Rattle.sk_model.specs.Rescue.{bury_poison, is_poison, left_rows, rescue_row}
+use Rattle.sk_model.specs.Workers.{bury as bury_held, fail, fetch, fetch_row, give, give_row, may_bury, ok, release, retry, work}
+use Rattle.sk_model.specs.Step.{act, by_seat, edit_names, edit_queue, edits, is_script_built, moves, on_plain, outcome, run}
+use Rattle.sk_model.specs.Event.{Event, Ask, Cut, Gives, Happens, Run, Step, after}
+use Rattle.sk_model.specs.Causes.{CausesFrom, HaveCauses, IsRemoval, MovesHaveCauses, removes}
+use Rattle.sk_model.proofs.Marked.{ParentTakes, Sane}
+use Rattle.sk_model.proofs.Fired.{all_quiet, perform-append, quiet-append, quiet_batches}
+use Rattle.sk_model.proofs.Calls.{AllCalled}
+use Rattle.sk_model.proofs.Told.{tells_death}
+use Rattle.sk_model.proofs.Sending.{text_is, trims_quiet}
+use Rattle.sk_model.proofs.Working.{put_quiet, retried_follows}
+use Rattle.sk_model.proofs.Making.{bid_clear, jobs_quiet, made_called}
+use Rattle.sk_model.proofs.Commands.{lawful}
+use Rattle.sk_model.proofs.Firing.{sane_first}
+use Rattle.sk_model.proofs.Causing.{all_tame, buried_causes, causes_append, causes_tame, fires_cause, some_burial, tame-append, tell_causes}
+
+-- ## Which outcome it is
+
+either : (P : List Change → Type 0) (b : Bool) (one other : Outcome) → (b ≡ true → P one.changes) → (b ≡ false → P other.changes) → P (cond b one other).changes
+either P true one other f g = f refl
+either P false one other f g = g refl
+
+in_plain : (P : List Change → Type 0) (phase : Phase) (o : Outcome) → P [] → P o.changes → P (where_plain phase o).changes
+in_plain P Plain o none one = one
+in_plain P (Idle ident) o none one = none
+in_plain P (Held ident held) o none one = none
+in_plain P (Put ident held) o none one = none
+in_plain P (Settled ident held end) o none one = none
+
+in_held : (P : List Change → Type 0) (phase : Phase) (o : Bytes → Bytes → Outcome) → P [] → ((ident held : Bytes) → phase ≡ Held ident held → P (o ident held).changes) → P (where_held phase o).changes
+in_held P Plain o none one = none
+in_held P (Idle ident) o none one = none
+in_held P (Held ident held) o none one = one ident held refl
+in_held P (Put ident held) o none one = none
+in_held P (Settled ident held end) o none one = none
+
+in_same : (P : List Change → Type 0) (phase : Phase) (text : Bytes) (o : Bytes → Outcome) → P [] → ((ident : Bytes) → phase ≡ Held ident text → P (o ident).changes) → P (where_same phase text o).changes
+in_same P phase text o none one = in_held P phase _ none
+    (λ ident held is. either P (bytes_eq held text) _ _ (λ y. one ident (is ∙ ap (Held ident) (text_is held text y))) (λ n. none))
+
+-- ## What clients do to keys needs no cause, but where it takes rows away
+
+abbrev edit_takes : Edit → Bool
+edit_takes (edit.Lrem count text) = true
+edit_takes (edit.Zrem members) = true
+edit_takes (edit.Zremrangebyrank first last) = true
+edit_takes (edit.Zremrangebyscore least greatest) = true
+edit_takes other = false
+
+abbrev action_takes : Action → Bool
+action_takes (action.Edit key e) = edit_takes e
+action_takes (action.Delete keys) = true
+action_takes action.Flush = true
+action_takes other = false
+
+abbrev Tame : Bool → List Change → Type 0
+Tame takes changes = all_tame takes changes ≡ true
+
+pushes_tame : (b : Bool) (end : Side) (place : Place) (texts : List Bytes) → Tame b (pushes end place texts)
+pushes_tame b end place [] = refl
+pushes_tame b end place (text ∷ texts) = pushes_tame b end place texts
+
+takes_tame : (n : ℕ) (row : Row) (end : Side) → Tame true (takes n row end)
+takes_tame zero row end = refl
+takes_tame (suc n) row end = takes_tame n row end
+
+take_all_tame : (rows : List Row) → Tame true (take_all rows)
+take_all_tame [] = refl
+take_all_tame (row ∷ rows) = take_all_tame rows
+
+names_tame : (b : Bool) (names : List Bytes) → Tame b (map Names names)
+names_tame b [] = refl
+names_tame b (name ∷ names) = names_tame b names
+
+unnames_tame : (b : Bool) (names : List Bytes) → Tame b (map Unnames names)
+unnames_tame b [] = refl
+unnames_tame b (name ∷ names) = unnames_tame b names
+
+add_as_tame : (b : Bool) (set : Scored) (pair : Pair) (found : Option Row) (more : List Change) → Tame b more → Tame b (add_as set pair found ∷ more)
+add_as_tame b set pair None more e = e
+add_as_tame b set pair (Some row) more e = e
+
+add_each_tame : (b : Bool) (w : World) (set : Scored) (pairs : List Pair) → Tame b (add_each w set pairs)
+add_each_tame b w set [] = refl
+add_each_tame b w set (pair ∷ pairs) = let one = add_one w set pair in
+    add_as_tame b set pair (row_of pair.1 (rows_at (Set set) w.rows)) (add_each (changed w one) set pairs) (add_each_tame b (changed w one) set pairs)
+
+zadd_tame : (w : World) (set : Scored) (pairs : List Pair) → Tame false (edit_jobs w set (edit.Zadd pairs)).changes
+zadd_tame w Schedule pairs = either (Tame false) (is_store_full w (map (λ pair. pair.1) pairs)) _ _ (λ y. refl) (λ n. add_each_tame false w Schedule pairs)
+zadd_tame w Retry pairs = refl
+zadd_tame w Dead pairs = refl
+
+edit_jobs_tame : (w : World) (set : Scored) (e : Edit) → Tame (edit_takes e) (edit_jobs w set e).changes
+edit_jobs_tame w set (edit.Zadd pairs) = zadd_tame w set pairs
+edit_jobs_tame w set (edit.Zrem members) = take_all_tame (filter (λ row. is_member row.text members) (rows_at (Set set) w.rows))
+edit_jobs_tame w set (edit.Zremrangebyrank first last) = take_all_tame (range_of first last (rows_at (Set set) w.rows))
+edit_jobs_tame w set (edit.Zremrangebyscore least greatest) = take_all_tame (filter (λ row. is_between least greatest (pair_of row)) (rows_at (Set set) w.rows))
+edit_jobs_tame w set (edit.Push side texts) = refl
+edit_jobs_tame w set (edit.Lrem count text) = refl
+edit_jobs_tame w set (edit.Incrby n) = refl
+edit_jobs_tame w set (edit.Sadd members) = refl
+edit_jobs_tame w set (edit.Srem members) = refl
+edit_jobs_tame w set (edit.Hset pairs) = refl
+edit_jobs_tame w set (edit.Hdel fields) = refl
+
+edit_queue_tame : (w : World) (queue : Bytes) (e : Edit) → Tame (edit_takes e) (edit_queue w queue e).changes
+edit_queue_tame w queue (edit.Push side texts) = either (Tame false) (is_store_full w texts) _ _ (λ y. refl) (λ n. pushes_tame false side (Queue queue) texts)
+edit_queue_tame w queue (edit.Lrem count text) = let row = row_at (Queue queue) text in takes_tame (number_taken count (copies_of row w.rows)) row (end_taken count)
+edit_queue_tame w queue (edit.Incrby n) = refl
+edit_queue_tame w queue (edit.Sadd members) = refl
+edit_queue_tame w queue (edit.Srem members) = refl
+edit_queue_tame w queue (edit.Hset pairs) = refl
+edit_queue_tame w queue (edit.Hdel fields) = refl
+edit_queue_tame w queue (edit.Zadd scores) = refl
+edit_queue_tame w queue (edit.Zrem members) = refl
+edit_queue_tame w queue (edit.Zremrangebyrank first last) = refl
+edit_queue_tame w queue (edit.Zremrangebyscore least greatest) = refl
+
+edit_names_tame : (b : Bool) (w : World) (e : Edit) → Tame b (edit_names w e).changes
+edit_names_tame b w (edit.Sadd names) = either (Tame b) (list_all (is_name 255) names) _ _ (λ y. names_tame b names) (λ n. refl)
+edit_names_tame b w (edit.Push side texts) = refl
+edit_names_tame b w (edit.Lrem count text) = refl
+edit_names_tame b w (edit.Incrby n) = refl
+edit_names_tame b w (edit.Srem members) = refl
+edit_names_tame b w (edit.Hset pairs) = refl
+edit_names_tame b w (edit.Hdel fields) = refl
+edit_names_tame b w (edit.Zadd scores) = refl
+edit_names_tame b w (edit.Zrem members) = refl
+edit_names_tame b w (edit.Zremrangebyrank first last) = refl
+edit_names_tame b w (edit.Zremrangebyscore least greatest) = refl
+
+edits_tame : (w : World) (key : Bytes) (e : Edit) (c : KeyClass) → Tame (edit_takes e) (edits w key e c).changes
+edits_tame w key e class.Plain = refl
+edits_tame w key e class.Queue = edit_queue_tame w (queue_of key) e
+edits_tame w key e class.Queues = edit_names_tame (edit_takes e) w e
+edits_tame w key e (class.Jobs set) = edit_jobs_tame w set e
+edits_tame w key e class.NoQueue = refl
+edits_tame w key e class.Private = refl
+edits_tame w key e class.NoPrivate = refl
+edits_tame w key e class.Processes = refl
+edits_tame w key e class.Counter = refl
+
+on_plain_tame : (w : World) (a : Action) (c : KeyClass) → Tame false (on_plain w a c).changes
+on_plain_tame w a c = either (Tame false) (is_plain c) _ _ (λ y. refl) (λ n. refl)
+
+move_row_tame : (found : Option Row) (from : Side) (to : Place) (end : Side) → Tame false (move_row found from to end).changes
+move_row_tame None from to end = refl
+move_row_tame (Some row) from to end = refl
+
+moves_tame : (w : World) (source destination : Bytes) (from to : Side) (c d : KeyClass) → Tame false (moves w source destination from to c d).changes
+moves_tame w source destination from to c d = either (Tame false) (is_plain c && is_plain d) _ _ (λ y. refl)
+    (λ n. either (Tame false) (is_queue c && is_queue d) _ _ (λ y. move_row_tame _ from (Queue (queue_of destination)) to) (λ n. refl))
+
+delete_as_tame : (w : World) (key : Bytes) (c : KeyClass) → Tame true (delete_as w key c).changes
+delete_as_tame w key class.Plain = refl
+delete_as_tame w key class.Queue = tame-append true (take_all (rows_at (Queue (queue_of key)) w.rows)) (Unnames (queue_of key) ∷ []) (take_all_tame (rows_at (Queue (queue_of key)) w.rows)) refl
+delete_as_tame w key (class.Jobs set) = take_all_tame (rows_at (Set set) w.rows)
+delete_as_tame w key class.NoQueue = refl
+delete_as_tame w key class.Private = refl
+delete_as_tame w key class.NoPrivate = refl
+delete_as_tame w key class.Processes = refl
+delete_as_tame w key class.Queues = refl
+delete_as_tame w key class.Counter = refl
+
+delete_each_tame : (w : World) (keys : List Bytes) → Tame true (delete_each w keys).changes
+delete_each_tame w [] = refl
+delete_each_tame w (key ∷ keys) = let one = (delete_as w key (class_of key)).changes in
+    tame-append true one (delete_each (perform w one) keys).changes (delete_as_tame w key (class_of key)) (delete_each_tame (perform w one) keys)
+
+act_tame : (w : World) (a : Action) → Tame (action_takes a) (act w a).changes
+act_tame w action.Ping = refl
+act_tame w (action.Echo text) = refl
+act_tame w action.Quit = refl
+act_tame w (action.Look key look) = refl
+act_tame w (action.Edit key e) = edits_tame w key e (class_of key)
+act_tame w (action.Set key text options) = on_plain_tame w (action.Set key text options) (class_of key)
+act_tame w (action.Expire key millis) = on_plain_tame w (action.Expire key millis) (class_of key)
+act_tame w (action.Exists keys) = refl
+act_tame w (action.Delete keys) = either (Tame true) (list_all (λ key. may_go (class_of key)) keys) _ _ (λ y. delete_each_tame w keys) (λ n. refl)
+act_tame w (action.Move source destination from to) = moves_tame w source destination from to (class_of source) (class_of destination)
+act_tame w action.Flush = tame-append true (take_all w.rows ++ map Unnames w.names) _ (tame-append true (take_all w.rows) (map Unnames w.names) (take_all_tame w.rows) (unnames_tame true w.names)) refl
+
+-- the commands that take rows away
+takes_of : (c : PlainCommand) → action_takes (action_of c) ≡ true → removes c ≡ true
+takes_of c e = grind (arith, e)
+
+-- a worker's seat may send none of them
+none_for_all : (c : PlainCommand) → removes c ≡ true → is_for_all c ≡ false
+none_for_all c e = grind (arith, e)
+
+plain_is : (phase : Phase) → is_plain_seat phase ≡ true → phase ≡ Plain
+plain_is Plain e = refl
+plain_is (Idle ident) e = absurd (cc e)
+plain_is (Held ident held) e = absurd (cc e)
+plain_is (Put ident held) e = absurd (cc e)
+plain_is (Settled ident held end) e = absurd (cc e)
+
+-- ## Burying
+
+module _ (v : World) (text : Bytes) (put : List Change) (quiet : all_quiet put ≡ true) where
+  abbrev after_put : World
+  after_put = perform v put
+
+  abbrev gone : List Row
+  gone = surplus after_put (rows_at (Set Dead) after_put.rows)
+
+  abbrev done : List Change
+  done = put ++ map (λ row. Moves (Trim row)) gone
+
+  done_sane : Sane v.batches → Sane (perform v done).batches
+  done_sane s = subst Sane (sym (quiet_batches v done (quiet-append put _ quiet (trims_quiet gone)))) s
+
+  -- a burying leaves the batches sane
+  buried_sane : Sane v.batches → Sane (perform v (buried_by v text put).changes).batches
+  buried_sane s = subst (λ (u : World). Sane u.batches) (sym (perform-append v done _)) ((tells_death (perform v done) (head text)).leads.sane (done_sane s))
+
+dead_quiet : (found : Option Row) (row : Row) (v : World) → all_quiet (merge found ++ Moves (Carry row Left (Set Dead) (moment_score v) Left) ∷ []) ≡ true
+dead_quiet None row v = refl
+dead_quiet (Some other) row v = refl
+
+dead_buried : (found : Option Row) (row : Row) (v : World) → some_burial (merge found ++ Moves (Carry row Left (Set Dead) (moment_score v) Left) ∷ []) ≡ true
+dead_buried None row v = refl
+dead_buried (Some other) row v = refl
+
+dead_tame : (found : Option Row) (row : Row) (v : World) → Tame false (merge found ++ Moves (Carry row Left (Set Dead) (moment_score v) Left) ∷ [])
+dead_tame None row v = refl
+dead_tame (Some other) row v = refl
+
+no_removal : (w : World) (event : Event) → false ≡ true → IsRemoval w event
+no_removal w event e = absurd (cc e)
+
+bury_sane : (v : World) (row : Row) → Sane v.batches → Sane (perform v (bury v row).changes).batches
+bury_sane v row s = buried_sane v row.text (put_dead v row) (dead_quiet _ row v) s
+
+-- a way to send a row
+pub record Caused (w : World) (event : Event) (way : World → Row → Option Head → Sent) : Type 0 where
+  pub causes : (v : World) (row : Row) (found : Option Head) → Sane v.batches → HaveCauses w event false [] v (way v row found).changes
+  pub sane : (v : World) (row : Row) (found : Option Head) → Sane v.batches → Sane (perform v (way v row found).changes).batches
+
+module _ (w : World) (event : Event) where
+  tame_causes : (v : World) (changes : List Change) → Tame false changes → HaveCauses w event false [] v changes
+  tame_causes v changes e = causes_tame w event false false [] v changes (no_removal w event) e
+
+  bury_causes : (v : World) (row : Row) → Sane v.batches → HaveCauses w event false [] v (bury v row).changes
+  bury_causes v row s =
+      let put : List Change = put_dead v row in
+      let quiet : all_quiet put ≡ true = dead_quiet _ row v in
+      buried_causes w event v row.text put (dead_buried _ row v) (tame_causes v put (dead_tame _ row v)) (done_sane v row.text put quiet s)
+
+  -- ## Each row that is sent on
+
+  each_causes : (way : World → Row → Option Head → Sent) → Caused w event way → (v : World) (rows : List Row) → Sane v.batches → HaveCauses w event false [] v (each way v rows).changes
+  each_causes way c v [] s = tt
+  each_causes way c v (row ∷ rows) s =
+      let one : List Change = (way v row (head row.text)).changes in
+      causes_append w event false [] v one (each way (perform v one) rows).changes (c.causes v row (head row.text) s) (each_causes way c (perform v one) rows (c.sane v row (head row.text) s))
+
+  send_caused : Caused w event send
+  send_caused = record { causes = causes; sane = sane } where
+    causes : (v : World) (row : Row) (found : Option Head) → Sane v.batches → HaveCauses w event false [] v (send v row found).changes
+    causes v row None s = bury_causes v row s
+    causes v row (Some h) s = (tt, tt)
+
+    sane : (v : World) (row : Row) (found : Option Head) → Sane v.batches → Sane (perform v (send v row found).changes).batches
+    sane v row None s = bury_sane v row s
+    sane v row (Some h) s = s
+
+  either_sent : (P : List Change → Type 0) (b : Bool) (one other : Sent) → P one.changes → P other.changes → P (cond b one other).changes
+  either_sent P true one other f g = f
+  either_sent P false one other f g = g
+
+  rescue_caused : Caused w event rescue_row
+  rescue_caused = record { causes = causes; sane = sane } where
+    causes : (v : World) (row : Row) (found : Option Head) → Sane v.batches → HaveCauses w event false [] v (rescue_row v row found).changes
+    causes v row None s = bury_causes v row s
+    causes v row (Some h) s =
+        let noted : World = changed v (Recovers h.jid) in (
+          tt,
+          either_sent (HaveCauses w event false [] noted) (is_poison noted h.jid) (bury_poison noted row h.jid) (to_queue Right row h)
+              (causes_append w event false [] noted (bury noted row).changes (Forgets h.jid ∷ []) (bury_causes noted row s) (tt, tt)) (tt, tt),
+        )
+
+    sane : (v : World) (row : Row) (found : Option Head) → Sane v.batches → Sane (perform v (rescue_row v row found).changes).batches
+    sane v row None s = bury_sane v row s
+    sane v row (Some h) s =
+        let noted : World = changed v (Recovers h.jid) in
+        either_sent (λ changes. Sane (perform noted changes).batches) (is_poison noted h.jid) (bury_poison noted row h.jid) (to_queue Right row h)
+        (subst (λ (u : World). Sane u.batches) (sym (perform-append noted (bury noted row).changes (Forgets h.jid ∷ []))) (bury_sane noted row s)) s
+
+  kill_row_causes : (v : World) (found : Option Row) → Sane v.batches → HaveCauses w event false [] v (kill_row v found).changes
+  kill_row_causes v None s = tt
+  kill_row_causes v (Some row) s = bury_causes v row s
+
+  revive_as_causes : (v : World) (row : Row) (found : Option Head) → HaveCauses w event false [] v (revive_as row found).changes
+  revive_as_causes v row None = tt
+  revive_as_causes v row (Some h) = (tt, tt)
+
+  revive_row_causes : (v : World) (found : Option Row) → HaveCauses w event false [] v (revive_row found).changes
+  revive_row_causes v None = tt
+  revive_row_causes v (Some row) = revive_as_causes v row (head row.text)
+
+  -- ## Batches
+
+  push_tame : (text : Bytes) (found : Option Head) → Tame false (push_to Outside text found)
+  push_tame text None = refl
+  push_tame text (Some h) = refl
+
+  jobs_tame : (texts : List Bytes) → Tame false (push_jobs texts)
+  jobs_tame [] = refl
+  jobs_tame (text ∷ texts) = tame-append false (push_job Outside text) (push_jobs texts) (push_tame text (head text)) (jobs_tame texts)
+
+  make_causes : (v : World) (batch : Batch) (texts : List Bytes) → is_there batch.bid v.batches.batches ≡ false → ParentTakes v.batches batch.parent → HaveCauses w event false [] v (make batch texts).changes
+  make_causes v batch texts new takes =
+      let firings : List Firing = made_fires batch (jids_of texts) in
+      let u : World = changed v (Makes batch (jids_of texts)) in
+      let called : AllCalled (perform u (push_jobs texts)).batches firings =
+      subst (λ (s : Batched). AllCalled s firings) (sym (quiet_batches u (push_jobs texts) (jobs_quiet texts))) (made_called v.batches batch (jids_of texts) new takes) in
+      (tt, causes_append w event false [] u (push_jobs texts) (fire_all firings) (tame_causes u (push_jobs texts) (jobs_tame texts)) (fires_cause w event (perform u (push_jobs texts)) firings called))
+
+  fault_or_causes : (v : World) (fault : Option BatchFault) (o : Outcome) → (fault ≡ None → HaveCauses w event false [] v o.changes) → HaveCauses w event false [] v (unless fault o).changes
+  fault_or_causes v None o f = f refl
+  fault_or_causes v (Some fault) o f = tt
+
+  batch_push_causes : (v : World) (batch : Batch) (texts : List Bytes) → HaveCauses w event false [] v (batch_push v batch texts).changes
+  batch_push_causes v batch texts =
+      let P : List Change → Type 0 = HaveCauses w event false [] v in
+      either P (not (is_name 64 batch.bid)) _ _ (λ y. tt) (λ n.
+      fault_or_causes v (bid_fault batch.bid batch.parent v.batches None) _ (λ clear.
+      either P (not (are_callbacks batch.callbacks && all_may_join batch.bid texts)) _ _ (λ y. tt) (λ n.
+      fault_or_causes v (jids_fault batch.bid (jids_of texts) v.batches (breaks (is_full v.batches) Full None)) _ (λ e.
+      either P (is_too_much v texts) _ _ (λ y. tt) (λ n.
+      let c = bid_clear batch.bid batch.parent v.batches clear in make_causes v batch texts c.0 c.1)))))
+
+  batch_add_causes : (v : World) (bid : Bytes) (texts : List Bytes) → HaveCauses w event false [] v (batch_add v bid texts).changes
+  batch_add_causes v bid texts =
+      let P : List Change → Type 0 = HaveCauses w event false [] v in
+      fault_or_causes v (batch_fault bid v.batches None) _ (λ clear.
+      either P (not (all_may_join bid texts)) _ _ (λ y. tt) (λ n.
+      fault_or_causes v (jids_fault bid (jids_of texts) v.batches None) _ (λ e.
+      either P (is_too_much v texts) _ _ (λ y. tt) (λ n. tame_causes v (join_batch bid texts).changes (jobs_tame texts)))))
+
+  stat_causes : (v : World) (found : Option BatchStat) → HaveCauses w event false [] v (tells_stat found).changes
+  stat_causes v None = tt
+  stat_causes v (Some s) = tt
+
+-- ## A command of a seat
+
+module _ (w : World) (seat now : ℕ) (words : Words) where
+  abbrev event : Event
+  event = Ask seat now words
+
+  abbrev v : World
+  v = changed w (Passes now)
+
+  abbrev C : List Change → Type 0
+  C = HaveCauses w event false [] v
+
+  fetch_row_causes : (ident : Bytes) (found : Option Row) → C (fetch_row seat ident found).changes
+  fetch_row_causes ident None = tt
+  fetch_row_causes ident (Some row) = (tt, (tt, tt))
+
+  fetch_causes : (ident : Bytes) (found : Option Bytes) → C (fetch v seat ident found).changes
+  fetch_causes ident None = tt
+  fetch_causes ident (Some queue) = fetch_row_causes ident _
+
+  -- a text is put back into a set
+  put_causes : (c : Command) (ident held : Bytes) (set : Scored) (pair : Pair) (found : Option Row) → IsRead words (Ok c) → phase_of w seat ≡ Held ident held → may_bury held pair.1 ≡ true
+      → C (put_as set pair found ∷ Turns seat (Put ident held) ∷ [])
+  put_causes c ident held set pair None read is may = (record { seat = seat; c = c; ident = ident; held = held; sent = (refl, read); phase = is; follows = may }, (tt, tt))
+  put_causes c ident held set pair (Some row) read is may = (tt, (tt, tt))
+
+  retry_causes : (c : PlainCommand) (ident held : Bytes) (found : Option Pair) → IsRead words (Ok (command.Plain c)) → phase_of w seat ≡ Held ident held → ((pair : Pair) → found ≡ Some pair → follows held pair.1 ≡ true)
+      → C (retry v seat ident held found).changes
+  retry_causes c ident held None read is all = tt
+  retry_causes c ident held (Some pair) read is all = put_causes (command.Plain c) ident held Retry pair _ read is (ap (λ b. b || (bytes_eq held pair.1 && not (is_some (head held)))) (all pair refl))
+
+  release_causes : (c : PlainCommand) (ident held : Bytes) → IsRead words (Ok (command.Plain c)) → releases (phase_of w seat) (action_of c) ≡ true → C (release v seat ident held).changes
+  release_causes c ident held read e = (record { c = c; sent = (refl, read); release = e }, (tt, tt))
+
+  work_causes : (c : PlainCommand) (phase : Phase) → IsRead words (Ok (command.Plain c)) → phase_of w seat ≡ phase → C (work v seat phase (action_of c)).changes
+  work_causes c Plain read is = tt
+  work_causes c (Idle ident) read is = fetch_causes ident (fetched_from ident (action_of c))
+  work_causes c (Held ident held) read is = retry_causes c ident held (retried held (action_of c)) read is (retried_follows held (action_of c))
+  work_causes c (Put ident held) read is =
+      either C (is_release ident held (action_of c)) _ _ (λ y. release_causes c ident held read (ap (λ phase. releases phase (action_of c)) is ∙ y)) (λ n. tt)
+  work_causes c (Settled ident held end) read is =
+      either C (is_release ident held (action_of c)) _ _ (λ y. release_causes c ident held read (ap (λ phase. releases phase (action_of c)) is ∙ y)) (λ n. tt)
+
+  removal : (c : PlainCommand) → IsRead words (Ok (command.Plain c)) → is_plain_seat (phase_of w seat) || is_for_all c ≡ true → action_takes (action_of c) ≡ true → IsRemoval w event
+  removal c read may takes =
+      let is = takes_of c takes in
+      let none = none_for_all c is in
+      record { seat = seat; c = c; sent = (refl, read); phase = plain_is (phase_of w seat) (grind (arith, may, none)); takes = is }
+
+  plain_causes : (c : PlainCommand) → IsRead words (Ok (command.Plain c)) → C (by_seat v seat (phase_of w seat) c).changes
+  plain_causes c read = either C (is_workers (action_of c)) _ _ (λ y. work_causes c (phase_of w seat) read refl)
+      (λ n. either C (is_plain_seat (phase_of w seat) || is_for_all c) _ _
+      (λ may. causes_tame w event (action_takes (action_of c)) false [] v _ (removal c read may) (act_tame v (action_of c))) (λ n. tt))
+
+  give_row_causes : (ident : Bytes) (h : Head) (found : Option Row) → C (give_row seat ident h found).changes
+  give_row_causes ident h None = (tt, tt)
+  give_row_causes ident h (Some row) = (tt, (tt, tt))
+
+  give_causes : (ident text : Bytes) (found : Option Head) → C (give v seat ident text found).changes
+  give_causes ident text None = tt
+  give_causes ident text (Some h) = give_row_causes ident h _
+
+  ok_causes : (text : Bytes) → IsRead words (Ok (command.Script (script.Ok text))) → Sane w.batches → C (ok v seat (phase_of w seat) text).changes
+  ok_causes text read s = in_same C (phase_of w seat) text _ tt (λ ident is.
+      causes_append w event false [] v (Turns seat (Settled ident text end.Returned) ∷ Counts processed ∷ []) _ (tt, (tt, tt))
+      (tell_causes w event Returned _ (head text) s (λ h bid of_text named. record { seat = seat; ident = ident; held = text; h = h; sent = (refl, read); phase = is; head_is = of_text; jid_is = refl; bid_is = named })))
+
+  fail_causes : (text : Bytes) → Sane w.batches → C (fail v (phase_of w seat) text).changes
+  fail_causes text s = in_same C (phase_of w seat) text _ tt (λ ident is.
+      causes_append w event false [] v (Counts processed ∷ Counts failed ∷ []) _ (tt, (tt, tt)) (tell_causes w event Reported _ (head text) s (λ h bid of_text named. tt)))
+
+  put_buried : (pair : Pair) (found : Option Row) (more : List Change) → some_burial (put_as Dead pair found ∷ more) ≡ true
+  put_buried pair None more = refl
+  put_buried pair (Some row) more = refl
+
+  bury_held_causes : (text : Bytes) → IsRead words (Ok (command.Script (script.Bury text))) → Sane w.batches → C (bury_held v seat (phase_of w seat) text).changes
+  bury_held_causes text read s = in_held C (phase_of w seat) _ tt (λ ident held is. either C (may_bury held text) _ _
+      (λ may.
+      let pair : Pair = (moment_score v, text) in
+      let put : List Change = put_back v Dead pair ∷ Turns seat (Put ident held) ∷ [] in
+      let quiet : all_quiet put ≡ true = put_quiet Dead pair _ seat (Put ident held) in
+      buried_causes w event v text put (put_buried pair (row_of text (rows_at (Set Dead) v.rows)) (Turns seat (Put ident held) ∷ [])) (put_causes (command.Script (script.Bury text)) ident held Dead pair _ read is may) (done_sane v text put quiet s)) (λ n. tt))
+
+  run_causes : (c : ScriptCommand) → IsRead words (Ok (command.Script c)) → Sane w.batches → C (run v seat (phase_of w seat) c).changes
+  run_causes (script.Beat ident) read s = either C (is_name 255 ident) _ _ (λ y. (tt, tt)) (λ n. tt)
+  run_causes (script.Join ident) read s = in_plain C (phase_of w seat) _ tt (either C (is_alive ident v.moment v.leases) _ _ (λ y. (tt, tt)) (λ n. tt))
+  run_causes (script.Start text) read s = in_same C (phase_of w seat) text _ tt (λ ident is. tt)
+  run_causes (script.Ok text) read s = ok_causes text read s
+  run_causes (script.Fail text) read s = fail_causes text s
+  run_causes (script.Drop text) read s = in_same C (phase_of w seat) text _ tt (λ ident is. (tt, tt))
+  run_causes (script.Bury text) read s = bury_held_causes text read s
+  run_causes (script.Back text) read s = in_same C (phase_of w seat) text _ tt (λ ident is. give_causes ident text (head text))
+  run_causes (script.Due set limit) read s = in_plain C (phase_of w seat) _ tt (each_causes w event send (send_caused w event) v (due_rows v set (nat_abs limit)) s)
+  run_causes (script.Revive set text) read s = in_plain C (phase_of w seat) _ tt (revive_row_causes w event v _)
+  run_causes (script.Kill set text) read s = in_plain C (phase_of w seat) _ tt (kill_row_causes w event v _ s)
+  run_causes script.Rescue read s = in_plain C (phase_of w seat) _ tt (each_causes w event rescue_row (rescue_caused w event) v (left_rows v) s)
+  run_causes (script.Upush text score) read s = tt
+  run_causes (script.Bpush bid parent complete success death texts) read s = batch_push_causes w event v (batch_of bid parent complete success death) texts
+  run_causes (script.Badd bid texts) read s = batch_add_causes w event v bid texts
+  run_causes (script.Bstat bid) read s = stat_causes w event v (stat bid v.batches)
+  run_causes (script.Lead ident) read s = tt
+  run_causes (script.Cron ident loop slot text) read s = tt
+  run_causes (script.Where jid) read s = tt
+  run_causes script.Status read s = tt
+
+  -- ## The step
+
+  script_causes : (c : ScriptCommand) → IsRead words (Ok (command.Script c)) → Sane w.batches → HaveCauses w event false [] w (outcome w seat now (command.Script c)).changes
+  script_causes c read s = either (HaveCauses w event false [] w) (is_script_built c) _ _ (λ y. (tt, run_causes c read s)) (λ n. tt)
+
+  command_causes : (c : Command) → IsRead words (Ok c) → Sane w.batches → HaveCauses w event false [] w (outcome w seat now c).changes
+  command_causes (command.Plain c) read s = (tt, plain_causes c read)
+  command_causes (command.Script c) read s = script_causes c read s
+
+  gives_causes : (r : Read Command) (o : Outcome) → IsRead words r → Gives w seat now r o → Sane w.batches → HaveCauses w event false [] w o.changes
+  gives_causes (Ok c) o read (inl e) s = subst (λ (u : Outcome). HaveCauses w event false [] w u.changes) (sym e) (command_causes c read s)
+  gives_causes (Ok c) o read (inr (may, e)) s = subst (λ (u : Outcome). HaveCauses w event false [] w u.changes) (sym e) (tt, tt)
+  gives_causes (Err fault) o read e s = subst (λ (u : Outcome). HaveCauses w event false [] w u.changes) (sym e) tt
+
+event_causes : (w : World) (event : Event) (o : Outcome) → Happens w event o → Sane w.batches → HaveCauses w event false [] w o.changes
+event_causes w (Ask seat now words) o (r, read, gives) s = gives_causes w seat now words r o read gives s
+event_causes w (Cut seat) o e s = subst (λ (u : Outcome). HaveCauses w (Cut seat) false [] w u.changes) (sym e) (tt, tt)
+
+-- ## Every run
+
+causes_from : (w : World) (steps : List Step) → Sane w.batches → Run w steps → CausesFrom w steps
+causes_from w [] sane run = tt
+causes_from w (step ∷ steps) sane run =
+    (event_causes w step.event step.outcome run.0 sane, causes_from (after w step) steps ((lawful w step.event step.outcome run.0).leads.sane sane) run.1)
+
+pub moves_have_causes : MovesHaveCauses
+moves_have_causes limits steps run = causes_from (first limits) steps (sane_first limits) run

@@ -1,0 +1,18 @@
+-- All laws, of one run.
+use Rattle.sk_model.specs.Reliable.{Reliable}
+use Rattle.sk_model.proofs.Caused.{moves_have_causes}
+use Rattle.sk_model.proofs.Runs.{balance, conserve, copies_kept}
+use Rattle.sk_model.proofs.Firing.{batch_once, callbacks_follow, complete_once, death_once, settled_stays}
+
+pub reliable : Reliable
+reliable limits steps run = record {
+  live_jobs_stand = conserve limits steps run;
+  tally_balances = balance limits steps run;
+  nothing_is_lost = copies_kept limits steps run;
+  success_once = batch_once limits steps run;
+  settled_stays = settled_stays limits steps run;
+  complete_once = complete_once limits steps run;
+  death_once = death_once limits steps run;
+  callbacks_follow = callbacks_follow limits steps run;
+  moves_have_causes = moves_have_causes limits steps run;
+}

@@ -1,0 +1,5 @@
+use Rattle.sk_model.proofs.Caused.{moves_have_causes}
+use Rattle.sk_model.proofs.laws.moves_have_causes.Goals as goal
+
+pub returns : goal.returns
+returns c = moves_have_causes

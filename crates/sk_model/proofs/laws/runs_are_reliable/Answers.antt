@@ -1,0 +1,5 @@
+use Rattle.sk_model.proofs.Reliable.{reliable}
+use Rattle.sk_model.proofs.laws.runs_are_reliable.Goals as goal
+
+pub returns : goal.returns
+returns c = reliable
