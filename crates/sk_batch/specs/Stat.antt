@@ -1,7 +1,8 @@
 -- The numbers of a batch.
-use Rattle.std.specs.Prelude.{not, ◌&&◌, List, [], ◌∷◌, Option, Some, None}
+use Rattle.std.specs.Prelude.{◌≤◌, not, ◌&&◌, List, [], ◌∷◌, Option, Some, None}
 use Rattle.std.specs.List.{count_by}
 use Rattle.sk_resp.specs.Spelling.{Bytes}
+use Rattle.sk_track.specs.Balance.{most}
 use Rattle.sk_batch.specs.Batched.{Batched, BatchEntry, is_in}
 use Rattle.sk_batch.specs.Lines.{line}
 use Rattle.sk_batch.specs.Open.{lacks}
@@ -25,3 +26,10 @@ stat_of s (b ∷ above) = Some (numbers_of s b)
 -- of the batch, where it was made
 abbrev pub stat : Bytes → Batched → Option BatchStat
 stat bid s = stat_of s (line s.batches bid)
+
+-- each of the numbers is the length of a part of a list
+pub record IsSmall (n : BatchStat) : Type 0 where
+  pub members : n.members ≤ most
+  pub pending : n.pending ≤ most
+  pub unreported : n.unreported ≤ most
+  pub pending_under : n.pending_under ≤ most

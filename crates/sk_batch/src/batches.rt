@@ -1,10 +1,10 @@
 // Nested batches, as two lists whose edits in an open step can be taken back: the batches, the newest first, and the members of all of them. Each
 // call finds first what is to be done and takes all memory for it; only then does it change anything.
-ghost use Rattle.std.specs.Prelude.{◌≡◌, ◌^◌, ◌≤◌, [], None, Ok, Err, IfErr, IfOk, IsSome, MatchOption, OnErr, OnOk, length, option_map};
+ghost use Rattle.std.specs.Prelude.{◌≡◌, ◌^◌, ◌≤◌, [], None, Ok, Err, IfErr, IfOk, IfSome, IsSome, MatchOption, OnErr, OnOk, length, option_map};
 ghost use Rattle.std.specs.Result.{result_err};
 ghost use Rattle.sk_batch.specs.Events.{died, died_fires, joined, made, made_fires, reported, reported_fires, returned, returned_fires};
 ghost use Rattle.sk_batch.specs.Faults.{add_fault, batch_fault, bid_fault, is_full, jids_fault, make_fault};
-ghost use Rattle.sk_batch.specs.Stat.{stat};
+ghost use Rattle.sk_batch.specs.Stat.{IsSmall, stat};
 ghost use Rattle.sk_batch.specs.declared.batch_fault.BatchFault.TheVariants as fault;
 ghost use Rattle.sk_track.specs.Steps.{begun, closed, committed, edited, undone};
 
@@ -67,9 +67,10 @@ impl Batches {
         self.most <= self.batches.len() as u64
     }
 
-    /// The numbers of a batch, where it was made. Takes no memory.
+    /// The numbers of a batch, where it was made: none is above 2^62. Takes no memory.
     pub fn stat(&self, bid: &[u8]) -> Option<BatchStat>
-        ensures { result ≡ stat bid.now self.now.stands }
+        ensures is { result ≡ stat bid.now self.now.stands }
+        ensures small { IfSome result IsSmall }
     {
         stat(&self.batches, &self.members, bid)
     }

@@ -1,6 +1,7 @@
 // The members, in order: where one stands, and which of those under a batch are still to come.
 ghost use Rattle.std.specs.Prelude.{◌≡◌, ◌+◌, ◌<◌, ◌≤◌, true, not, ◌&&◌, drop, length, take};
 ghost use Rattle.std.specs.List.{count_by, list_any, position_or_len};
+ghost use Rattle.sk_track.specs.Balance.{most};
 ghost use Rattle.sk_batch.specs.Batched.{is_in, is_job};
 ghost use Rattle.sk_batch.specs.Open.{all_marked, has_mark, lacks};
 ghost use Rattle.sk_batch.specs.Order.{is_ordered, precedes};
@@ -240,7 +241,8 @@ impl<'a> Test<(Fired, Batch)> for Settles<'a> {
 /// How many members pass.
 #[tactic(auto, using(std::proofs::lemmas::List::Sums::count_by_more_no, std::proofs::lemmas::List::Sums::count_by_more_yes))]
 pub fn count_where<F: Test<(Marks, Member)>>(members: &Tracked<Marks, Member>, test: &F) -> u64
-    ensures { result ≡ count_by (F.passes test.now) members.now.list.stands }
+    ensures is { result ≡ count_by (F.passes test.now) members.now.list.stands }
+    ensures small { result ≤ most }
 {
     let end = members.len();
     let mut count = 0;

@@ -1,8 +1,8 @@
 // The numbers of a batch.
-ghost use Rattle.std.specs.Prelude.{◌≡◌, ◌^◌, ◌≤◌, not, ◌&&◌, length};
+ghost use Rattle.std.specs.Prelude.{◌≡◌, ◌^◌, ◌≤◌, not, ◌&&◌, IfSome, length};
 ghost use Rattle.std.specs.List.{count_by};
 ghost use Rattle.sk_batch.specs.Others.{of_lists};
-ghost use Rattle.sk_batch.specs.Stat.{numbers_of, stat};
+ghost use Rattle.sk_batch.specs.Stat.{IsSmall, numbers_of, stat};
 
 use crate::line::{batch_at, first_batch};
 use crate::members::{IsIn, Lacks, Pending, count_where};
@@ -14,7 +14,8 @@ fn numbers(
     members: &Tracked<Marks, Member>,
     entry: &(Fired, Batch),
 ) -> BatchStat
-    ensures { result ≡ numbers_of (of_lists batches.now.list.stands members.now.list.stands) entry.now }
+    ensures is { result ≡ numbers_of (of_lists batches.now.list.stands members.now.list.stands) entry.now }
+    ensures small { IsSmall result }
 {
     let bid = entry.1.bid.bytes();
     let all = count_where(members, &IsIn { bid });
@@ -55,7 +56,8 @@ pub fn stat(
     members: &Tracked<Marks, Member>,
     bid: &[u8],
 ) -> Option<BatchStat>
-    ensures { result ≡ stat bid.now (of_lists batches.now.list.stands members.now.list.stands) }
+    ensures is { result ≡ stat bid.now (of_lists batches.now.list.stands members.now.list.stands) }
+    ensures small { IfSome result IsSmall }
 {
     let at = first_batch(batches, bid);
     if at == batches.len() {

@@ -38,7 +38,7 @@ pub fn act(
         Action::Edit(name, command) => edit(alloc, entries, dues, name, command),
         Action::Set(name, text, options) => set(entries, dues, now, name, text, options),
         Action::Expire(name, millis) => expire(entries, dues, now, name, millis),
-        Action::Exists(names) => exists(entries, &names),
+        Action::Exists(names) => Ok(exists(entries, &names)),
         Action::Delete(names) => Ok(delete(entries, dues, &names)),
         Action::Move(source, destination, from, to) => {
             move_text(alloc, entries, dues, source, destination, from, to)

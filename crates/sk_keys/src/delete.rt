@@ -1,14 +1,14 @@
 // `DEL key ..`, `EXISTS key ..` and `FLUSHALL`. A key goes with its pair of the index.
-ghost use Rattle.std.specs.Prelude.{◌≡◌, ◌+◌, ◌-◌, [], length, if◌then◌else◌};
+ghost use Rattle.std.specs.Prelude.{◌≡◌, ◌+◌, ◌-◌, ◌≤◌, [], length, if◌then◌else◌};
 ghost use Rattle.std.specs.Option.{is_some};
-ghost use Rattle.sk_value.specs.Answer.{Gives, counted};
+ghost use Rattle.sk_value.specs.Answer.{counted};
 ghost use Rattle.sk_value.specs.Keys.{at, how_many, without, without_all};
 ghost use Rattle.sk_keys.specs.Index.{IsIndexed};
 
 use crate::dues::{Dues, drop_due};
 use crate::keys::Entries;
 use sk_resp::{Reply, Word, Words};
-use sk_value::KeysFault;
+use sk_value::counted;
 
 /// Removes a key with its deadline, and answers whether it was there.
 pub fn remove(entries: &mut Entries, dues: &mut Dues, name: &Word) -> bool
@@ -49,22 +49,21 @@ pub fn delete(entries: &mut Entries, dues: &mut Dues, names: &Words) -> Reply
 }
 
 // How many of the words name a key.
-fn count_there(entries: &Entries, names: &Words) -> usize
-    ensures { result ≡ how_many (λ name. at name entries.now.entries) names.now }
+fn count_there(entries: &Entries, names: &[Word]) -> usize
+    ensures is { result ≡ how_many (λ name. at name entries.now.entries) names.now }
+    ensures few { result ≤ length names.now }
 {
     names
-        .list()
         .iter()
         .filter(|name| entries.contains_key(*name))
         .count()
 }
 
 /// Answers how many of the words name a key. Repeats are counted.
-pub fn exists(entries: &Entries, names: &Words) -> Result<Reply, KeysFault>
-    ensures { Gives (Ok (counted (how_many (λ name. at name entries.now.entries) names.now))) result }
+pub fn exists(entries: &Entries, names: &Words) -> Reply
+    ensures { result ≡ counted (how_many (λ name. at name entries.now.entries) names.now) }
 {
-    match i64::try_from(count_there(entries, names)) {
-        Ok(count) => Ok(Reply::Int(count)),
-        Err(_) => Err(KeysFault::Memory), // no memory holds 2^63 words
-    }
+    let names = names.list();
+    let _len = names.len(); // for what it says of their number
+    counted(count_there(entries, names))
 }

@@ -1,8 +1,12 @@
 -- Commands on keys of each class.
 use Rattle.std.proofs.Common.{◌≡◌, ◌==◌, ◌+◌, ℕ, List, [], ◌∷◌, refl, sym, ap, subst, ◌∙◌, arith, Bool, true, false, not, length, map}
-use Rattle.std.specs.Prelude.{Option, Some, None, option_map, Result, IfOk, nat_lt}
+use Rattle.std.specs.Prelude.{Option, Some, None, option_map, Result, IfOk, codes, cond, nat_eq, nat_lt}
 use Rattle.std.specs.Option.{is_some}
+use Rattle.std.specs.List.{starts_with}
+use Rattle.std.specs.Str.{IsUtf8, bytes_eq}
 use Rattle.sk_resp.specs.Spelling.{Bytes}
+use Rattle.sk_payload.specs.Member.{is_name}
+use Rattle.sk_payload.proofs.Names.{is_name-Decides}
 use Rattle.sk_resp.specs.declared.reply.Reply.{Reply}
 use Rattle.sk_cmd.specs.declared.argument.Side.{Side}
 use Rattle.sk_cmd.specs.declared.argument.Scored.{Scored}
@@ -24,7 +28,7 @@ use Rattle.sk_counters.specs.Counters.{Counters, count_in}
 use Rattle.sk_leases.specs.Leased.{Leased, idents}
 use Rattle.sk_model.specs.Phases.{Phases}
 use Rattle.sk_model.specs.World.{World}
-use Rattle.sk_model.specs.Class.{class_of, counter_of, ident_of, queue_of}
+use Rattle.sk_model.specs.Class.{class_by, class_of, counter_of, ident_of, is_queue, queue_of, set_of}
 use Rattle.sk_model.specs.Held.{count_entry, if_any, held, held_as}
 use Rattle.sk_model.specs.Outcome.{Comes, reply_of}
 use Rattle.sk_model.specs.Queues.{move}
@@ -33,6 +37,31 @@ use Rattle.sk_model.specs.Step.{on_keys, edit_queue, edit_names, edits, moves}
 use Rattle.sk_keyspace.specs.Whole.{with_places, with_pushed, with_told, world_at, world_pushed}
 use Rattle.sk_keyspace.proofs.Coming.{if_ok}
 use Rattle.sk_keyspace.proofs.Deleting.{one_if}
+
+-- ## Names
+
+-- a name is UTF-8 text
+pub name_is_text : (name : Bytes) → is_name 255 name ≡ true → IsUtf8 name
+name_is_text name h = ((is_name-Decides 255 name).0 h).utf8
+
+-- a queue's key has a name behind `queue:`
+named_if : (a b c d e f g : Bool) (set : Option Scored)
+    → is_queue (cond a (cond b class.Queue class.NoQueue) (cond c (cond d class.Private class.NoPrivate) (cond e class.Queues (cond f class.Processes (cond g class.Counter (class_by set)))))) ≡ true → b ≡ true
+named_if true true c d e f g set h = refl
+named_if true false c d e f g set h = absurd (cc h)
+named_if false b true true e f g set h = absurd (cc h)
+named_if false b true false e f g set h = absurd (cc h)
+named_if false b false d true f g set h = absurd (cc h)
+named_if false b false d false true g set h = absurd (cc h)
+named_if false b false d false false true set h = absurd (cc h)
+named_if false b false d false false false None h = absurd (cc h)
+named_if false b false d false false false (Some set) h = absurd (cc h)
+
+pub queue_is_named : (key : Bytes) → is_queue (class_of key) ≡ true → is_name 255 (queue_of key) ≡ true
+unfolding class_of
+queue_is_named key h =
+    named_if (starts_with nat_eq key (codes "queue:")) (is_name 255 (queue_of key)) (starts_with nat_eq key (codes "sq:")) (is_name 255 (ident_of key))
+    (bytes_eq key (codes "queues")) (bytes_eq key (codes "processes")) (starts_with nat_eq key (codes "stat:")) (set_of key) h
 
 -- ## Reading
 

@@ -17,12 +17,12 @@ use crate::plain::managed_key;
 use sk_keys::Keys;
 use sk_model::KeyClass;
 use sk_places::{Place, Places};
-use sk_resp::{Reply, Say, Word, Words};
+use sk_resp::{Reply, Say, Text, Word, Words};
 use sk_value::counted;
 
 // Deletes a queue with its name, and tells whether it had jobs.
 #[tactic(auto, using(crate::proofs::Deleting::apart))]
-fn delete_queue(places: &mut Places, queue: Word) -> bool
+fn delete_queue(places: &mut Places, queue: Text) -> bool
     requires { places.old.stood ≡ None }
     ensures was { result ≡ nat_lt 0 (length (rows_at (Queue queue) places.old.stands.rows)) }
     ensures rest { places.new ≡ edited (without_queue queue places.old.stands) places.old }

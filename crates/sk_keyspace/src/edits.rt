@@ -18,7 +18,7 @@ use sk_cmd::Scored;
 use sk_keys::Keys;
 use sk_model::{KeyClass, Limits};
 use sk_places::Places;
-use sk_resp::{Memory, Reply, Word};
+use sk_resp::{Memory, Reply, Text, Word};
 use sk_seats::Seats;
 use sk_value::{Action, Edit};
 use std::alloc::Global;
@@ -29,7 +29,7 @@ fn edit_queue(
     limits: &Limits,
     places: &mut Places,
     seats: &Seats,
-    queue: Word,
+    queue: Text,
     edit: Edit,
 ) -> Result<Reply, Memory>
     requires { places.old.stood ≡ None }

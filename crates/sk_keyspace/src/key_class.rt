@@ -1,5 +1,5 @@
 // What the name of a key means to the store. Nothing here takes memory.
-ghost use Rattle.std.specs.Prelude.{◌≡◌, ◌≤◌, ◌&&◌, ◌||◌, drop, length};
+ghost use Rattle.std.specs.Prelude.{◌≡◌, ◌≤◌, ◌&&◌, ◌||◌, drop, length, true};
 ghost use Rattle.sk_model.specs.Class.{class_of, counter_of, ident_of, is_queue as names_queue, private_key, queue_of, set_of};
 ghost use Rattle.std.specs.Str.{bytes_eq};
 ghost use Rattle.sk_model.specs.declared.key_class.KeyClass.TheVariants as KeyClass;
@@ -7,7 +7,7 @@ ghost use Rattle.sk_payload.specs.Member.{is_name};
 
 use sk_cmd::Scored;
 use sk_model::KeyClass;
-use sk_resp::Word;
+use sk_resp::{Text, Word};
 
 /// A name of a queue or the identity of a process: 1 to 255 bytes of UTF-8 text without control characters.
 pub fn is_name(name: &[u8]) -> bool
@@ -79,11 +79,24 @@ fn behind(key: Word, count: usize) -> Word
     Word::new(bytes)
 }
 
+/// A name as text. Takes no memory.
+#[tactic(auto, using(crate::proofs::Classes::name_is_text))]
+pub fn name_text(name: Word) -> Text
+    requires { is_name 255 name ≡ true }
+    ensures { result ≡ name }
+{
+    match String::from_utf8(name.into_bytes()) {
+        Ok(text) => Text::new(text),
+        Err(_) => unreachable!(),
+    }
+}
+
 /// The name of the queue that a key means: what stands behind `queue:`.
-pub fn queue_of(key: Word) -> Word
+pub fn queue_of(key: Word) -> Text
+    requires { names_queue (class_of key) ≡ true }
     ensures { result ≡ queue_of key }
 {
-    behind(key, 6)
+    name_text(behind(key, 6))
 }
 
 /// The identity of the process whose private list a key means: what stands behind `sq:`.

@@ -109,12 +109,12 @@ fn look_set(alloc: Global, places: &Places, set: Scored, look: &Look) -> Result<
 }
 
 // The name at an index.
-fn copy_name(places: &Places, at: usize) -> Result<Word, Memory>
+fn copy_name(alloc: Global, places: &Places, at: usize) -> Result<Word, Memory>
     requires { at < length places.now.stands.names }
     ensures { IfOk result (λ name. slice_get places.now.stands.names at ≡ Some name) }
 {
     match places.name_at(at) {
-        Some(name) => name.copy(),
+        Some(name) => Ok(Word::new(name.as_bytes().to_vec(alloc)?)),
         None => unreachable!(),
     }
 }
@@ -127,7 +127,7 @@ fn copies(alloc: Global, places: &Places) -> Result<Vec<Reply>, Memory>
     let count = places.name_count();
     let mut replies = Vec::with_capacity(alloc, count)?;
     for at in 0..count {
-        replies.push(Reply::Bulk(copy_name(places, at)?))?;
+        replies.push(Reply::Bulk(copy_name(alloc, places, at)?))?;
     }
     Ok(replies)
 }

@@ -15,15 +15,15 @@ use sk_cmd::Side;
 use sk_keys::Keys;
 use sk_model::KeyClass;
 use sk_places::{Place, Places};
-use sk_resp::{Memory, Reply, Word};
+use sk_resp::{Memory, Reply, Text, Word};
 use sk_value::Action;
 
 // Moves the job at one end of the source to an end of the destination, which may be the same queue, and answers its text. The text is copied for
 // the reply alone, and isn't parsed again.
 fn move_job(
     places: &mut Places,
-    source: Word,
-    destination: Word,
+    source: Text,
+    destination: Text,
     from: Side,
     to: Side,
 ) -> Result<Reply, Memory>

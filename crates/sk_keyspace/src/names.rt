@@ -1,5 +1,5 @@
 // SADD queues name .. (Redis, "SADD"): names of queues that have no jobs yet.
-ghost use Rattle.std.specs.Prelude.{◌≡◌, None, IfOk, OnErr, OnOk};
+ghost use Rattle.std.specs.Prelude.{◌≡◌, None, true, IfOk, OnErr, OnOk};
 ghost use Rattle.std.specs.List.{list_all};
 ghost use Rattle.sk_track.specs.Steps.{edited};
 ghost use Rattle.sk_model.specs.Outcome.{Comes};
@@ -10,7 +10,7 @@ ghost use Rattle.sk_keyspace.specs.Edits.{all_named};
 ghost use Rattle.sk_keyspace.specs.Whole.{with_places};
 
 use crate::closing::close;
-use crate::key_class::is_name;
+use crate::key_class::{is_name, name_text};
 use crate::plain::managed_key;
 use sk_places::Places;
 use sk_resp::{Memory, Reply, Word, Words};
@@ -18,18 +18,20 @@ use sk_value::counted;
 
 // Adds each name in turn. After want of memory some of them stand.
 fn name_each(places: &mut Places, names: Vec<Word>) -> Result<(), Memory>
+    requires { list_all (is_name 255) names.items ≡ true }
     ensures ok { OnOk result (places.new ≡ edited (all_named names.items places.old.stands) places.old) }
     ensures step { places.new.stood ≡ places.old.stood }
 {
     for name in names {
-        places.name_queue(&name)?;
+        places.name_queue(&name_text(name))?;
     }
     Ok(())
 }
 
 // Adds each name in turn, all of them or none.
 fn name_all(places: &mut Places, names: Vec<Word>) -> Result<(), Memory>
-    requires { places.old.stood ≡ None }
+    requires closed { places.old.stood ≡ None }
+    requires names { list_all (is_name 255) names.items ≡ true }
     ensures ok { OnOk result (places.new ≡ edited (all_named names.items places.old.stands) places.old) }
     ensures err { OnErr result (places.new ≡ places.old) }
 {

@@ -17,7 +17,7 @@ use sk_lives::Origin;
 use sk_model::Limits;
 use sk_payload::Payload;
 use sk_places::{Place, Places};
-use sk_resp::{Memory, Refusal, Reply, Word, Words};
+use sk_resp::{Memory, Refusal, Reply, Text, Word, Words};
 use sk_seats::Seats;
 use sk_value::counted;
 use std::alloc::Global;
@@ -37,7 +37,7 @@ pub fn payloads_of(alloc: Global, texts: Vec<Word>) -> Result<Vec<Payload>, Memo
 fn push_each(
     places: &mut Places,
     seats: &Seats,
-    queue: &Word,
+    queue: &Text,
     end: Side,
     payloads: Vec<Payload>,
 ) -> Result<(), Memory>
@@ -63,7 +63,7 @@ fn push_each(
 fn push_all(
     places: &mut Places,
     seats: &Seats,
-    queue: &Word,
+    queue: &Text,
     end: Side,
     payloads: Vec<Payload>,
 ) -> Result<(), Memory>
@@ -82,7 +82,7 @@ pub fn push(
     limits: &Limits,
     places: &mut Places,
     seats: &Seats,
-    queue: Word,
+    queue: Text,
     end: Side,
     texts: Words,
 ) -> Result<Reply, Memory>

@@ -6,6 +6,7 @@ pub mod Jobs
 pub mod Kept
 pub mod Lists
 pub mod Moves
+pub mod Named
 pub mod Order
 pub mod Rising
 pub mod Segments

@@ -19,15 +19,15 @@ ghost use Rattle.sk_places.specs.Rows.{copies_of, end_taken, is_private, next_id
 ghost use Rattle.sk_places.specs.Scores.{HasRange};
 
 use crate::find::{count_below, count_private, find_end, find_text, is_fresh, part_of, range_of};
-use crate::names::{add_new, new_name};
+use crate::names::Names;
 use crate::removals::{take_copies, take_copy, take_members, take_part};
 use crate::row::Spot;
 use crate::{Memory, Place, Rows};
 use sk_base::{Bound, Score};
 use sk_cmd::{Scored, Side};
-use sk_lives::{Ending, Lives, Origin, Totals, WordSet};
+use sk_lives::{Ending, Lives, Origin, Totals};
 use sk_payload::Payload;
-use sk_resp::{Word, Words};
+use sk_resp::{Text, Word, Words};
 use std::alloc::Global;
 use std::marker::Model;
 
@@ -36,7 +36,7 @@ use std::marker::Model;
 #[derive(Drop)]
 pub struct Places {
     rows: Rows,
-    names: WordSet,
+    names: Names,
     lives: Lives,
 }
 
@@ -60,7 +60,7 @@ impl Places {
     {
         Places {
             rows: Rows::new(alloc),
-            names: WordSet::new(alloc),
+            names: Names::new(alloc),
             lives: Lives::new(alloc),
         }
     }
@@ -188,7 +188,7 @@ impl Places {
     }
 
     /// The name at an index of `queues`, in the order of their bytes.
-    pub fn name_at(&self, at: usize) -> Option<&Word>
+    pub fn name_at(&self, at: usize) -> Option<&str>
         ensures { option_map (λ name. name.now) result ≡ slice_get self.now.stands.names at }
     {
         self.names.get(at)
@@ -268,12 +268,12 @@ impl Places {
         ensures err { OnErr result (self.new ≡ self.old) }
     {
         let fresh = is_fresh(&self.rows, &payload, held);
-        let name = new_name(&self.names, &place)?;
+        let name = self.names.new_name(&place)?;
         self.names.reserve()?;
         let spot = Spot { place, score };
         self.rows
             .push(spot, payload, end, &mut self.lives, from, fresh)?;
-        add_new(&mut self.names, name);
+        self.names.add_new(name);
         Ok(())
     }
 
@@ -288,10 +288,10 @@ impl Places {
         ensures ok { OnOk result (self.new ≡ edited (added end (record { place = place; score = score; text = payload }) self.old.stands) self.old) }
         ensures err { OnErr result (self.new ≡ self.old) }
     {
-        let name = new_name(&self.names, &place)?;
+        let name = self.names.new_name(&place)?;
         self.names.reserve()?;
         self.rows.put_back(Spot { place, score }, payload, end)?;
-        add_new(&mut self.names, name);
+        self.names.add_new(name);
         Ok(())
     }
 
@@ -301,10 +301,10 @@ impl Places {
         ensures ok { OnOk result (self.new ≡ edited (record self.old.stands { rows = shifted end at (record { place = to; score = score }) self.old.stands.rows; names = named to self.old.stands.names }) self.old) }
         ensures err { OnErr result (self.new ≡ self.old) }
     {
-        let name = new_name(&self.names, &to)?;
+        let name = self.names.new_name(&to)?;
         self.names.reserve()?;
         self.rows.shift(at, Spot { place: to, score }, end)?;
-        add_new(&mut self.names, name);
+        self.names.add_new(name);
         Ok(())
     }
 
@@ -403,12 +403,12 @@ impl Places {
     }
 
     /// Adds a name to `queues`, and answers whether it is new.
-    pub fn name_queue(&mut self, queue: &Word) -> Result<bool, Memory>
+    pub fn name_queue(&mut self, queue: &Text) -> Result<bool, Memory>
         ensures answer { IfOk result (λ new. new ≡ not (is_member queue.now self.old.stands.names)) }
         ensures ok { OnOk result (self.new ≡ edited (record self.old.stands { names = with_name queue.now self.old.stands.names }) self.old) }
         ensures err { OnErr result (self.new ≡ self.old) }
     {
-        let name = queue.copy()?;
+        let name = self.names.copy_of(queue)?;
         self.names.reserve()?;
         Ok(self.names.add(name))
     }
@@ -469,12 +469,12 @@ impl Places {
     }
 
     /// Takes a name out of `queues`, and answers whether it was there. Takes no memory.
-    pub fn unname_queue(&mut self, queue: &Word) -> bool
+    pub fn unname_queue(&mut self, queue: &Text) -> bool
         requires { self.old.stood ≡ None }
         ensures answer { result ≡ is_member queue.now self.old.stands.names }
         ensures rest { self.new ≡ edited (record self.old.stands { names = without_name queue.now self.old.stands.names }) self.old }
     {
-        self.names.remove(queue.bytes())
+        self.names.remove(queue.text().as_bytes())
     }
 
     /// Deletes all rows and all names (`FLUSHALL`). Takes no memory.

@@ -11,13 +11,14 @@ use Rattle.sk_payload.specs.Member.{is_name}
 use Rattle.sk_payload.specs.declared.head.Head.{Head}
 use Rattle.sk_batch.specs.Batched.{Batched}
 use Rattle.sk_batch.specs.Events.{fired, joined, made, made_fires}
-use Rattle.sk_batch.specs.Faults.{batch_fault, bid_fault, breaks, is_full as has_most, jids_fault}
+use Rattle.sk_batch.specs.Faults.{add_fault, batch_fault, bid_fault, breaks, is_full as has_most, jids_fault, make_fault}
 use Rattle.sk_batch.specs.declared.batch.Batch.{Batch}
 use Rattle.sk_batch.specs.declared.batch_fault.BatchFault.{BatchFault}
 use Rattle.sk_batch.specs.declared.batch_fault.BatchFault.TheVariants.{Full}
 use Rattle.sk_batch.specs.declared.firing.Firing.{Firing}
 use Rattle.sk_lives.specs.declared.origin.Origin.TheVariants.{Inner, Outside}
 use Rattle.sk_places.specs.Placed.{Placed}
+use Rattle.sk_batch.proofs.Refusals.{batch_kept, bid_kept}
 use Rattle.sk_track.specs.Steps.{Steps, edited}
 use Rattle.sk_model.specs.World.{World}
 use Rattle.sk_model.specs.declared.limits.Limits.{Limits}
@@ -91,6 +92,19 @@ add_kept w bid texts fit room broken repeated r e1 k1 e2 k2 e3 k3 e4 k4 =
     ∙ ap (λ b. cond (not b) (refuses BadPayload) at3) (sym e2) ∙ k2 at3
     ∙ ap (λ f. unless f at4) (sym e3) ∙ k3 at4
     ∙ ap (λ b. cond b (refuses refusal.Full) (join bid texts)) (sym e4) ∙ k4 (join bid texts)
+
+-- what holds anyway holds where there is no error
+pub holds_ok : {A E P : Type 0} (r : Result A E) → P → OnOk r P
+holds_ok (Ok x) p = p
+holds_ok (Err e) p = tt
+
+-- A new batch breaks no rule where it breaks none of its id and its parent, and none of its jobs.
+pub make_kept_none : (bid : Bytes) (parent : Option Bytes) (texts : List Bytes) (s : Batched) → bid_fault bid parent s None ≡ None → jids_fault bid (jids_of texts) s (breaks (has_most s) Full None) ≡ None → make_fault bid parent (jids_of texts) s ≡ None
+make_kept_none bid parent texts s first second = bid_kept bid s (jids_fault bid (jids_of texts) s (breaks (has_most s) Full None)) parent first ∙ second
+
+-- Jobs that a batch gets break no rule where the batch breaks none, and the jobs none.
+pub add_kept_none : (bid : Bytes) (texts : List Bytes) (s : Batched) → batch_fault bid s None ≡ None → jids_fault bid (jids_of texts) s None ≡ None → add_fault bid (jids_of texts) s ≡ None
+add_kept_none bid texts s first second = batch_kept bid s (jids_fault bid (jids_of texts) s None) first ∙ second
 
 -- ## What is made and told
 

@@ -5,7 +5,7 @@ ghost use Rattle.std.specs.Result.{result_err};
 ghost use Rattle.sk_payload.specs.Head.{head as head_of};
 ghost use Rattle.sk_payload.specs.Member.{is_name};
 ghost use Rattle.sk_batch.specs.Events.{joined, made, made_fires};
-ghost use Rattle.sk_batch.specs.Faults.{bid_fault, breaks, is_full as has_most, jids_fault};
+ghost use Rattle.sk_batch.specs.Faults.{add_fault, bid_fault, breaks, is_full as has_most, jids_fault, make_fault};
 ghost use Rattle.sk_batch.specs.declared.batch_fault.BatchFault.TheVariants as fault;
 ghost use Rattle.sk_lives.specs.Lives.{jid_of};
 ghost use Rattle.sk_model.specs.Batches.{all_may_join, are_callbacks, batch_add, batch_of, batch_push, batch_stat, fault_say, is_callback, jids_of, join, make, may_call, may_join, or_none, push_jobs, unless};
@@ -246,7 +246,8 @@ fn say_of(fault: BatchFault) -> Say
 
 // A rule of the batches is broken, as it is told.
 fn told(checked: Result<(), BatchFault>) -> Result<(), Say>
-    ensures { (o : Outcome) → unless (result_err checked) o ≡ unless_told result o }
+    ensures told { (o : Outcome) → unless (result_err checked) o ≡ unless_told result o }
+    ensures kept { OnOk result (result_err checked ≡ None) }
 {
     match checked {
         Ok(()) => Ok(()),
@@ -293,7 +294,8 @@ fn check_new(batches: &Batches, bid: &[u8], jids: &[Word]) -> Result<(), BatchFa
 
 // All rules on a new batch and its first jobs.
 fn check_push(limits: &Limits, stock: &Stock, batch: &Batch, jobs: &Jobs) -> Result<(), Say>
-    ensures { (w : World) (moment : ℕ) (phases : Phases) → batch_push (limited limits.now (at w moment stock.now phases)) batch.now jobs.now ≡ unless_told result (make batch.now jobs.now) }
+    ensures told { (w : World) (moment : ℕ) (phases : Phases) → batch_push (limited limits.now (at w moment stock.now phases)) batch.now jobs.now ≡ unless_told result (make batch.now jobs.now) }
+    ensures kept { OnOk result (make_fault batch.now.bid batch.now.parent (jids_of jobs.now) stock.now.batches.stands ≡ None) }
 {
     let bid = batch.bid.bytes();
     check(is_bid(bid), Refusal::NoBatch)?;
@@ -305,7 +307,8 @@ fn check_push(limits: &Limits, stock: &Stock, batch: &Batch, jobs: &Jobs) -> Res
 
 // All rules on jobs that a batch gets.
 fn check_add(limits: &Limits, stock: &Stock, bid: &[u8], jobs: &Jobs) -> Result<(), Say>
-    ensures { (w : World) (moment : ℕ) (phases : Phases) → batch_add (limited limits.now (at w moment stock.now phases)) bid.now jobs.now ≡ unless_told result (join bid.now jobs.now) }
+    ensures told { (w : World) (moment : ℕ) (phases : Phases) → batch_add (limited limits.now (at w moment stock.now phases)) bid.now jobs.now ≡ unless_told result (join bid.now jobs.now) }
+    ensures kept { OnOk result (add_fault bid.now (jids_of jobs.now) stock.now.batches.stands ≡ None) }
 {
     told(stock.batches.check_batch(bid))?;
     check(jobs.may_join(bid), Refusal::BadPayload)?;
@@ -316,17 +319,12 @@ fn check_add(limits: &Limits, stock: &Stock, bid: &[u8], jobs: &Jobs) -> Result<
 // ## The jobs come
 
 // The jobs are pushed, one after another, each at the left end of the queue that its head names.
-fn push_jobs(
-    alloc: Global,
-    seats: &Seats,
-    places: &mut Places,
-    payloads: Vec<Payload>,
-) -> Result<(), Memory>
+fn push_jobs(seats: &Seats, places: &mut Places, payloads: Vec<Payload>) -> Result<(), Memory>
     ensures ok { OnOk result ((w : World) → with_seats w places.new.stands seats.now ≡ perform (with_seats w places.old.stands seats.now) (push_jobs payloads.items)) }
     ensures step { places.new.stood ≡ places.old.stood }
 {
     for payload in payloads {
-        push_job(alloc, seats, places, payload, Origin::Outside)?;
+        push_job(seats, places, payload, Origin::Outside)?;
     }
     Ok(())
 }
@@ -338,24 +336,28 @@ fn make_batch(
     batch: Batch,
     jids: Vec<Word>,
 ) -> Result<Vec<Firing>, Memory>
+    requires { make_fault batch.bid batch.parent jids.items batches.old.stands ≡ None }
     ensures fires { IfOk result (λ firings. firings.items ≡ made_fires batch jids.items) }
     ensures ok { OnOk result (batches.new ≡ edited (made batch jids.items batches.old.stands) batches.old) }
     ensures step { batches.new.stood ≡ batches.old.stood }
 {
     match batches.make(alloc, batch, jids) {
         Ok(firings) => Ok(firings),
-        Err(_) => Err(Memory),
+        Err(BatchFault::Memory) => Err(Memory),
+        Err(_) => unreachable!(),
     }
 }
 
 // The batch gets the jobs, in the same way.
 fn add_jobs(alloc: Global, batches: &mut Batches, bid: &[u8], jids: Vec<Word>) -> Result<(), Memory>
+    requires { add_fault bid.now jids.items batches.old.stands ≡ None }
     ensures ok { OnOk result (batches.new ≡ edited (joined bid.now jids.items batches.old.stands) batches.old) }
     ensures step { batches.new.stood ≡ batches.old.stood }
 {
     match batches.add(alloc, bid, jids) {
         Ok(()) => Ok(()),
-        Err(_) => Err(Memory),
+        Err(BatchFault::Memory) => Err(Memory),
+        Err(_) => unreachable!(),
     }
 }
 
@@ -367,11 +369,12 @@ fn make_open(
     batch: Batch,
     jobs: Jobs,
 ) -> Result<Reply, Memory>
+    requires { make_fault batch.bid batch.parent (jids_of jobs) stock.old.batches.stands ≡ None }
     ensures ok { IfOk result (λ reply. (w : World) (moment : ℕ) → Comes (at w moment stock.old seats.now) (make batch jobs) reply (at w moment stock.new seats.now)) }
     ensures step { KeepsStep stock.old stock.new }
 {
     let firings = make_batch(alloc, &mut stock.batches, batch, jobs.jids)?;
-    push_jobs(alloc, seats, &mut stock.places, jobs.payloads)?;
+    push_jobs(seats, &mut stock.places, jobs.payloads)?;
     let fired = call_all(alloc, seats, &mut stock.places, firings)?;
     as_reply(alloc, fired)
 }
@@ -384,12 +387,13 @@ fn join_open(
     bid: &[u8],
     jobs: Jobs,
 ) -> Result<Reply, Memory>
+    requires { add_fault bid.now (jids_of jobs) stock.old.batches.stands ≡ None }
     ensures ok { IfOk result (λ reply. (w : World) (moment : ℕ) → Comes (at w moment stock.old seats.now) (join bid.now jobs) reply (at w moment stock.new seats.now)) }
     ensures step { KeepsStep stock.old stock.new }
 {
     let count = jobs.payloads.len();
     add_jobs(alloc, &mut stock.batches, bid, jobs.jids)?;
-    push_jobs(alloc, seats, &mut stock.places, jobs.payloads)?;
+    push_jobs(seats, &mut stock.places, jobs.payloads)?;
     Ok(counted(count))
 }
 
@@ -462,16 +466,6 @@ pub fn add_to_batch(
     stock.close(done)
 }
 
-// A number of members, as an integer. There are never so many that it doesn't fit, but no clause says so: it would count as want of memory.
-fn members(count: u64) -> Result<Reply, Memory>
-    ensures { IfOk result (λ reply. reply ≡ counted count) }
-{
-    match i64::try_from(count) {
-        Ok(count) => Ok(Reply::Int(count)),
-        Err(_) => Err(Memory),
-    }
-}
-
 /// SK.BSTAT: how many members the batch has, how many of them haven't returned and how many weren't reported, 1 where one was buried and else 0, and
 /// how many members of the batch and of those within it haven't returned. It is refused where there is no such batch.
 pub fn batch_stat(alloc: Global, stock: &Stock, bid: &Word) -> Result<Reply, Memory>
@@ -481,10 +475,10 @@ pub fn batch_stat(alloc: Global, stock: &Stock, bid: &Word) -> Result<Reply, Mem
         return Ok(refused(Refusal::NoBatch));
     };
     let mut parts = Vec::with_capacity(alloc, 5)?;
-    parts.push(members(stat.members)?)?;
-    parts.push(members(stat.pending)?)?;
-    parts.push(members(stat.unreported)?)?;
+    parts.push(counted(stat.members as usize))?;
+    parts.push(counted(stat.pending as usize))?;
+    parts.push(counted(stat.unreported as usize))?;
     parts.push(one_if(stat.died))?;
-    parts.push(members(stat.pending_under)?)?;
+    parts.push(counted(stat.pending_under as usize))?;
     Ok(Reply::Array(Replies::new(parts)))
 }

@@ -14,7 +14,6 @@ ghost use Rattle.sk_scripts.specs.Seated.{with_seats};
 ghost use Rattle.sk_scripts.specs.Sending.{IsAside, rows_in};
 ghost use Rattle.sk_scripts.specs.Stocked.{KeepsStep, at};
 
-use crate::sending::queue_of;
 use crate::stock::Stock;
 use sk_base::Score;
 use sk_batch::{Batches, Event, Firing, Kind, Member};
@@ -28,7 +27,6 @@ use std::alloc::Global;
 
 /// A job is pushed at the left end of the queue that its head names. One without a head is pushed nowhere.
 pub fn push_job(
-    alloc: Global,
     seats: &Seats,
     places: &mut Places,
     payload: Payload,
@@ -41,7 +39,7 @@ pub fn push_job(
     let Some(head) = payload.head() else {
         return Ok(());
     };
-    let queue = Place::Queue(queue_of(alloc, head)?);
+    let queue = Place::Queue(head.queue.copy()?);
     let held = seats.have(&payload);
     places.push(queue, Score::of_moment(0), Side::Left, payload, from, held)
 }
@@ -74,7 +72,7 @@ fn call(
     fired.push(firing.bid)?;
     fired.push(name_of(alloc, firing.kind)?)?;
     match firing.payload {
-        Some(payload) => push_job(alloc, seats, places, payload, Origin::Inner),
+        Some(payload) => push_job(seats, places, payload, Origin::Inner),
         None => Ok(()),
     }
 }

@@ -10,7 +10,7 @@ ghost use Rattle.sk_scripts.specs.Seated.{with_seats};
 use sk_base::Score;
 use sk_cmd::Side;
 use sk_places::{Place, Places};
-use sk_resp::{Memory, Reply, Word};
+use sk_resp::{Memory, Reply, Text, Word};
 use sk_seats::{Seats, Turn};
 
 /// The job at the right end of the queue goes to the left of the private list of the seat's process, and the seat holds a copy of it. Its text is
@@ -20,7 +20,7 @@ pub fn fetch(
     seats: &mut Seats,
     seat: u32,
     ident: Word,
-    queue: Word,
+    queue: Text,
 ) -> Result<Reply, Memory>
     requires { phase_in seats.old seat ≡ Phase.Idle ident }
     ensures ok { IfOk result (λ reply. (w : World) → Comes (with_seats w places.old.stands seats.old) (fetch (with_seats w places.old.stands seats.old) seat ident (Some queue)) reply (with_seats w places.new.stands seats.new)) }

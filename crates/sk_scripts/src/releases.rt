@@ -12,7 +12,6 @@ ghost use Rattle.sk_track.specs.Steps.{edited};
 ghost use Rattle.sk_scripts.specs.Seated.{ended_by, with_seats};
 
 use crate::runs::tells_of;
-use crate::sending::queue_of;
 use sk_base::Score;
 use sk_cmd::Side;
 use sk_keyspace::refused;
@@ -20,10 +19,9 @@ use sk_lives::Ending;
 use sk_model::{End, Phase};
 use sk_payload::Payload;
 use sk_places::{Place, Places};
-use sk_resp::{Memory, Refusal, Reply, Word};
+use sk_resp::{Memory, Refusal, Reply, Text, Word};
 use sk_seats::{Seats, Turn};
 use sk_value::one_if;
-use std::alloc::Global;
 
 // How a worker that is done with a job ends it.
 fn ending_of(end: End) -> Ending
@@ -62,7 +60,7 @@ pub fn release(places: &mut Places, seats: &mut Seats, seat: u32, ident: Word, t
 }
 
 // The process of a seat that holds a job, and the queue that the job's head names.
-fn way_back(alloc: Global, phase: &Phase) -> Result<Option<(Word, Word)>, Memory>
+fn way_back(phase: &Phase) -> Result<Option<(Word, Text)>, Memory>
     ensures { IfOk result (λ way. (ident text : Bytes) → phase.now ≡ Phase.Held ident text → way ≡ option_map (λ h. (ident, h.queue)) (head text)) }
 {
     let Phase::Held(ident, payload) = phase else {
@@ -71,19 +69,12 @@ fn way_back(alloc: Global, phase: &Phase) -> Result<Option<(Word, Word)>, Memory
     let Some(head) = payload.head() else {
         return Ok(None);
     };
-    let queue = queue_of(alloc, head)?;
-    Ok(Some((ident.copy()?, queue)))
+    Ok(Some((ident.copy()?, head.queue.copy()?)))
 }
 
 /// SK.BACK: the job that the seat holds goes back to the right end of its queue, and is fetched first. It is refused without a head. The answer
 /// tells whether it was still in the private list.
-pub fn back(
-    alloc: Global,
-    places: &mut Places,
-    seats: &mut Seats,
-    seat: u32,
-    text: &Word,
-) -> Result<Reply, Memory>
+pub fn back(places: &mut Places, seats: &mut Seats, seat: u32, text: &Word) -> Result<Reply, Memory>
     ensures ok { IfOk result (λ reply. (w : World) → Comes (with_seats w places.old.stands seats.old) (back (with_seats w places.old.stands seats.old) seat (phase_in seats.old seat) text.now) reply (with_seats w places.new.stands seats.new)) }
     ensures step { places.new.stood ≡ places.old.stood }
     ensures err { OnErr result ((places.new ≡ places.old) × (seats.new ≡ seats.old)) }
@@ -91,7 +82,7 @@ pub fn back(
     if let Err(refusal) = tells_of(seats.get(seat), text) {
         return Ok(refused(refusal));
     }
-    let Some((ident, queue)) = way_back(alloc, seats.get(seat))? else {
+    let Some((ident, queue)) = way_back(seats.get(seat))? else {
         return Ok(refused(Refusal::BadPayload));
     };
     let was = places.shift_text(

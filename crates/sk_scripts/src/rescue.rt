@@ -22,7 +22,7 @@ ghost use Rattle.sk_scripts.specs.Stocked.{KeepsStep, at};
 use crate::calls::member_of;
 use crate::dead::bury;
 use crate::report::Report;
-use crate::sending::{queue_of, send_on};
+use crate::sending::send_on;
 use crate::stock::Stock;
 use sk_cmd::Side;
 use sk_payload::Payload;
@@ -86,7 +86,7 @@ fn rescue_first(
         let payload = payload.copy()?;
         return bury_poison(alloc, moment, seats, stock, list, &payload);
     }
-    let queue = queue_of(alloc, head)?;
+    let queue = head.queue.copy()?;
     send_on(&mut stock.places, list, queue, Side::Right)?;
     Ok(Report::one_moved(alloc))
 }

@@ -21,7 +21,7 @@ use crate::calls::member_of;
 use crate::dead::bury;
 use crate::report::Report;
 use crate::rescue::rescue;
-use crate::sending::{queue_of, send_front};
+use crate::sending::send_front;
 use crate::stock::Stock;
 use sk_base::{Bound, Score};
 use sk_cmd::{Scored, Side};
@@ -141,7 +141,7 @@ fn kill(
 }
 
 // SK.REVIVE. The job goes to the left end of its queue. One without a head stays.
-fn revive(alloc: Global, places: &mut Places, set: Scored, text: &Word) -> Result<Reply, Memory>
+fn revive(places: &mut Places, set: Scored, text: &Word) -> Result<Reply, Memory>
     ensures ok { IfOk result (λ reply. (w : World) (moment : ℕ) → Comes (with_moment w moment places.old.stands) (revive (with_moment w moment places.old.stands) set text.now) reply (with_moment w moment places.new.stands)) }
     ensures step { places.new.stood ≡ places.old.stood }
 {
@@ -152,7 +152,7 @@ fn revive(alloc: Global, places: &mut Places, set: Scored, text: &Word) -> Resul
     let Some(head) = payload.head() else {
         return Ok(refused(Refusal::BadPayload));
     };
-    let queue = Place::Queue(queue_of(alloc, head)?);
+    let queue = Place::Queue(head.queue.copy()?);
     let score = Score::of_moment(0);
     places.shift_text(&place, text.bytes(), queue, score, Side::Left)?;
     Ok(counted(1))
@@ -172,7 +172,7 @@ fn send_open(
 {
     match script {
         SetScript::Due(set, limit) => due(alloc, moment, seats, stock, set, limit),
-        SetScript::Revive(set, text) => revive(alloc, &mut stock.places, set, &text),
+        SetScript::Revive(set, text) => revive(&mut stock.places, set, &text),
         SetScript::Kill(set, text) => kill(alloc, moment, seats, stock, set, &text),
         SetScript::Rescue => rescue(alloc, moment, seats, stock),
     }

@@ -21,21 +21,13 @@ use crate::report::Report;
 use crate::stock::Stock;
 use sk_base::Score;
 use sk_cmd::{Scored, Side};
-use sk_payload::Head;
 use sk_places::{Place, Places};
-use sk_resp::{Memory, Word};
+use sk_resp::{Memory, Text};
 use sk_seats::Seats;
 use std::alloc::Global;
 
-/// The name of the queue that a head names.
-pub fn queue_of(alloc: Global, head: &Head) -> Result<Word, Memory>
-    ensures { IfOk result (λ queue. queue ≡ head.now.queue) }
-{
-    Ok(Word::new(head.queue.text().as_bytes().to_vec(alloc)?))
-}
-
 /// The first job of a place goes to an end of a queue.
-pub fn send_on(places: &mut Places, place: &Place, queue: Word, end: Side) -> Result<(), Memory>
+pub fn send_on(places: &mut Places, place: &Place, queue: Text, end: Side) -> Result<(), Memory>
     ensures ok { OnOk result ((row : Row) (more : List Row) → rows_at place.now places.old.stands.rows ≡ row ∷ more → places.new.stands ≡ moved_to Left row (Queue queue) (pos 0) end places.old.stands) }
     ensures step { places.new.stood ≡ places.old.stood }
 {
@@ -66,7 +58,7 @@ fn send_first(
     };
     match payload.head() {
         Some(head) => {
-            let queue = queue_of(alloc, head)?;
+            let queue = head.queue.copy()?;
             send_on(&mut stock.places, &place, queue, Side::Left)?;
             Ok(Report::one_moved(alloc))
         }

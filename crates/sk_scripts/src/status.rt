@@ -28,23 +28,20 @@ fn count_of(counters: &Counters, name: &[u8]) -> u64
     counters.get(name).unwrap_or(0)
 }
 
-// A name as text. Each name in `queues` is UTF-8, but no clause says so: one that isn't would count as want of memory.
-fn text_of(name: &Word) -> Result<Text, Memory>
+// A copy of a name.
+fn text_of(alloc: Global, name: &str) -> Result<Text, Memory>
     ensures { IfOk result (λ text. text ≡ name.now) }
 {
-    match String::from_utf8(name.copy()?.into_bytes()) {
-        Ok(text) => Ok(Text::new(text)),
-        Err(_) => Err(Memory),
-    }
+    Ok(Text::new(String::from_str(alloc, name)?))
 }
 
 // A queue, and how many jobs wait there.
-fn queue_count(places: &Places, queue: &Word) -> Result<(Text, u64), Memory>
+fn queue_count(alloc: Global, places: &Places, queue: &str) -> Result<(Text, u64), Memory>
     ensures name { IfOk result (λ count. count.0 ≡ queue.now) }
     ensures number { IfOk result (λ count. count.1 ≡ length (rows_at (Queue queue.now) places.now.stands.rows)) }
 {
-    let place = Place::Queue(queue.copy()?);
-    Ok((text_of(queue)?, places.len(&place) as u64))
+    let place = Place::Queue(text_of(alloc, queue)?);
+    Ok((text_of(alloc, queue)?, places.len(&place) as u64))
 }
 
 // The queues in the order of their names' bytes, each with how many jobs wait there.
@@ -57,7 +54,7 @@ fn queue_counts(alloc: Global, places: &Places) -> Result<Counts, Memory>
         let Some(queue) = places.name_at(at) else {
             unreachable!()
         };
-        list.push(queue_count(places, queue)?)?;
+        list.push(queue_count(alloc, places, queue)?)?;
     }
     Ok(Counts::new(list))
 }

@@ -17,13 +17,13 @@ use sk_keyspace::{ident_of, is_list_of, is_queue, queue_of, refused};
 use sk_model::Phase;
 use sk_payload::{Payload, follows};
 use sk_places::Places;
-use sk_resp::{Memory, Refusal, Reply, Word};
+use sk_resp::{Memory, Refusal, Reply, Text, Word};
 use sk_seats::Seats;
 use sk_value::{Action, Edit};
 use std::alloc::Global;
 
 // LMOVE queue:name sq:ident RIGHT LEFT, where the identity is that of the seat's process: the identity and the name.
-fn fetched_from(ident: &Word, action: Action) -> Option<(Word, Word)>
+fn fetched_from(ident: &Word, action: Action) -> Option<(Word, Text)>
     ensures { MatchOption result (fetched_from ident.now action ≡ None) (λ way. (way.0 ≡ ident.now) × (fetched_from ident.now action ≡ Some way.1)) }
 {
     let Action::Move(source, destination, Side::Right, Side::Left) = action else {

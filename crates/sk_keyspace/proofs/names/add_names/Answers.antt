@@ -18,3 +18,8 @@ returns-clause-ok c = λ w.
     let number : c.saturating_sub.result ≡ length new.names - length p.names = grind (arith, c.saturating_sub.ensures, c.name_count.ensures.is, c.name_count-before.ensures.is) in
     subst (λ (r : Reply). Comes (with_places w p) (add_names (with_places w p) c.args.names) r (with_places w new)) (sym c.counted.ensures)
     (names_come w c.args.names c.saturating_sub.result p new are named number)
+
+pub name_all-requires-clause-names : goal.name_all-requires-clause-names
+name_all-requires-clause-names c =
+    let are : list_all (is_name 255) c.args.names ≡ true = grind (arith, c.are_names.ensures, c.list.ensures, c.if-not-are_names.false) in
+    ap (list_all (is_name 255)) c.into_list.ensures ∙ are

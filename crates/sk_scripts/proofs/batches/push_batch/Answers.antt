@@ -14,5 +14,5 @@ returns-clause-ok c =
     let words = c.args.words in
     let batch : Batch = batch_of words.bid words.parent words.complete words.success words.death in
     step_comes limits phases old c.begin.new.self c.make_open-done.new.stock c.close.new.self (make c.in_ok-batch.batch c.in_ok-jobs.jobs) (λ v. batch_push v batch words.texts) c.close.result c.make_open-done.result
-    (λ w moment. ap₂ (batch_push (limited limits (at w moment old phases))) (sym c.in_ok-batch.ensures) (sym c.in_ok-jobs.ensures) ∙ c.in_default.ensures w moment phases)
+    (λ w moment. ap₂ (batch_push (limited limits (at w moment old phases))) (sym c.in_ok-batch.ensures) (sym c.in_ok-jobs.ensures) ∙ c.in_default.ensures.told w moment phases)
     c.begin.ensures c.close.ensures.is c.close.ensures.ok c.make_open-done.ensures.ok

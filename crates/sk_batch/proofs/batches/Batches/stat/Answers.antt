@@ -4,5 +4,5 @@ use Rattle.sk_batch.specs.Stat.{stat}
 use Rattle.sk_track.specs.Steps.{Steps}
 use Rattle.sk_batch.proofs.batches.Batches.stat.Goals as goal
 
-pub returns : goal.returns
-returns c = c.stat.ensures ∙ ap (λ (v : Steps Batched). stat c.args.bid.now v.stands) c.self.view_is
+pub returns-clause-is : goal.returns-clause-is
+returns-clause-is c = c.stat.ensures.is ∙ ap (λ (v : Steps Batched). stat c.args.bid.now v.stands) c.self.view_is
