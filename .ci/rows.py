@@ -3,8 +3,9 @@
 
     rows.py
 
-Every command of the table stands in a row with an answer that isn't want of memory, and is refused for a wrong number of words. Every fixed
-text is answered in a row. Prints what is missing, with status 1. The names and the texts are those of the source.
+Every command of the table is answered in a row, by more than an error, and is refused there for a wrong number of words. Every fixed text
+is said in a row. Every file of the rows' data belongs to a row. Prints what is missing, with status 1. The names and the texts are those of
+the source.
 """
 import pathlib
 import re
@@ -46,7 +47,7 @@ def expanded(lines):
     for line in lines.splitlines():
         count, text = line.split(b' ', 1)
         piece = re.sub(rb'%([0-9a-fA-F]{2})', lambda m: bytes.fromhex(m.group(1).decode()), text)
-        out.append(numbered(piece, int(count)) if b'#' in piece else piece * int(count))
+        out.append(numbered(piece, int(count)) if b'#' in piece and len(piece) > 1 else piece * int(count))
     return b''.join(out)
 
 
@@ -118,6 +119,14 @@ def replies(data):
         at = end
 
 
+def unlisted():
+    """Files that belong to no row."""
+    names = {line.split()[2] for line in (DATA / 'rows.txt').read_text().splitlines()}
+    for path in sorted(DATA.glob('*/*')):
+        if str(path.relative_to(DATA).with_suffix('')) not in names:
+            yield b'no row has ' + str(path.relative_to(DATA)).encode()
+
+
 def is_error(answer):
     return answer.startswith(b'-')
 
@@ -128,7 +137,8 @@ def missing(names, texts):
     for given, wanted in rows('wire', 'repeats'):
         answers = list(replies(wanted))
         said.update(answers)
-        answered.update(name for name, answer in zip(commands(given), answers) if not is_error(answer) or answer == NOT_BUILT)
+        pairs = zip(commands(given), answers)
+        answered.update(name for name, answer in pairs if not is_error(answer) or answer == NOT_BUILT)
     for _, wanted in rows('steps'):
         said.update(line.removesuffix(b'\r') for line in wanted.split(b'\n'))
     for name in names:
@@ -143,7 +153,7 @@ def missing(names, texts):
 
 def main():
     names, texts = spellings(), fixed_texts()
-    lines = list(missing(names, texts))
+    lines = [*missing(names, texts), *unlisted()]
     for line in lines:
         print(line.decode())
     return 1 if lines or not names or not texts else 0

@@ -5,6 +5,7 @@
 mod heads;
 mod outcome;
 mod repeats;
+mod replies;
 mod row;
 mod steps;
 mod text;
@@ -22,7 +23,7 @@ fn file(rt: &HostRuntime, row: &Row<'_>, kind: &str) -> io::Result<Vec<u8>> {
     let bytes = fs::read(rt, path.as_str())?;
     match row.form {
         Form::Repeats => repeats::expand(rt.alloc(), &bytes),
-        Form::Wire | Form::Heads | Form::Steps => Ok(bytes),
+        _ => Ok(bytes),
     }
 }
 
@@ -32,6 +33,7 @@ fn outcomes(alloc: Global, row: &Row<'_>, input: &[u8]) -> io::Result<Vec<Outcom
         Form::Wire => wire::in_all_pieces(alloc, &row.words, input),
         Form::Repeats => wire::in_one_piece(alloc, &row.words, input),
         Form::Heads => Outcome::alone(heads::heads(alloc, input)?),
+        Form::Replies => Outcome::alone(replies::written_again(alloc, input)?),
         Form::Steps => Outcome::alone(steps::answers(alloc, &row.words, input)?),
     }
 }

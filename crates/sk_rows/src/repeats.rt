@@ -1,5 +1,5 @@
 // The notation of long inputs and outputs: lines `COUNT TEXT`. The text stands so many times, with `%XX` for any byte; a `#` in it is the
-// number of the time, from 00001 on.
+// number of the time, from 00001 on. A `#` alone is that byte.
 use crate::text::{invalid, text_of};
 use percent_encoding::percent_decode;
 use std::alloc::Global;
@@ -18,6 +18,18 @@ fn append_numbered(alloc: Global, piece: &[u8], number: u32, out: &mut Vec<u8>) 
     Ok(())
 }
 
+// Appends the piece so many times.
+fn append_times(alloc: Global, piece: &[u8], count: u32, out: &mut Vec<u8>) -> io::Result<()> {
+    if let [byte] = piece {
+        out.resize(out.len().saturating_add(count as usize), *byte)?;
+        return Ok(());
+    }
+    for number in 1..=count {
+        append_numbered(alloc, piece, number, out)?;
+    }
+    Ok(())
+}
+
 // Appends the bytes that a line stands for. Another line is invalid data.
 fn append_line(alloc: Global, line: &str, out: &mut Vec<u8>) -> io::Result<()> {
     let Some((count, text)) = line.split_once(' ') else {
@@ -28,15 +40,7 @@ fn append_line(alloc: Global, line: &str, out: &mut Vec<u8>) -> io::Result<()> {
     };
     let mut piece = Vec::new(alloc);
     percent_decode(text.as_bytes()).append_to(&mut piece)?;
-    let numbered = piece.contains(&b'#');
-    for number in 1..=count {
-        if numbered {
-            append_numbered(alloc, &piece, number, out)?;
-        } else {
-            out.extend_from_slice(&piece)?;
-        }
-    }
-    Ok(())
+    append_times(alloc, &piece, count, out)
 }
 
 /// The bytes that the lines stand for, one after another.
