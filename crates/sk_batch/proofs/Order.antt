@@ -9,7 +9,7 @@ use Rattle.std.specs.Cmp.Lexicographic.{slice_cmp}
 use Rattle.std.proofs.lemmas.Cmp.{then_total, on_total, nat_list_cmp_total}
 use Rattle.std.proofs.lemmas.Map.Text.{is_eq-slice_cmp}
 use Rattle.sk_resp.specs.Spelling.{Bytes}
-use Rattle.sk_track.specs.Rises.{all_pass, rises}
+use Rattle.sk_undo.specs.Rises.{all_pass, rises}
 use Rattle.sk_batch.specs.Batched.{MemberEntry, is_job}
 use Rattle.sk_batch.specs.Fires.{retagged}
 use Rattle.sk_batch.specs.Order.{member_cmp, precedes, put, put_all, is_first, is_ordered}

@@ -3,7 +3,7 @@ use Rattle.std.proofs.Common.{◌≡◌, ℕ, zero, suc, ◌+◌, ◌<◌, ◌�
 use Rattle.std.proofs.lemmas.List.{take_all}
 use Rattle.std.specs.List.{position_or_len, list_any}
 use Rattle.std.specs.List.{remove}
-use Rattle.sk_track.specs.Moves.{moved, put_down}
+use Rattle.sk_undo.specs.Moves.{moved, put_down}
 use Rattle.sk_batch.specs.Fires.{retagged}
 
 module _ {X : Type 0} (p : X → Bool) where

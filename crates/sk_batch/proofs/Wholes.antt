@@ -1,7 +1,7 @@
 -- An edit of the two lists is an edit of the whole.
 use Rattle.std.proofs.Common.{◌≡◌, ℕ, List, Result, Ok, Err, OnOk, refl, ap, ap₂, ◌∙◌}
 use Rattle.sk_resp.specs.Spelling.{Bytes}
-use Rattle.sk_track.specs.Steps.{Steps, both, edited}
+use Rattle.sk_undo.specs.Steps.{Steps, both, edited}
 use Rattle.sk_batch.specs.Batched.{Batched, BatchEntry, MemberEntry, is_job}
 use Rattle.sk_batch.specs.Events.{fired, marked}
 use Rattle.sk_batch.specs.Fires.{after_fires, retagged}

@@ -2,7 +2,7 @@
 use Rattle.std.specs.Prelude.{◌≤◌, not, ◌&&◌, List, [], ◌∷◌, Option, Some, None}
 use Rattle.std.specs.List.{count_by}
 use Rattle.sk_resp.specs.Spelling.{Bytes}
-use Rattle.sk_track.specs.Balance.{most}
+use Rattle.sk_undo.specs.Balance.{most}
 use Rattle.sk_batch.specs.Batched.{Batched, BatchEntry, is_in}
 use Rattle.sk_batch.specs.Lines.{line}
 use Rattle.sk_batch.specs.Open.{lacks}

@@ -1,7 +1,7 @@
 -- What the fields stand for.
 use Rattle.std.specs.Prelude.{◌≡◌, true, List}
 use Rattle.std.specs.Option.{is_some}
-use Rattle.sk_track.specs.Steps.{Steps, both}
+use Rattle.sk_undo.specs.Steps.{Steps, both}
 use Rattle.sk_batch.specs.Batched.{Batched, BatchEntry, MemberEntry}
 use Rattle.sk_batch.specs.Order.{is_ordered, was_ordered}
 use Rattle.sk_batch.specs.declared.batches.Batches.TheInside.{Inside}

@@ -6,7 +6,7 @@ ghost use Rattle.sk_batch.specs.Events.{died, died_fires, joined, made, made_fir
 ghost use Rattle.sk_batch.specs.Faults.{add_fault, batch_fault, bid_fault, is_full, jids_fault, make_fault};
 ghost use Rattle.sk_batch.specs.Stat.{IsSmall, stat};
 ghost use Rattle.sk_batch.specs.declared.batch_fault.BatchFault.TheVariants as fault;
-ghost use Rattle.sk_track.specs.Steps.{begun, closed, committed, edited, undone};
+ghost use Rattle.sk_undo.specs.Steps.{begun, closed, committed, edited, undone};
 
 use crate::event::Event;
 use crate::faults::{check_batch, check_bid, check_jids};
@@ -15,7 +15,7 @@ use crate::stats::stat;
 use crate::told::tell;
 use crate::{Batch, BatchFault, BatchStat, Fired, Firing, Marks, Member, Memory};
 use sk_resp::Word;
-use sk_track::Tracked;
+use sk_undo::UndoList;
 use std::alloc::Global;
 use std::marker::Model;
 
@@ -24,12 +24,12 @@ use std::marker::Model;
 #[derive(Drop)]
 pub struct Batches {
     most: u64,
-    batches: Tracked<Fired, Batch>,
-    members: Tracked<Marks, Member>,
+    batches: UndoList<Fired, Batch>,
+    members: UndoList<Marks, Member>,
 }
 
 impl Model for Batches {
-    ghost use Rattle.sk_track.specs.Steps.{Steps};
+    ghost use Rattle.sk_undo.specs.Steps.{Steps};
     ghost use Rattle.sk_batch.specs.Batched.{Batched};
 
     ghost Value = { Steps Batched };
@@ -48,8 +48,8 @@ impl Batches {
     {
         Batches {
             most,
-            batches: Tracked::new(alloc),
-            members: Tracked::new(alloc),
+            batches: UndoList::new(alloc),
+            members: UndoList::new(alloc),
         }
     }
 

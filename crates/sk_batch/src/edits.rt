@@ -5,12 +5,12 @@ ghost use Rattle.sk_batch.specs.Batched.{MemberEntry, has_bid};
 ghost use Rattle.sk_batch.specs.Fires.{after_fires, retagged, with_kind};
 ghost use Rattle.sk_batch.specs.Open.{with_mark};
 ghost use Rattle.sk_batch.specs.Order.{is_ordered, put_all};
-ghost use Rattle.sk_track.specs.Steps.{edited};
+ghost use Rattle.sk_undo.specs.Steps.{edited};
 
 use crate::line::first_batch;
 use crate::members::place_for;
 use crate::{Batch, Fired, Firing, Kind, Mark, Marks, Member};
-use sk_track::Tracked;
+use sk_undo::UndoList;
 
 fn with_mark(mark: Mark, marks: Marks) -> Marks
     ensures { result ≡ with_mark mark marks }
@@ -28,7 +28,7 @@ fn with_mark(mark: Mark, marks: Marks) -> Marks
 }
 
 /// Gives the member at a place the mark.
-pub fn mark_member(members: &mut Tracked<Marks, Member>, at: usize, mark: Mark)
+pub fn mark_member(members: &mut UndoList<Marks, Member>, at: usize, mark: Mark)
     requires within { at < length members.old.list.stands }
     requires room { 0 < members.old.room }
     ensures { (test : MemberEntry → Bool) → at ≡ position_or_len test members.old.list.stands → members.new.list ≡ edited (retagged test (with_mark mark) members.old.list.stands) members.old.list }
@@ -58,7 +58,7 @@ fn with_kind(kind: Kind, fired: Fired) -> Fired
 
 // Marks that this was fired of a batch.
 #[tactic(auto, using(crate::proofs::Places::retagged_none, crate::proofs::Places::no_position))]
-fn mark_one(batches: &mut Tracked<Fired, Batch>, bid: &[u8], kind: Kind)
+fn mark_one(batches: &mut UndoList<Fired, Batch>, bid: &[u8], kind: Kind)
     requires { 0 < batches.old.room }
     ensures list { batches.new.list ≡ edited (retagged (has_bid bid.now) (with_kind kind) batches.old.list.stands) batches.old.list }
     ensures room { batches.old.room ≤ batches.new.room + 1 }
@@ -71,7 +71,7 @@ fn mark_one(batches: &mut Tracked<Fired, Batch>, bid: &[u8], kind: Kind)
 }
 
 /// Marks what was fired.
-pub fn mark_fired(batches: &mut Tracked<Fired, Batch>, firings: &[Firing])
+pub fn mark_fired(batches: &mut UndoList<Fired, Batch>, firings: &[Firing])
     requires { length firings.now ≤ batches.old.room }
     ensures { batches.new.list ≡ edited (after_fires firings.now batches.old.list.stands) batches.old.list }
 {
@@ -82,7 +82,7 @@ pub fn mark_fired(batches: &mut Tracked<Fired, Batch>, firings: &[Firing])
 
 /// Puts each of these members in at its place.
 #[tactic(auto, using(crate::proofs::Order::insert_put, crate::proofs::Order::ordered_put))]
-pub fn add_members(members: &mut Tracked<Marks, Member>, news: Vec<(Marks, Member)>)
+pub fn add_members(members: &mut UndoList<Marks, Member>, news: Vec<(Marks, Member)>)
     requires room { vec_len news ≤ members.old.room }
     requires ordered { is_ordered members.old.list.stands ≡ true }
     ensures { members.new.list ≡ edited (put_all news.items members.old.list.stands) members.old.list }

@@ -10,17 +10,17 @@ use crate::line::first_batch;
 use crate::members::{all_marked, member_at};
 use crate::{Batch, BatchFault, Fired, Mark, Marks, Member};
 use sk_resp::Word;
-use sk_track::Tracked;
+use sk_undo::UndoList;
 
 #[tactic(auto, using(crate::proofs::Places::any_position, crate::proofs::Places::no_position))]
-fn is_there(batches: &Tracked<Fired, Batch>, bid: &[u8]) -> bool
+fn is_there(batches: &UndoList<Fired, Batch>, bid: &[u8]) -> bool
     ensures { result ≡ is_there bid.now batches.now.list.stands }
 {
     first_batch(batches, bid) < batches.len()
 }
 
 #[tactic(auto, using(crate::proofs::Places::any_position, crate::proofs::Places::no_position))]
-fn is_member(members: &Tracked<Marks, Member>, bid: &[u8], jid: &[u8]) -> bool
+fn is_member(members: &UndoList<Marks, Member>, bid: &[u8], jid: &[u8]) -> bool
     requires { is_ordered members.now.list.stands ≡ true }
     ensures { result ≡ is_member bid.now jid.now members.now.list.stands }
 {
@@ -29,8 +29,8 @@ fn is_member(members: &Tracked<Marks, Member>, bid: &[u8], jid: &[u8]) -> bool
 
 /// The rules on the batch that jobs are added to.
 pub fn check_batch(
-    batches: &Tracked<Fired, Batch>,
-    members: &Tracked<Marks, Member>,
+    batches: &UndoList<Fired, Batch>,
+    members: &UndoList<Marks, Member>,
     bid: &[u8],
 ) -> Result<(), BatchFault>
     ensures { result_err result ≡ batch_fault bid.now (of_lists batches.now.list.stands members.now.list.stands) None }
@@ -46,8 +46,8 @@ pub fn check_batch(
 
 /// The rules on the bid and the parent of a new batch.
 pub fn check_bid(
-    batches: &Tracked<Fired, Batch>,
-    members: &Tracked<Marks, Member>,
+    batches: &UndoList<Fired, Batch>,
+    members: &UndoList<Marks, Member>,
     bid: &[u8],
     parent: Option<&[u8]>,
 ) -> Result<(), BatchFault>
@@ -71,7 +71,7 @@ pub fn check_bid(
     }
 }
 
-fn has_repeated(members: &Tracked<Marks, Member>, bid: &[u8], jids: &[Word]) -> bool
+fn has_repeated(members: &UndoList<Marks, Member>, bid: &[u8], jids: &[Word]) -> bool
     requires { is_ordered members.now.list.stands ≡ true }
     ensures { result ≡ has_repeated bid.now members.now.list.stands jids.now }
 {
@@ -87,8 +87,8 @@ fn has_repeated(members: &Tracked<Marks, Member>, bid: &[u8], jids: &[Word]) -> 
 
 /// The rule on the jids of new members.
 pub fn check_jids(
-    batches: &Tracked<Fired, Batch>,
-    members: &Tracked<Marks, Member>,
+    batches: &UndoList<Fired, Batch>,
+    members: &UndoList<Marks, Member>,
     bid: &[u8],
     jids: &[Word],
 ) -> Result<(), BatchFault>

@@ -7,7 +7,7 @@ ghost use Rattle.sk_batch.specs.Lines.{is_under, line, line_of_first};
 
 use crate::{Batch, Fired, Firing, Kind, Memory};
 use sk_payload::Payload;
-use sk_track::{Test, Tracked};
+use sk_undo::{Test, UndoList};
 
 // Passes the batch of a bid.
 #[derive(Drop)]
@@ -24,7 +24,7 @@ impl<'a> Test<(Fired, Batch)> for HasBid<'a> {
 }
 
 /// The place of the first batch of this bid; the number of batches where there is none.
-pub fn first_batch(batches: &Tracked<Fired, Batch>, bid: &[u8]) -> usize
+pub fn first_batch(batches: &UndoList<Fired, Batch>, bid: &[u8]) -> usize
     ensures is { result ≡ position_or_len (has_bid bid.now) batches.now.list.stands }
     ensures line { line_of_first (drop result batches.now.list.stands) ≡ line batches.now.list.stands bid.now }
     ensures within { result ≤ length batches.now.list.stands }
@@ -34,7 +34,7 @@ pub fn first_batch(batches: &Tracked<Fired, Batch>, bid: &[u8]) -> usize
 
 // The place of the first batch of this bid, from the place `first` on; the number of batches where there is none.
 #[tactic(auto, using(crate::proofs::Walks::line_found_from))]
-fn batch_from(batches: &Tracked<Fired, Batch>, first: usize, bid: &[u8]) -> usize
+fn batch_from(batches: &UndoList<Fired, Batch>, first: usize, bid: &[u8]) -> usize
     requires { first ≤ length batches.now.list.stands }
     ensures line { line_of_first (drop result batches.now.list.stands) ≡ line (drop first batches.now.list.stands) bid.now }
     ensures after { first ≤ result }
@@ -45,7 +45,7 @@ fn batch_from(batches: &Tracked<Fired, Batch>, first: usize, bid: &[u8]) -> usiz
 
 /// The batch at a place, and the place of its parent; the number of batches where it has none.
 #[tactic(auto, using(crate::proofs::Walks::line_at, crate::proofs::Walks::line_end))]
-pub fn batch_at(batches: &Tracked<Fired, Batch>, at: usize) -> (&(Fired, Batch), usize)
+pub fn batch_at(batches: &UndoList<Fired, Batch>, at: usize) -> (&(Fired, Batch), usize)
     requires { at < length batches.now.list.stands }
     ensures line { line_of_first (drop at batches.now.list.stands) ≡ result.0.now ∷ line_of_first (drop result.1 batches.now.list.stands) }
     ensures after { at < result.1 }
@@ -62,7 +62,7 @@ pub fn batch_at(batches: &Tracked<Fired, Batch>, at: usize) -> (&(Fired, Batch),
 
 /// Whether the inner batch is the outer one, or is somewhere within it.
 #[tactic(auto, using(crate::proofs::Walks::line_end))]
-pub fn is_under(batches: &Tracked<Fired, Batch>, inner: &[u8], outer: &[u8]) -> bool
+pub fn is_under(batches: &UndoList<Fired, Batch>, inner: &[u8], outer: &[u8]) -> bool
     ensures { result ≡ is_under batches.now.list.stands inner.now outer.now }
 {
     let mut at = first_batch(batches, inner);
@@ -95,7 +95,7 @@ pub fn firing(kind: Kind, batch: &Batch) -> Result<Firing, Memory>
 /// Adds the firings of this kind of the batches that pass, from one batch outwards.
 #[tactic(auto, using(crate::proofs::Walks::line_end))]
 pub fn fire_where<F: Test<(Fired, Batch)>>(
-    batches: &Tracked<Fired, Batch>,
+    batches: &UndoList<Fired, Batch>,
     bid: &[u8],
     kind: Kind,
     test: &F,

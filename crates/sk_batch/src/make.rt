@@ -3,13 +3,13 @@ ghost use Rattle.std.specs.Prelude.{◌≡◌, ◌∷◌, true, IfOk, OnErr, OnO
 ghost use Rattle.sk_batch.specs.Events.{made_fires, members_of, unfired};
 ghost use Rattle.sk_batch.specs.Fires.{after_fires};
 ghost use Rattle.sk_batch.specs.Order.{is_ordered, put_all};
-ghost use Rattle.sk_track.specs.Steps.{edited};
+ghost use Rattle.sk_undo.specs.Steps.{edited};
 
 use crate::edits::add_members;
 use crate::line::firing;
 use crate::{Batch, Fired, Firing, Kind, Marks, Member, Memory};
 use sk_resp::Word;
-use sk_track::Tracked;
+use sk_undo::UndoList;
 use std::alloc::Global;
 
 // New members of a batch.
@@ -31,7 +31,7 @@ fn new_members(alloc: Global, bid: &[u8], jids: Vec<Word>) -> Result<Vec<(Marks,
 /// Jobs are added to a batch.
 pub fn join(
     alloc: Global,
-    members: &mut Tracked<Marks, Member>,
+    members: &mut UndoList<Marks, Member>,
     bid: &[u8],
     jids: Vec<Word>,
 ) -> Result<(), Memory>
@@ -61,8 +61,8 @@ fn made_fires(alloc: Global, batch: &Batch, jids: &[Word]) -> Result<Vec<Firing>
 #[tactic(auto, using(crate::proofs::Making::made_at_front))]
 pub fn make(
     alloc: Global,
-    batches: &mut Tracked<Fired, Batch>,
-    members: &mut Tracked<Marks, Member>,
+    batches: &mut UndoList<Fired, Batch>,
+    members: &mut UndoList<Marks, Member>,
     batch: Batch,
     jids: Vec<Word>,
 ) -> Result<Vec<Firing>, Memory>

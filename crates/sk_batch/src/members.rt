@@ -1,7 +1,7 @@
 // The members, in order: where one stands, and which of those under a batch are still to come.
 ghost use Rattle.std.specs.Prelude.{◌≡◌, ◌+◌, ◌<◌, ◌≤◌, true, not, ◌&&◌, drop, length, take};
 ghost use Rattle.std.specs.List.{count_by, list_any, position_or_len};
-ghost use Rattle.sk_track.specs.Balance.{most};
+ghost use Rattle.sk_undo.specs.Balance.{most};
 ghost use Rattle.sk_batch.specs.Batched.{is_in, is_job};
 ghost use Rattle.sk_batch.specs.Open.{all_marked, has_mark, lacks};
 ghost use Rattle.sk_batch.specs.Order.{is_ordered, precedes};
@@ -9,7 +9,7 @@ ghost use Rattle.sk_batch.specs.Others.{others_marked};
 
 use crate::line::is_under;
 use crate::{Batch, Fired, Mark, Marks, Member};
-use sk_track::{Test, Tracked};
+use sk_undo::{Test, UndoList};
 
 // Passes the members that are this job in this batch.
 #[derive(Drop)]
@@ -72,7 +72,7 @@ impl<'a> Test<(Marks, Member)> for Behind<'a> {
 
 /// The place of the job among the members; the number of members where it is none of this batch. Logarithmic.
 #[tactic(auto, using(crate::proofs::Order::found_here))]
-pub fn member_at(members: &Tracked<Marks, Member>, bid: &[u8], jid: &[u8]) -> usize
+pub fn member_at(members: &UndoList<Marks, Member>, bid: &[u8], jid: &[u8]) -> usize
     requires { is_ordered members.now.list.stands ≡ true }
     ensures is { result ≡ position_or_len (is_job bid.now jid.now) members.now.list.stands }
     ensures within { result ≤ length members.now.list.stands }
@@ -90,7 +90,7 @@ pub fn member_at(members: &Tracked<Marks, Member>, bid: &[u8], jid: &[u8]) -> us
 }
 
 /// The place that a new member is to have. Logarithmic.
-pub fn place_for(members: &Tracked<Marks, Member>, new: &(Marks, Member)) -> usize
+pub fn place_for(members: &UndoList<Marks, Member>, new: &(Marks, Member)) -> usize
     requires { is_ordered members.now.list.stands ≡ true }
     ensures is { result ≡ position_or_len (λ m. precedes new.now.1 m.1) members.now.list.stands }
     ensures within { result ≤ length members.now.list.stands }
@@ -139,7 +139,7 @@ impl<'a> Test<(Marks, Member)> for Pending<'a> {
 /// Passes the members under a batch that lack a mark.
 #[derive(Drop)]
 pub struct Lacks<'a> {
-    pub batches: &'a Tracked<Fired, Batch>,
+    pub batches: &'a UndoList<Fired, Batch>,
     pub mark: Mark,
     pub bid: &'a [u8],
 }
@@ -155,8 +155,8 @@ impl<'a> Test<(Marks, Member)> for Lacks<'a> {
 /// Whether each member under the batch has the mark.
 #[tactic(auto, using(crate::proofs::Places::any_position, crate::proofs::Places::no_position))]
 pub fn all_marked(
-    batches: &Tracked<Fired, Batch>,
-    members: &Tracked<Marks, Member>,
+    batches: &UndoList<Fired, Batch>,
+    members: &UndoList<Marks, Member>,
     mark: Mark,
     bid: &[u8],
 ) -> bool
@@ -168,7 +168,7 @@ pub fn all_marked(
 // Whether each member under the batch has the mark, of those from the place `first` to the one before `end`.
 #[tactic(auto, using(crate::proofs::Places::none_between))]
 fn none_between(
-    members: &Tracked<Marks, Member>,
+    members: &UndoList<Marks, Member>,
     first: usize,
     end: usize,
     test: &Lacks<'_>,
@@ -183,8 +183,8 @@ fn none_between(
 /// The members but for one.
 #[derive(Drop)]
 pub struct Others<'a> {
-    pub batches: &'a Tracked<Fired, Batch>,
-    pub members: &'a Tracked<Marks, Member>,
+    pub batches: &'a UndoList<Fired, Batch>,
+    pub members: &'a UndoList<Marks, Member>,
     pub at: usize,
     pub ghost within: { at < length members.now.list.stands },
 }
@@ -240,7 +240,7 @@ impl<'a> Test<(Fired, Batch)> for Settles<'a> {
 
 /// How many members pass.
 #[tactic(auto, using(std::proofs::lemmas::List::Sums::count_by_more_no, std::proofs::lemmas::List::Sums::count_by_more_yes))]
-pub fn count_where<F: Test<(Marks, Member)>>(members: &Tracked<Marks, Member>, test: &F) -> u64
+pub fn count_where<F: Test<(Marks, Member)>>(members: &UndoList<Marks, Member>, test: &F) -> u64
     ensures is { result ≡ count_by (F.passes test.now) members.now.list.stands }
     ensures small { result ≤ most }
 {

@@ -7,11 +7,11 @@ ghost use Rattle.sk_batch.specs.Stat.{IsSmall, numbers_of, stat};
 use crate::line::{batch_at, first_batch};
 use crate::members::{IsIn, Lacks, Pending, count_where};
 use crate::{Batch, BatchStat, Fired, Mark, Marks, Member};
-use sk_track::Tracked;
+use sk_undo::UndoList;
 
 fn numbers(
-    batches: &Tracked<Fired, Batch>,
-    members: &Tracked<Marks, Member>,
+    batches: &UndoList<Fired, Batch>,
+    members: &UndoList<Marks, Member>,
     entry: &(Fired, Batch),
 ) -> BatchStat
     ensures is { result ≡ numbers_of (of_lists batches.now.list.stands members.now.list.stands) entry.now }
@@ -52,8 +52,8 @@ fn numbers(
 
 /// The numbers of a batch, where it was made.
 pub fn stat(
-    batches: &Tracked<Fired, Batch>,
-    members: &Tracked<Marks, Member>,
+    batches: &UndoList<Fired, Batch>,
+    members: &UndoList<Marks, Member>,
     bid: &[u8],
 ) -> Option<BatchStat>
     ensures is { result ≡ stat bid.now (of_lists batches.now.list.stands members.now.list.stands) }

@@ -11,21 +11,21 @@ ghost use Rattle.sk_batch.specs.declared.member.Mark.{Mark};
 ghost use Rattle.sk_batch.specs.declared.member.Mark.TheVariants.{Reported, Returned};
 ghost use Rattle.sk_batch.specs.Told.{fires_of, later_fires, mark_of};
 ghost use Rattle.sk_resp.specs.Spelling.{Bytes};
-ghost use Rattle.sk_track.specs.Steps.{edited};
+ghost use Rattle.sk_undo.specs.Steps.{edited};
 
 use crate::edits::{mark_fired, mark_member};
 use crate::event::Event;
 use crate::line::{batch_at, fire_where, firing, first_batch};
 use crate::members::{Completes, Others, Settles, member_at};
 use crate::{Batch, Fired, Firing, Kind, Mark, Marks, Member, Memory};
-use sk_track::Tracked;
+use sk_undo::UndoList;
 use std::alloc::Global;
 
 // Adds the completes that come where the member at a place gets a mark.
 #[tactic(auto, using(crate::proofs::Marking::completes_others))]
 fn complete_all(
-    batches: &Tracked<Fired, Batch>,
-    members: &Tracked<Marks, Member>,
+    batches: &UndoList<Fired, Batch>,
+    members: &UndoList<Marks, Member>,
     at: usize,
     bid: &[u8],
     firings: &mut Vec<Firing>,
@@ -44,8 +44,8 @@ fn complete_all(
 // Adds the successes that come where the member at a place returns.
 #[tactic(auto, using(crate::proofs::Marking::success_open, crate::proofs::Marking::success_again))]
 fn succeed_all(
-    batches: &Tracked<Fired, Batch>,
-    members: &Tracked<Marks, Member>,
+    batches: &UndoList<Fired, Batch>,
+    members: &UndoList<Marks, Member>,
     at: usize,
     bid: &[u8],
     firings: &mut Vec<Firing>,
@@ -65,7 +65,11 @@ fn succeed_all(
 }
 
 // Adds the death of a batch, where none of its own members was buried before.
-fn die(batches: &Tracked<Fired, Batch>, bid: &[u8], firings: &mut Vec<Firing>) -> Result<(), Memory>
+fn die(
+    batches: &UndoList<Fired, Batch>,
+    bid: &[u8],
+    firings: &mut Vec<Firing>,
+) -> Result<(), Memory>
     ensures { OnOk result (firings.new.items ≡ firings.old.items ++ death_fires (of_lists batches.now.list.stands []) bid.now) }
 {
     let at = first_batch(batches, bid);
@@ -80,8 +84,8 @@ fn die(batches: &Tracked<Fired, Batch>, bid: &[u8], firings: &mut Vec<Firing>) -
 
 // Takes all memory first, so that what was fired and what came of the member are marked, or nothing is.
 fn keep(
-    batches: &mut Tracked<Fired, Batch>,
-    members: &mut Tracked<Marks, Member>,
+    batches: &mut UndoList<Fired, Batch>,
+    members: &mut UndoList<Marks, Member>,
     at: usize,
     mark: Mark,
     firings: &[Firing],
@@ -110,8 +114,8 @@ fn mark_of(event: Event) -> Mark
 
 // Adds what is fired behind the completes.
 fn add_later(
-    batches: &Tracked<Fired, Batch>,
-    members: &Tracked<Marks, Member>,
+    batches: &UndoList<Fired, Batch>,
+    members: &UndoList<Marks, Member>,
     at: usize,
     bid: &[u8],
     event: Event,
@@ -130,8 +134,8 @@ fn add_later(
 // What is fired where this comes of the member at a place.
 fn fires_of(
     alloc: Global,
-    batches: &Tracked<Fired, Batch>,
-    members: &Tracked<Marks, Member>,
+    batches: &UndoList<Fired, Batch>,
+    members: &UndoList<Marks, Member>,
     at: usize,
     bid: &[u8],
     event: Event,
@@ -149,8 +153,8 @@ fn fires_of(
 #[tactic(auto, using(crate::proofs::Places::no_position, crate::proofs::Places::retagged_none))]
 pub fn tell(
     alloc: Global,
-    batches: &mut Tracked<Fired, Batch>,
-    members: &mut Tracked<Marks, Member>,
+    batches: &mut UndoList<Fired, Batch>,
+    members: &mut UndoList<Marks, Member>,
     event: Event,
     bid: &[u8],
     jid: &[u8],

@@ -9,8 +9,8 @@ use Rattle.std.proofs.lemmas.Cmp.{nat_list_cmp_total}
 use Rattle.std.proofs.lemmas.Map.Text.{is_eq-slice_cmp}
 use Rattle.std.proofs.lemmas.Option.{slice_get-map, slice_get_read}
 use Rattle.sk_resp.specs.Spelling.{Bytes}
-use Rattle.sk_track.specs.Moves.{moved, put_down}
-use Rattle.sk_track.specs.Rises.{all_pass, rises}
+use Rattle.sk_undo.specs.Moves.{moved, put_down}
+use Rattle.sk_undo.specs.Rises.{all_pass, rises}
 use Rattle.sk_value.specs.Order.{text_cmp}
 use Rattle.sk_counters.specs.Counters.{Counters, count_in, last_count, raised}
 use Rattle.sk_counters.specs.Order.{count_at, counter_of, counters_of, is_sorted}

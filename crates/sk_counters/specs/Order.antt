@@ -2,8 +2,8 @@
 use Rattle.std.specs.Prelude.{◌≡◌, ℕ, Bool, true, ◌&&◌, cond, List, [], ◌∷◌, Option, Some, None, map, option_map}
 use Rattle.std.specs.Ordering.{is_eq, is_lt}
 use Rattle.sk_resp.specs.Spelling.{Bytes}
-use Rattle.sk_track.specs.Rises.{all_pass}
-use Rattle.sk_track.specs.Steps.{Steps}
+use Rattle.sk_undo.specs.Rises.{all_pass}
+use Rattle.sk_undo.specs.Steps.{Steps}
 use Rattle.sk_value.specs.Order.{text_cmp}
 use Rattle.sk_counters.specs.Counters.{Counters}
 

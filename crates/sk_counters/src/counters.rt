@@ -1,14 +1,14 @@
 // The counters of runs, each with its name.
 ghost use Rattle.std.specs.Prelude.{◌≡◌, ◌≤◌, [], IsSome, None, OnErr, OnOk};
 ghost use Rattle.sk_base.specs.Score.{last_moment};
-ghost use Rattle.sk_track.specs.Steps.{begun, closed, committed, edited, undone};
+ghost use Rattle.sk_undo.specs.Steps.{begun, closed, committed, edited, undone};
 ghost use Rattle.sk_counters.specs.Counters.{count_in, counted_at, name_of};
 
 use crate::Memory;
 use crate::day::of_day;
 use crate::entries::{Entries, count_of, raise};
 use sk_resp::Word;
-use sk_track::Tracked;
+use sk_undo::UndoList;
 use std::alloc::Global;
 use std::marker::Model;
 
@@ -42,7 +42,7 @@ pub struct Counters {
 }
 
 impl Model for Counters {
-    ghost use Rattle.sk_track.specs.Steps.{Steps};
+    ghost use Rattle.sk_undo.specs.Steps.{Steps};
     ghost use Rattle.sk_counters.specs.Counters.{Counters as CountersSeen};
 
     ghost Value = { Steps CountersSeen };
@@ -61,7 +61,7 @@ impl Counters {
     {
         Counters {
             alloc,
-            entries: Tracked::new(alloc),
+            entries: UndoList::new(alloc),
         }
     }
 

@@ -1,4 +1,4 @@
-// Counters in a tracked list, in the order of their names' bytes: each is found in logarithmic time, and its count changes in place.
+// Counters in a list with undo, in the order of their names' bytes: each is found in logarithmic time, and its count changes in place.
 ghost use Rattle.std.specs.Prelude.{◌≡◌, ◌+◌, ◌<◌, ◌≤◌, suc, true, IfSome, length, min, slice_get};
 ghost use Rattle.std.specs.List.{position_or_len};
 ghost use Rattle.std.specs.Ordering.{is_le};
@@ -7,10 +7,10 @@ ghost use Rattle.sk_counters.specs.Counters.{count_in, last_count, raised};
 ghost use Rattle.sk_counters.specs.Order.{count_at, counters_of, is_sorted};
 
 use sk_resp::Word;
-use sk_track::{Test, Tracked};
+use sk_undo::{Test, UndoList};
 
 /// Counts, each with the name of its counter.
-pub type Entries = Tracked<u64, Word>;
+pub type Entries = UndoList<u64, Word>;
 
 // The last value of a signed number of 64 bits.
 const LAST_COUNT: u64 = i64::MAX as u64;

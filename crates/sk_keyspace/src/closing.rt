@@ -1,6 +1,6 @@
 // The end of a step over the places.
 ghost use Rattle.std.specs.Prelude.{◌≡◌, IsSome, OnErr, OnOk};
-ghost use Rattle.sk_track.specs.Steps.{committed, undone};
+ghost use Rattle.sk_undo.specs.Steps.{committed, undone};
 
 use sk_places::Places;
 use sk_resp::Memory;

@@ -6,7 +6,7 @@ ghost use Rattle.sk_model.specs.Class.{class_of};
 ghost use Rattle.sk_model.specs.Deletes.{delete, delete_as, delete_each, flush, may_go};
 ghost use Rattle.sk_model.specs.Outcome.{Comes};
 ghost use Rattle.sk_model.specs.World.{World};
-ghost use Rattle.sk_track.specs.Steps.{edited};
+ghost use Rattle.sk_undo.specs.Steps.{edited};
 ghost use Rattle.sk_places.specs.declared.row.Place.TheVariants.{Queue};
 ghost use Rattle.sk_places.specs.Rows.{rows_at};
 ghost use Rattle.sk_keyspace.specs.Edits.{without_queue};

@@ -1,7 +1,7 @@
 // SADD queues name .. (Redis, "SADD"): names of queues that have no jobs yet.
 ghost use Rattle.std.specs.Prelude.{◌≡◌, None, true, IfOk, OnErr, OnOk};
 ghost use Rattle.std.specs.List.{list_all};
-ghost use Rattle.sk_track.specs.Steps.{edited};
+ghost use Rattle.sk_undo.specs.Steps.{edited};
 ghost use Rattle.sk_model.specs.Outcome.{Comes};
 ghost use Rattle.sk_model.specs.Queues.{add_names};
 ghost use Rattle.sk_model.specs.World.{World};

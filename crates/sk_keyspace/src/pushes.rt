@@ -1,6 +1,6 @@
 // LPUSH key text .., RPUSH key text .. on a queue (Redis, "LPUSH", "RPUSH")
 ghost use Rattle.std.specs.Prelude.{◌≡◌, None, IfOk, OnErr, OnOk};
-ghost use Rattle.sk_track.specs.Steps.{edited};
+ghost use Rattle.sk_undo.specs.Steps.{edited};
 ghost use Rattle.sk_places.specs.declared.row.Place.TheVariants.{Queue};
 ghost use Rattle.sk_model.specs.Outcome.{Comes};
 ghost use Rattle.sk_model.specs.Queues.{push};

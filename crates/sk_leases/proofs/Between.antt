@@ -2,7 +2,7 @@
 use Rattle.std.proofs.Common.{◌≡◌, suc, ◌-◌, ◌<◌, Bool, true, false, not, ◌&&◌, cond, List, [], ◌∷◌, slice_index_or, refl, arith, ap, ◌∙◌}
 use Rattle.std.specs.List.{count_by, position_or_len}
 use Rattle.std.proofs.lemmas.List.Sums.{sum_by-cons}
-use Rattle.sk_track.specs.Rises.{all_pass, rises}
+use Rattle.sk_undo.specs.Rises.{all_pass, rises}
 
 count_yes : {X : Type 0} (p : X → Bool) (x : X) (xs : List X) → p x ≡ true → count_by p (x ∷ xs) ≡ suc (count_by p xs)
 count_yes p x xs h = let e = sum_by-cons (λ y. cond (p y) 1 0) x xs in grind (arith, e, h)

@@ -3,7 +3,7 @@ use Rattle.std.proofs.Common.{◌≡◌, ℕ, zero, suc, ◌+◌, ◌<◌, Bool,
 use Rattle.std.specs.List.{count_by, insert, list_all, position_or_len, remove}
 use Rattle.std.specs.BTreeSet.{BTreeSet}
 use Rattle.std.proofs.lemmas.List.Sums.{sum_by-cons}
-use Rattle.sk_track.specs.Steps.{Steps, edited}
+use Rattle.sk_undo.specs.Steps.{Steps, edited}
 use Rattle.sk_resp.specs.Spelling.{Bytes}
 use Rattle.sk_leases.specs.Index.{AreKept, DropsDue, Due, HasMore, IsClear, IsKept, TakesOver, WasKept, covers, is_due_in}
 use Rattle.sk_leases.specs.Lease.{Lease, names, precedes, stands_at}

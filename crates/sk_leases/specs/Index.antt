@@ -5,7 +5,7 @@ use Rattle.std.specs.Cmp.Lexicographic.{slice_cmp}
 use Rattle.std.specs.Ordering.{nat_cmp, ordering_then}
 use Rattle.std.specs.declared.cmp.Ordering.{Ordering}
 use Rattle.std.specs.BTreeSet.{BTreeSet, contains}
-use Rattle.sk_track.specs.Steps.{Steps}
+use Rattle.sk_undo.specs.Steps.{Steps}
 use Rattle.sk_resp.specs.Spelling.{Bytes}
 use Rattle.sk_leases.specs.Lease.{Lease}
 use Rattle.sk_leases.specs.Lists.{standing}

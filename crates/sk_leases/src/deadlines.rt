@@ -1,6 +1,6 @@
-// Names with deadlines: a tracked list in order, and the index of its deadlines. Memory is taken before the first edit.
+// Names with deadlines: a list with undo in order, and the index of its deadlines. Memory is taken before the first edit.
 ghost use Rattle.std.specs.Prelude.{◌≡◌, [], None, true, IfOk, IsSome, OnErr, OnOk};
-ghost use Rattle.sk_track.specs.Steps.{begun, closed, committed, edited, undone};
+ghost use Rattle.sk_undo.specs.Steps.{begun, closed, committed, edited, undone};
 ghost use Rattle.sk_leases.specs.Lists.{count_standing, names_of, put, standing, without};
 ghost use Rattle.sk_leases.specs.Order.{is_ordered};
 
@@ -9,7 +9,7 @@ use crate::dues::{Dues, add_due};
 use crate::edits::{drop_named, purge, put_lease};
 use crate::find::{Entries, count_named, count_standing};
 use sk_resp::Word;
-use sk_track::Tracked;
+use sk_undo::UndoList;
 use std::alloc::Global;
 use std::collections::BTreeSet;
 use std::marker::Model;
@@ -23,7 +23,7 @@ pub struct Deadlines {
 
 impl Model for Deadlines {
     ghost use Rattle.std.specs.Prelude.{List};
-    ghost use Rattle.sk_track.specs.Steps.{Steps};
+    ghost use Rattle.sk_undo.specs.Steps.{Steps};
     ghost use Rattle.sk_leases.specs.Lease.{Lease};
 
     ghost Value = { Steps (List Lease) };
@@ -60,7 +60,7 @@ impl Deadlines {
         ensures { result ≡ closed [] }
     {
         Deadlines {
-            entries: Tracked::new(alloc),
+            entries: UndoList::new(alloc),
             dues: BTreeSet::new(alloc),
         }
     }

@@ -1,7 +1,7 @@
 // Edits of a list of leases, once there is room for them.
 ghost use Rattle.std.specs.Prelude.{◌≡◌, ◌+◌, ◌<◌, ◌≤◌, true, None, length};
 ghost use Rattle.std.specs.List.{count_by};
-ghost use Rattle.sk_track.specs.Steps.{edited};
+ghost use Rattle.sk_undo.specs.Steps.{edited};
 ghost use Rattle.sk_leases.specs.Index.{IsKept, TakesOver};
 ghost use Rattle.sk_leases.specs.Lease.{names};
 ghost use Rattle.sk_leases.specs.Lists.{put, standing, without};

@@ -1,17 +1,17 @@
 // Where the leases of a name stand in an ordered list, found in logarithmic time.
 ghost use Rattle.std.specs.Prelude.{◌≡◌, ◌≤◌, true, None, IfSome, length};
 ghost use Rattle.std.specs.List.{count_by, position_or_len};
-ghost use Rattle.sk_track.specs.Balance.{most};
+ghost use Rattle.sk_undo.specs.Balance.{most};
 ghost use Rattle.sk_leases.specs.Lease.{names, precedes};
 ghost use Rattle.sk_leases.specs.Lists.{count_standing};
 ghost use Rattle.sk_leases.specs.Order.{is_ordered};
 ghost use Rattle.sk_leases.specs.Places.{IsOne, is_from, is_over, is_past};
 
 use sk_resp::Word;
-use sk_track::{Test, Tracked};
+use sk_undo::{Test, UndoList};
 
 /// The leases in order, each a name with its deadline in milliseconds since 1970.
-pub type Entries = Tracked<Word, u64>;
+pub type Entries = UndoList<Word, u64>;
 
 // Passes the leases of the name and of those behind it.
 #[derive(Drop)]

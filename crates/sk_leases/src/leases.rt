@@ -1,7 +1,7 @@
 // Everything that stands until its deadline. A process that sends no heartbeat for a minute counts as dead. A recovery is noted when a job is
 // taken back from a dead process, so that a job which kills its process again and again is found out.
 ghost use Rattle.std.specs.Prelude.{◌≡◌, ◌+◌, ◌<◌, ◌^◌, None, true, IfOk, IsSome, OnErr, OnOk};
-ghost use Rattle.sk_track.specs.Steps.{begun, closed, committed, edited, undone};
+ghost use Rattle.sk_undo.specs.Steps.{begun, closed, committed, edited, undone};
 ghost use Rattle.sk_leases.specs.Leased.{beat, beat_life, forgotten, idents, is_alive, nothing, purged, recovered, recovery_life, standing};
 ghost use Rattle.sk_leases.specs.Order.{is_ordered};
 
@@ -29,7 +29,7 @@ pub struct Leases {
 impl Model for Leases {
     ghost use Rattle.std.specs.Prelude.{◌≡◌};
     ghost use Rattle.std.specs.Option.{is_some};
-    ghost use Rattle.sk_track.specs.Steps.{Steps, both, steps_code};
+    ghost use Rattle.sk_undo.specs.Steps.{Steps, both, steps_code};
     ghost use Rattle.sk_leases.specs.Leased.{Leased, leased, leased_code};
 
     ghost Value = { Steps Leased };

@@ -12,7 +12,7 @@ use Rattle.sk_lives.specs.Lives.{one_if}
 use Rattle.sk_lives.specs.Words.{is_from, is_ordered, is_past, without_word, words_of}
 use Rattle.sk_lives.proofs.Order.{same_word}
 use Rattle.sk_lives.proofs.Places.{all_from, all_past, entry_gone, entry_put, ordered_insert, past, place, place_all, place_no, place_yes, without_absent}
-use Rattle.sk_track.specs.Rises.{all_pass}
+use Rattle.sk_undo.specs.Rises.{all_pass}
 
 pub count_first : (other first : Bytes) (words : List Bytes) → count_in other (first ∷ words) ≡ one_if (is_at (text_cmp other) first) + count_in other words
 count_first other first words = sum_by-cons (λ w. one_if (is_at (text_cmp other) w)) first words

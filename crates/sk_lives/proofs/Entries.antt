@@ -1,7 +1,7 @@
 -- Entries read as words.
 use Rattle.std.proofs.Common.{◌≡◌, ◌<◌, ℕ, zero, suc, Bool, List, [], ◌∷◌, Some, length, map, slice_get, get_or, refl, sym, arith, ap}
 use Rattle.std.specs.List.{insert, remove, position_or_len}
-use Rattle.sk_track.specs.Rises.{all_pass, rises}
+use Rattle.sk_undo.specs.Rises.{all_pass, rises}
 
 module _ {X Y : Type 0} (f : X → Y) where
   pub length_map : (xs : List X) → length (map f xs) ≡ length xs

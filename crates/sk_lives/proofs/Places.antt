@@ -3,7 +3,7 @@ use Rattle.std.proofs.Common.{◌≡◌, ℕ, zero, suc, Bool, true, false, List
 use Rattle.std.specs.List.{insert, remove, position_or_len}
 use Rattle.std.specs.Ordering.{is_eq}
 use Rattle.sk_resp.specs.Spelling.{Bytes}
-use Rattle.sk_track.specs.Rises.{all_pass, rises}
+use Rattle.sk_undo.specs.Rises.{all_pass, rises}
 use Rattle.sk_value.specs.Order.{text_cmp}
 use Rattle.sk_value.specs.Sets.{is_member}
 use Rattle.sk_lives.specs.Words.{is_from, is_here, is_ordered, is_past, is_sorted, with_word, without_word, words_of}

@@ -4,8 +4,8 @@ use Rattle.std.specs.Ordering.{is_le}
 use Rattle.std.specs.BTreeMap.{is_at}
 use Rattle.std.specs.List.{count_by}
 use Rattle.sk_resp.specs.Spelling.{Bytes}
-use Rattle.sk_track.specs.Kept.{Kept}
-use Rattle.sk_track.specs.Steps.{Steps}
+use Rattle.sk_undo.specs.Kept.{Kept}
+use Rattle.sk_undo.specs.Steps.{Steps}
 use Rattle.sk_value.specs.Order.{text_cmp}
 use Rattle.sk_lives.specs.Words.{is_ordered, words_in}
 

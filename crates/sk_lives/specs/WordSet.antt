@@ -1,8 +1,8 @@
 -- Words in the order of their bytes, each once.
 use Rattle.std.specs.Prelude.{◌≡◌, ℕ, Bool, true, List, Option, Some, None}
 use Rattle.sk_resp.specs.Spelling.{Bytes}
-use Rattle.sk_track.specs.Kept.{Kept}
-use Rattle.sk_track.specs.Steps.{Steps}
+use Rattle.sk_undo.specs.Kept.{Kept}
+use Rattle.sk_undo.specs.Steps.{Steps}
 use Rattle.sk_lives.specs.Words.{is_sorted, words_in}
 
 -- the words with their step, and how many further edits can't fail

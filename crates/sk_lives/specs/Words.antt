@@ -1,12 +1,12 @@
--- Words kept in order in a tracked list.
+-- Words kept in order in a list with undo.
 use Rattle.std.specs.Prelude.{Bool, true, false, ◌&&◌, List, [], ◌∷◌, Option, Some, None, map, option_map}
 use Rattle.std.specs.Ordering.{is_eq, is_le, is_lt}
 use Rattle.std.specs.BTreeMap.{is_at}
 use Rattle.std.specs.BTreeSet.{insert_key}
 use Rattle.std.specs.Set.{remove_key}
 use Rattle.sk_resp.specs.Spelling.{Bytes}
-use Rattle.sk_track.specs.Rises.{all_pass}
-use Rattle.sk_track.specs.Steps.{Steps}
+use Rattle.sk_undo.specs.Rises.{all_pass}
+use Rattle.sk_undo.specs.Steps.{Steps}
 use Rattle.sk_value.specs.Order.{text_cmp}
 
 abbrev pub words_of : List (Bytes × Unit {0}) → List Bytes

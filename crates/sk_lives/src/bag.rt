@@ -1,13 +1,13 @@
 // Words in the order of their bytes, each as often as it was put in.
 ghost use Rattle.std.specs.Prelude.{◌≡◌, ◌+◌, ◌<◌, ◌≤◌, [], IfOk, IsSome, None, OnErr, OnOk, length};
-ghost use Rattle.sk_track.specs.Balance.{most};
-ghost use Rattle.sk_track.specs.Steps.{begun, closed, committed, edited, undone};
+ghost use Rattle.sk_undo.specs.Balance.{most};
+ghost use Rattle.sk_undo.specs.Steps.{begun, closed, committed, edited, undone};
 ghost use Rattle.sk_lives.specs.Bag.{count_in, put_word, take_word};
 
 use crate::Memory;
 use crate::find::{Entries, find, place_of, place_past};
 use sk_resp::Word;
-use sk_track::Tracked;
+use sk_undo::UndoList;
 use std::alloc::Global;
 use std::marker::Model;
 
@@ -36,7 +36,7 @@ impl Bag {
         ensures { result.list ≡ closed [] }
     {
         Bag {
-            entries: Tracked::new(alloc),
+            entries: UndoList::new(alloc),
         }
     }
 

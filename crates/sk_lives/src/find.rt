@@ -6,10 +6,10 @@ ghost use Rattle.sk_value.specs.Sets.{is_member};
 ghost use Rattle.sk_lives.specs.Words.{is_from, is_here, is_ordered, is_past, words_of};
 
 use sk_resp::Word;
-use sk_track::{Test, Tracked};
+use sk_undo::{Test, UndoList};
 
 /// Words without anything beside them.
-pub type Entries = Tracked<Word, ()>;
+pub type Entries = UndoList<Word, ()>;
 
 // Passes the word and those behind it.
 #[derive(Drop)]

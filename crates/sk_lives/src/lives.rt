@@ -1,8 +1,8 @@
 // The jobs that are live, and the totals of what was pushed. Memory is taken before the first edit.
 ghost use Rattle.std.specs.Prelude.{◌≡◌, ◌<◌, ◌≤◌, Some, None, true, false, IfOk, IsSome, OnErr, OnOk, length, option_map};
 ghost use Rattle.std.specs.Option.{is_some};
-ghost use Rattle.sk_track.specs.Balance.{most};
-ghost use Rattle.sk_track.specs.Steps.{begun, closed, committed, edited, undone};
+ghost use Rattle.sk_undo.specs.Balance.{most};
+ghost use Rattle.sk_undo.specs.Steps.{begun, closed, committed, edited, undone};
 ghost use Rattle.sk_lives.specs.Lives.{ended, is_among, jid_of, job_pushed, no_lives, one_if, pushed};
 ghost use Rattle.sk_lives.specs.Totals.{accounted, count_end, last_push, pushes_in};
 ghost use Rattle.sk_lives.specs.Words.{without_word};
@@ -29,7 +29,7 @@ pub struct Lives {
 }
 
 impl Model for Lives {
-    ghost use Rattle.sk_track.specs.Steps.{Steps};
+    ghost use Rattle.sk_undo.specs.Steps.{Steps};
     ghost use Rattle.sk_lives.specs.Lives.{Lived};
 
     ghost Value = { Steps Lived };

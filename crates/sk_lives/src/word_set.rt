@@ -1,14 +1,14 @@
 // Words in the order of their bytes, each once.
 ghost use Rattle.std.specs.Prelude.{◌≡◌, ◌<◌, ◌≤◌, not, true, None, [], IfOk, IsSome, OnErr, OnOk, length, option_map, slice_get};
-ghost use Rattle.sk_track.specs.Balance.{most};
-ghost use Rattle.sk_track.specs.Steps.{begun, closed, committed, edited, undone};
+ghost use Rattle.sk_undo.specs.Balance.{most};
+ghost use Rattle.sk_undo.specs.Steps.{begun, closed, committed, edited, undone};
 ghost use Rattle.sk_value.specs.Sets.{is_member};
 ghost use Rattle.sk_lives.specs.Words.{is_sorted, with_word, without_word};
 
 use crate::Memory;
 use crate::find::{Entries, find, is_here, place_of};
 use sk_resp::Word;
-use sk_track::Tracked;
+use sk_undo::UndoList;
 use std::alloc::Global;
 use std::marker::Model;
 
@@ -37,7 +37,7 @@ impl WordSet {
         ensures { result.list ≡ closed [] }
     {
         WordSet {
-            entries: Tracked::new(alloc),
+            entries: UndoList::new(alloc),
         }
     }
 

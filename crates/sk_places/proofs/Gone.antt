@@ -9,7 +9,7 @@ use Rattle.std.proofs.lemmas.List.{take-append-drop}
 use Rattle.std.proofs.lemmas.List.Edits.{length-remove}
 use Rattle.std.specs.Ordering.{nat_cmp}
 use Rattle.std.specs.Cmp.Lexicographic.{slice_cmp}
-use Rattle.sk_track.specs.Rises.{all_pass}
+use Rattle.sk_undo.specs.Rises.{all_pass}
 use Rattle.sk_lives.specs.Lives.{all_ended}
 use Rattle.sk_lives.specs.declared.ending.Ending.{Ending}
 use Rattle.sk_cmd.specs.declared.argument.Side.TheVariants.{Left}

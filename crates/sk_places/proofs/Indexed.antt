@@ -8,7 +8,7 @@ use Rattle.std.proofs.lemmas.Bool.Decides.{nat_tests}
 use Rattle.std.proofs.lemmas.List.Sums.{sum_by-cons, sum_by-insert}
 use Rattle.std.proofs.lemmas.Map.Text.{is_eq-slice_cmp}
 use Rattle.sk_resp.specs.Spelling.{Bytes}
-use Rattle.sk_track.specs.Steps.{Steps, edited, begun, undone, committed}
+use Rattle.sk_undo.specs.Steps.{Steps, edited, begun, undone, committed}
 use Rattle.sk_value.specs.Order.{text_cmp}
 use Rattle.sk_payload.specs.Head.{head, names}
 use Rattle.sk_payload.specs.declared.head.Head.{Head}

@@ -7,7 +7,7 @@ use Rattle.std.proofs.lemmas.Option.{get_or_from_slice_get, slice_get_within}
 use Rattle.std.specs.BTreeMap.{is_at as is_key}
 use Rattle.std.specs.Str.{IsUtf8}
 use Rattle.sk_resp.specs.Spelling.{Bytes}
-use Rattle.sk_track.specs.Steps.{Steps, begun, committed, edited, undone}
+use Rattle.sk_undo.specs.Steps.{Steps, begun, committed, edited, undone}
 use Rattle.sk_value.specs.Order.{text_cmp}
 use Rattle.sk_places.specs.Names.{AreTexts}
 use Rattle.sk_places.specs.Placed.{with_name, without_name}

@@ -13,7 +13,7 @@ use Rattle.sk_zset.specs.Bounds.{is_above, is_below}
 use Rattle.sk_zset.specs.Pair.{pair_cmp}
 use Rattle.std.specs.Ordering.{int_cmp, is_lt, is_le, nat_cmp, ordering_then}
 use Rattle.std.specs.List.{remove, position_or_len}
-use Rattle.sk_track.specs.Rises.{all_pass, rises}
+use Rattle.sk_undo.specs.Rises.{all_pass, rises}
 use Rattle.sk_cmd.specs.declared.argument.Side.{Side}
 use Rattle.sk_cmd.specs.declared.argument.Side.TheVariants.{Left, Right}
 use Rattle.sk_places.specs.declared.row.Place.{Place}

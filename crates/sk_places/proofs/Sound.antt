@@ -2,7 +2,7 @@
 use Rattle.std.proofs.Common.{◌≡◌, ◌+◌, ◌^◌, ◌<◌, ℕ, List, Some, IsSome, length, get_or, slice_get, sym, arith, subst}
 use Rattle.std.specs.List.{remove}
 use Rattle.sk_resp.specs.Spelling.{Bytes}
-use Rattle.sk_track.specs.Steps.{Steps, edited, begun, undone, committed}
+use Rattle.sk_undo.specs.Steps.{Steps, edited, begun, undone, committed}
 use Rattle.sk_cmd.specs.declared.argument.Side.{Side}
 use Rattle.sk_lives.specs.Lives.{jid_of}
 use Rattle.sk_places.specs.declared.row.Row.{Row}

@@ -10,7 +10,7 @@ use Rattle.sk_places.specs.declared.row.Place.{Place}
 use Rattle.sk_places.specs.declared.row.Row.{Row}
 use Rattle.sk_places.specs.Placed.{Placed, ended_copies, ended_row, placed}
 use Rattle.sk_resp.specs.Spelling.{Bytes}
-use Rattle.sk_track.specs.Steps.{Steps, edited}
+use Rattle.sk_undo.specs.Steps.{Steps, edited}
 use Rattle.sk_lives.specs.Lives.{Lived, all_ended, ended}
 use Rattle.sk_lives.specs.declared.ending.Ending.{Ending}
 use Rattle.sk_places.specs.Ends.{ended_of, texts_of}

@@ -4,7 +4,7 @@ use Rattle.std.specs.List.{count_by, position_or_len}
 use Rattle.std.proofs.lemmas.Bool.Decides.{nat_tests}
 use Rattle.std.proofs.lemmas.List.{take-append-drop}
 use Rattle.sk_base.specs.declared.bound.Bound.{Bound}
-use Rattle.sk_track.specs.Rises.{all_pass}
+use Rattle.sk_undo.specs.Rises.{all_pass}
 use Rattle.sk_cmd.specs.declared.argument.Scored.{Scored}
 use Rattle.sk_zset.specs.Bounds.{is_above, is_below}
 use Rattle.sk_zset.proofs.Splits.{count_before, split}

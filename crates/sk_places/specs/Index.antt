@@ -1,7 +1,7 @@
 -- The index of rows: a bag of the ids of the jobs that their texts name.
 use Rattle.std.specs.Prelude.{◌≡◌, ℕ, List, Option, Some, None}
 use Rattle.sk_resp.specs.Spelling.{Bytes}
-use Rattle.sk_track.specs.Steps.{Steps}
+use Rattle.sk_undo.specs.Steps.{Steps}
 use Rattle.sk_lives.specs.Bag.{count_in, put_word, take_word}
 use Rattle.sk_places.specs.declared.row.Row.{Row}
 use Rattle.sk_places.specs.Order.{AreKept, WereKept}

@@ -1,7 +1,7 @@
 // Where the row at an end of a place stands and where the first of a text, how many rows there are of a kind, and whether a push is fresh.
 ghost use Rattle.std.specs.Prelude.{◌≡◌, ◌≤◌, IfSome, MatchOption, None, drop, take, true};
 ghost use Rattle.std.specs.List.{count_by};
-ghost use Rattle.sk_track.specs.Balance.{most};
+ghost use Rattle.sk_undo.specs.Balance.{most};
 ghost use Rattle.sk_cmd.specs.declared.argument.Side.TheVariants.{Left};
 ghost use Rattle.sk_zset.specs.Bounds.{is_below};
 ghost use Rattle.sk_lives.specs.Lives.{jid_of};

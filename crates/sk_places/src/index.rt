@@ -1,6 +1,6 @@
 // The index of rows by their jobs. A row whose text has no head names none.
 ghost use Rattle.std.specs.Prelude.{◌≡◌, ◌<◌, IfOk, None};
-ghost use Rattle.sk_track.specs.Steps.{edited};
+ghost use Rattle.sk_undo.specs.Steps.{edited};
 ghost use Rattle.sk_lives.specs.Lives.{jid_of};
 ghost use Rattle.sk_places.specs.Index.{with_job, without_job};
 

@@ -3,8 +3,8 @@
 ghost use Rattle.std.specs.Prelude.{◌≡◌, ◌<◌, ◌≤◌, not, true, drop, filter, map, take, IfOk, IsSome, None, [], OnErr, OnOk, Some, length, option_map, slice_get};
 ghost use Rattle.std.specs.List.{count_by};
 ghost use Rattle.std.specs.Option.{is_some};
-ghost use Rattle.sk_track.specs.Balance.{most};
-ghost use Rattle.sk_track.specs.Steps.{begun, closed, committed, edited, undone};
+ghost use Rattle.sk_undo.specs.Balance.{most};
+ghost use Rattle.sk_undo.specs.Steps.{begun, closed, committed, edited, undone};
 ghost use Rattle.sk_cmd.specs.declared.argument.Side.TheVariants.{Left};
 ghost use Rattle.sk_value.specs.Sets.{is_member};
 ghost use Rattle.sk_places.specs.Entries.{shifted};
@@ -41,7 +41,7 @@ pub struct Places {
 }
 
 impl Model for Places {
-    ghost use Rattle.sk_track.specs.Steps.{Steps};
+    ghost use Rattle.sk_undo.specs.Steps.{Steps};
     ghost use Rattle.sk_places.specs.Placed.{Placed};
 
     ghost Value = { Steps Placed };

@@ -1,7 +1,7 @@
 // Rows that are taken out one after another, where no step is open. The job of each ends, if it is live. Takes no memory.
 ghost use Rattle.std.specs.Prelude.{◌≡◌, ◌+◌, ◌-◌, ◌<◌, ◌≤◌, ◌++◌, ◌&&◌, None, drop, filter, length, min, not, replicate, slice_get, take};
 ghost use Rattle.std.specs.List.{remove};
-ghost use Rattle.sk_track.specs.Steps.{edited};
+ghost use Rattle.sk_undo.specs.Steps.{edited};
 ghost use Rattle.sk_value.specs.Sets.{is_member};
 ghost use Rattle.sk_lives.specs.Lives.{all_ended};
 ghost use Rattle.sk_lives.specs.declared.ending.Ending.TheVariants.{Deleted};

@@ -1,13 +1,13 @@
-// The rows of all places in one tracked list, in the order of places. A place's rows stand together, so where they begin and end is found by
+// The rows of all places in one list with undo, in the order of places. A place's rows stand together, so where they begin and end is found by
 // halving. Beside the list are the number of bytes of all texts, and the index of the rows by their jobs.
 ghost use Rattle.std.specs.Prelude.{◌≡◌, ◌+◌, ◌^◌, ◌<◌, ◌≤◌, not, true, None, Some, [], IfOk, IsSome, OnErr, OnOk, drop, length, map, option_map, slice_get, take};
 ghost use Rattle.std.specs.List.{position_or_len, remove};
 ghost use Rattle.std.specs.Ordering.{is_le, is_lt};
 ghost use Rattle.std.specs.Option.{is_some};
-ghost use Rattle.sk_track.specs.Balance.{most};
-ghost use Rattle.sk_track.specs.Moves.{moved};
-ghost use Rattle.sk_track.specs.Rises.{rises};
-ghost use Rattle.sk_track.specs.Steps.{begun, closed, committed, edited, undone};
+ghost use Rattle.sk_undo.specs.Balance.{most};
+ghost use Rattle.sk_undo.specs.Moves.{moved};
+ghost use Rattle.sk_undo.specs.Rises.{rises};
+ghost use Rattle.sk_undo.specs.Steps.{begun, closed, committed, edited, undone};
 ghost use Rattle.sk_zset.specs.Bounds.{is_above, is_below};
 ghost use Rattle.sk_lives.specs.Lives.{pushed};
 ghost use Rattle.sk_places.specs.Ends.{ended_of};
@@ -29,7 +29,7 @@ use sk_cmd::{Scored, Side};
 use sk_lives::{Bag, Ending, Lives, Origin};
 use sk_payload::Payload;
 use sk_resp::{Memory, Word};
-use sk_track::Tracked;
+use sk_undo::UndoList;
 use std::alloc::Global;
 use std::marker::Model;
 
@@ -38,7 +38,7 @@ use std::marker::Model;
 #[derive(Drop)]
 pub struct Rows {
     alloc: Global,
-    entries: Tracked<Spot, Payload>,
+    entries: UndoList<Spot, Payload>,
     bytes: u128,
     // At the begin of an open step.
     bytes_then: u128,
@@ -47,7 +47,7 @@ pub struct Rows {
 
 impl Model for Rows {
     ghost use Rattle.std.specs.Prelude.{List};
-    ghost use Rattle.sk_track.specs.Steps.{Steps};
+    ghost use Rattle.sk_undo.specs.Steps.{Steps};
     ghost use Rattle.sk_places.specs.declared.row.Row.{Row};
 
     ghost Value = { Steps (List Row) };
@@ -62,7 +62,7 @@ impl Model for Rows {
 
 // Where a new row comes to.
 #[tactic(auto, using(crate::proofs::Entries::position_map))]
-fn place_for(rows: &Tracked<Spot, Payload>, end: Side, spot: &Spot, text: &Word) -> usize
+fn place_for(rows: &UndoList<Spot, Payload>, end: Side, spot: &Spot, text: &Word) -> usize
     requires { is_ordered (as_rows rows.now.list.stands) ≡ true }
     ensures is { result ≡ position_or_len (λ row. not (stands_before end (as_row (spot.now, text.now)) row)) (as_rows rows.now.list.stands) }
     ensures within { result ≤ length rows.now.list.stands }
@@ -71,7 +71,7 @@ fn place_for(rows: &Tracked<Spot, Payload>, end: Side, spot: &Spot, text: &Word)
 }
 
 // Puts a new row in.
-fn put_in(rows: &mut Tracked<Spot, Payload>, spot: Spot, payload: Payload, end: Side)
+fn put_in(rows: &mut UndoList<Spot, Payload>, spot: Spot, payload: Payload, end: Side)
     requires ordered { is_ordered (as_rows rows.old.list.stands) ≡ true }
     requires room { 0 < rows.old.room }
     ensures { rows_in rows.new.list ≡ edited (put_row end (as_row (spot, payload)) (as_rows rows.old.list.stands)) (rows_in rows.old.list) }
@@ -81,7 +81,7 @@ fn put_in(rows: &mut Tracked<Spot, Payload>, spot: Spot, payload: Payload, end: 
 }
 
 #[tactic(auto, using(crate::proofs::Entries::position_map))]
-fn begin_of(rows: &Tracked<Spot, Payload>, place: &Place) -> usize
+fn begin_of(rows: &UndoList<Spot, Payload>, place: &Place) -> usize
     requires { is_ordered (as_rows rows.now.list.stands) ≡ true }
     ensures { result ≡ position_or_len (λ row. is_le (place_cmp place.now row.place)) (as_rows rows.now.list.stands) }
 {
@@ -89,7 +89,7 @@ fn begin_of(rows: &Tracked<Spot, Payload>, place: &Place) -> usize
 }
 
 #[tactic(auto, using(crate::proofs::Entries::position_map))]
-fn end_of(rows: &Tracked<Spot, Payload>, place: &Place) -> usize
+fn end_of(rows: &UndoList<Spot, Payload>, place: &Place) -> usize
     requires { is_ordered (as_rows rows.now.list.stands) ≡ true }
     ensures { result ≡ position_or_len (λ row. is_lt (place_cmp place.now row.place)) (as_rows rows.now.list.stands) }
 {
@@ -97,7 +97,7 @@ fn end_of(rows: &Tracked<Spot, Payload>, place: &Place) -> usize
 }
 
 // The number of bytes with one more text.
-fn raised(rows: &Tracked<Spot, Payload>, bytes: u128, text: &Word) -> u128
+fn raised(rows: &UndoList<Spot, Payload>, bytes: u128, text: &Word) -> u128
     requires { AreKept (as_rows rows.now.list.stands) bytes }
     ensures is { result ≡ bytes + length text.now }
     ensures short { length text.now < 2 ^ 64 }
@@ -107,7 +107,7 @@ fn raised(rows: &Tracked<Spot, Payload>, bytes: u128, text: &Word) -> u128
 }
 
 // The number of bytes without the text at an index.
-fn lowered(rows: &Tracked<Spot, Payload>, bytes: u128, at: usize) -> u128
+fn lowered(rows: &UndoList<Spot, Payload>, bytes: u128, at: usize) -> u128
     requires kept { AreKept (as_rows rows.now.list.stands) bytes }
     requires within { at < length rows.now.list.stands }
     ensures { AreKept (remove (as_rows rows.now.list.stands) at) result }
@@ -116,7 +116,7 @@ fn lowered(rows: &Tracked<Spot, Payload>, bytes: u128, at: usize) -> u128
 }
 
 // Where the row at an index comes to once it is taken out.
-fn place_again(rows: &Tracked<Spot, Payload>, at: usize, spot: &Spot, end: Side) -> usize
+fn place_again(rows: &UndoList<Spot, Payload>, at: usize, spot: &Spot, end: Side) -> usize
     requires ordered { is_ordered (as_rows rows.now.list.stands) ≡ true }
     requires within { at < length rows.now.list.stands }
     ensures is { as_rows (moved at result spot.now rows.now.list.stands) ≡ shifted end at spot.now (as_rows rows.now.list.stands) }
@@ -133,7 +133,7 @@ impl Rows {
     {
         Rows {
             alloc,
-            entries: Tracked::new(alloc),
+            entries: UndoList::new(alloc),
             bytes: 0,
             bytes_then: 0,
             index: Bag::new(alloc),

@@ -19,7 +19,7 @@ use Rattle.sk_batch.specs.declared.firing.Firing.{Firing}
 use Rattle.sk_lives.specs.declared.origin.Origin.TheVariants.{Inner, Outside}
 use Rattle.sk_places.specs.Placed.{Placed}
 use Rattle.sk_batch.proofs.Refusals.{batch_kept, bid_kept}
-use Rattle.sk_track.specs.Steps.{Steps, edited}
+use Rattle.sk_undo.specs.Steps.{Steps, edited}
 use Rattle.sk_model.specs.World.{World}
 use Rattle.sk_model.specs.declared.limits.Limits.{Limits}
 use Rattle.sk_model.specs.Batches.{all_may_join, are_callbacks, batch_add, batch_push, jids_of, join, make, push_jobs, unless}

@@ -1,7 +1,7 @@
 -- What batches are told, and what they fire.
 use Rattle.std.proofs.Common.{◌≡◌, List, [], ◌∷◌, ◌++◌, refl, sym, ap, ap₂, ◌∙◌, subst}
 use Rattle.std.specs.Prelude.{Bool, Option, Some, None, Result, Ok, Err, IfOk, OnOk}
-use Rattle.sk_track.specs.Steps.{Steps, edited}
+use Rattle.sk_undo.specs.Steps.{Steps, edited}
 use Rattle.sk_cmd.specs.declared.argument.Side.{Side}
 use Rattle.sk_lives.specs.declared.origin.Origin.{Origin}
 use Rattle.sk_places.specs.declared.row.Place.{Place}

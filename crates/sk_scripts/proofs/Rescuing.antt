@@ -25,7 +25,7 @@ use Rattle.sk_scripts.specs.Rescuing.{IsFront, IsNext, IsPassed}
 use Rattle.sk_scripts.specs.Stocked.{KeepsStep, at}
 use Rattle.sk_scripts.specs.declared.stock.Stock.{Stock}
 use Rattle.sk_model.specs.Phases.{Phases}
-use Rattle.sk_track.specs.Steps.{Steps, edited}
+use Rattle.sk_undo.specs.Steps.{Steps, edited}
 use Rattle.sk_batch.specs.declared.firing.Firing.{Firing}
 use Rattle.sk_leases.specs.Lists.{count_standing}
 use Rattle.sk_leases.specs.Leased.{Leased, forgotten, recovered, standing}

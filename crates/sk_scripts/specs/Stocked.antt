@@ -1,6 +1,6 @@
 -- What scripts change, as a part of the world, and the step that is open over all of it.
 use Rattle.std.specs.Prelude.{◌≡◌, ℕ, None, IsSome}
-use Rattle.sk_track.specs.Steps.{begun, committed, undone}
+use Rattle.sk_undo.specs.Steps.{begun, committed, undone}
 use Rattle.sk_model.specs.Phases.{Phases}
 use Rattle.sk_model.specs.World.{World}
 use Rattle.sk_scripts.specs.declared.stock.Stock.{Stock}

@@ -14,7 +14,7 @@ ghost use Rattle.sk_model.specs.Outcome.{Comes, Outcome, refuses};
 ghost use Rattle.sk_model.specs.Phases.{Phases};
 ghost use Rattle.sk_model.specs.Room.{is_too_much};
 ghost use Rattle.sk_model.specs.World.{World};
-ghost use Rattle.sk_track.specs.Steps.{edited};
+ghost use Rattle.sk_undo.specs.Steps.{edited};
 ghost use Rattle.sk_value.specs.Answer.{counted};
 ghost use Rattle.sk_keyspace.specs.Whole.{with_pushed};
 ghost use Rattle.sk_scripts.specs.Batching.{limited, unless_told};

@@ -1,7 +1,7 @@
 // What batches are told of jobs, and the callbacks that are pushed then (Sidekiq's wiki, "Batches").
 ghost use Rattle.std.specs.Prelude.{◌≡◌, ◌∷◌, ◌++◌, [], ℕ, Bool, IfOk, OnErr, OnOk, Some};
 ghost use Rattle.sk_resp.specs.Spelling.{Bytes};
-ghost use Rattle.sk_track.specs.Steps.{edited};
+ghost use Rattle.sk_undo.specs.Steps.{edited};
 ghost use Rattle.sk_batch.specs.Events.{fired as marked_fired, marked};
 ghost use Rattle.sk_batch.specs.Told.{fires_of, mark_of};
 ghost use Rattle.sk_model.specs.Change.{perform};

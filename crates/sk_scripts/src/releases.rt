@@ -8,7 +8,7 @@ ghost use Rattle.sk_model.specs.Workers.{back, release};
 ghost use Rattle.sk_model.specs.World.{World};
 ghost use Rattle.sk_model.specs.declared.phase.End.{End};
 ghost use Rattle.sk_model.specs.Change.{ending_of};
-ghost use Rattle.sk_track.specs.Steps.{edited};
+ghost use Rattle.sk_undo.specs.Steps.{edited};
 ghost use Rattle.sk_scripts.specs.Seated.{ended_by, with_seats};
 
 use crate::runs::tells_of;

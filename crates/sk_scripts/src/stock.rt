@@ -1,6 +1,6 @@
 // What scripts change, with one step over all of it.
 ghost use Rattle.std.specs.Prelude.{◌≡◌, [], IfOk, IfErr, Ok, OnErr, OnOk};
-ghost use Rattle.sk_track.specs.Steps.{closed};
+ghost use Rattle.sk_undo.specs.Steps.{closed};
 ghost use Rattle.sk_lives.specs.Lives.{no_lives};
 ghost use Rattle.sk_leases.specs.Leased.{nothing};
 ghost use Rattle.sk_model.specs.World.{no_batches};

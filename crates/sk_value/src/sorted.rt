@@ -1,7 +1,7 @@
 // Sorted sets (Redis, "Sorted sets"): pairs of a score and a member over `ZSet`, with no open step. A ZADD of several pairs is one step, which
 // is taken back where memory runs out; what takes pairs out takes no memory.
 ghost use Rattle.std.specs.Prelude.{◌≡◌, ◌<◌, ◌^◌, [], None, length, OnErr, OnOk};
-ghost use Rattle.sk_track.specs.Steps.{edited};
+ghost use Rattle.sk_undo.specs.Steps.{edited};
 ghost use Rattle.sk_value.specs.Answer.{Gives, Leaves};
 ghost use Rattle.sk_value.specs.Sorted.{all_added, all_without, edit_sorted, look_sorted, without_range};
 

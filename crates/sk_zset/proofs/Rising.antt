@@ -3,7 +3,7 @@ use Rattle.std.proofs.Common.{◌≡◌, Bool, true, not, List, [], ◌∷◌, r
 use Rattle.std.proofs.lemmas.Int.{ints}
 use Rattle.sk_base.specs.declared.bound.Bound.{Bound}
 use Rattle.sk_base.specs.declared.bound.Bound.TheVariants.{At, High, Low, Past}
-use Rattle.sk_track.specs.Rises.{all_pass, rises}
+use Rattle.sk_undo.specs.Rises.{all_pass, rises}
 use Rattle.sk_zset.specs.Bounds.{is_above, is_below}
 use Rattle.sk_zset.specs.Order.{is_first, is_ordered}
 use Rattle.sk_zset.specs.Pair.{Pair, precedes}

@@ -1,6 +1,6 @@
 -- A list of pairs in order, each member once.
 use Rattle.std.specs.Prelude.{◌≡◌, Bool, true, not, ◌&&◌, List, [], ◌∷◌, Option, Some, None}
-use Rattle.sk_track.specs.Steps.{Steps}
+use Rattle.sk_undo.specs.Steps.{Steps}
 use Rattle.sk_zset.specs.Pair.{Pair, names, precedes}
 
 -- the pair stands before each of these, and none has its member

@@ -8,7 +8,7 @@ ghost use Rattle.sk_zset.specs.Pairs.{part, without_ranks};
 
 use sk_base::{Bound, Score};
 use sk_resp::Word;
-use sk_track::{Test, Tracked};
+use sk_undo::{Test, UndoList};
 use std::cmp::Ordering;
 
 pub fn compare(a: Score, b: Score) -> Ordering
@@ -56,7 +56,7 @@ impl Test<(Score, Word)> for Left {
 }
 
 // The rank at which a range that begins at the bound begins.
-fn begin_of(pairs: &Tracked<Score, Word>, low: Bound) -> usize
+fn begin_of(pairs: &UndoList<Score, Word>, low: Bound) -> usize
     requires { is_ordered pairs.now.list.stands ≡ true }
     ensures is { result ≡ position_or_len (λ p. not (is_below low p.0)) pairs.now.list.stands }
     ensures within { result ≤ length pairs.now.list.stands }
@@ -65,7 +65,7 @@ fn begin_of(pairs: &Tracked<Score, Word>, low: Bound) -> usize
 }
 
 // The rank at which a range that ends at the bound has ended.
-fn end_of(pairs: &Tracked<Score, Word>, high: Bound) -> usize
+fn end_of(pairs: &UndoList<Score, Word>, high: Bound) -> usize
     requires { is_ordered pairs.now.list.stands ≡ true }
     ensures is { result ≡ position_or_len (λ p. is_above high p.0) pairs.now.list.stands }
     ensures within { result ≤ length pairs.now.list.stands }
@@ -74,7 +74,7 @@ fn end_of(pairs: &Tracked<Score, Word>, high: Bound) -> usize
 }
 
 /// How many pairs are below a range that begins at the bound.
-pub fn count_below(pairs: &Tracked<Score, Word>, low: Bound) -> usize
+pub fn count_below(pairs: &UndoList<Score, Word>, low: Bound) -> usize
     requires { is_ordered pairs.now.list.stands ≡ true }
     ensures { result ≡ count_by (λ p. is_below low p.0) pairs.now.list.stands }
 {
@@ -82,7 +82,7 @@ pub fn count_below(pairs: &Tracked<Score, Word>, low: Bound) -> usize
 }
 
 /// The rank at which a range begins, and that at which it has ended.
-pub fn range_of(pairs: &Tracked<Score, Word>, low: Bound, high: Bound) -> (usize, usize)
+pub fn range_of(pairs: &UndoList<Score, Word>, low: Bound, high: Bound) -> (usize, usize)
     requires { is_ordered pairs.now.list.stands ≡ true }
     ensures is { filter (is_between low high) pairs.now.list.stands ≡ part result.0 (result.1 - result.0) pairs.now.list.stands }
     ensures others { filter (λ p. not (is_between low high p)) pairs.now.list.stands ≡ without_ranks result.0 (result.1 - result.0) pairs.now.list.stands }

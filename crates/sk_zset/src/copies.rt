@@ -5,7 +5,7 @@ ghost use Rattle.sk_zset.specs.Pairs.{part};
 use crate::Memory;
 use sk_base::Score;
 use sk_resp::Word;
-use sk_track::{Tracked, Visit};
+use sk_undo::{UndoList, Visit};
 use std::alloc::Global;
 
 // Copies each pair that a walk visits.
@@ -32,7 +32,7 @@ impl Visit<(Score, Word)> for Copies {
 #[tactic(auto, using(crate::proofs::Windows::window, crate::proofs::Windows::map_same))]
 pub fn copy_part(
     alloc: Global,
-    pairs: &Tracked<Score, Word>,
+    pairs: &UndoList<Score, Word>,
     first: usize,
     end: usize,
     skip: u64,

@@ -7,7 +7,7 @@ ghost use Rattle.sk_zset.specs.Pair.{names, precedes};
 use crate::bounds::compare;
 use sk_base::Score;
 use sk_resp::Word;
-use sk_track::{Test, Tracked};
+use sk_undo::{Test, UndoList};
 
 // Passes the pair of a member.
 #[derive(Drop)]
@@ -41,7 +41,7 @@ impl<'a> Test<(Score, Word)> for Behind<'a> {
 
 /// The rank of the member's pair, or the length where it has none. This is the one place where a member is looked for; it looks at the pairs one
 /// after another.
-pub fn place_of(pairs: &Tracked<Score, Word>, member: &[u8]) -> usize
+pub fn place_of(pairs: &UndoList<Score, Word>, member: &[u8]) -> usize
     ensures is { result ≡ position_or_len (names member.now) pairs.now.list.stands }
     ensures within { result ≤ length pairs.now.list.stands }
 {
@@ -49,7 +49,7 @@ pub fn place_of(pairs: &Tracked<Score, Word>, member: &[u8]) -> usize
 }
 
 /// The rank that the pair is to have.
-pub fn place_for(pairs: &Tracked<Score, Word>, pair: &(Score, Word)) -> usize
+pub fn place_for(pairs: &UndoList<Score, Word>, pair: &(Score, Word)) -> usize
     requires { is_ordered pairs.now.list.stands ≡ true }
     ensures is { result ≡ position_or_len (precedes pair.now) pairs.now.list.stands }
     ensures within { result ≤ length pairs.now.list.stands }

@@ -1,7 +1,7 @@
-// A sorted set over a tracked list of pairs, in order. A member is looked for in one place (`find`); ranks and bounds of scores are found by place.
+// A sorted set over a list with undo of pairs, in order. A member is looked for in one place (`find`); ranks and bounds of scores are found by place.
 ghost use Rattle.std.specs.Prelude.{◌≡◌, ◌-◌, ◌<◌, ◌≤◌, ◌^◌, ℕ, ℤ, nat_lt, true, not, cond, List, [], ◌∷◌, drop, filter, length, option_map, slice_get, take, None, Some, IfOk, IsSome, OnErr, OnOk};
 ghost use Rattle.std.specs.List.{count_by};
-ghost use Rattle.sk_track.specs.Steps.{begun, closed, committed, edited, undone};
+ghost use Rattle.sk_undo.specs.Steps.{begun, closed, committed, edited, undone};
 ghost use Rattle.sk_zset.specs.Bounds.{is_below, is_between};
 ghost use Rattle.sk_zset.specs.Order.{InOrder};
 ghost use Rattle.sk_zset.specs.Pairs.{added, first_due, has, lowest_above, pair_of, part, rank, score_of, trimmed, without, without_ranks};
@@ -13,7 +13,7 @@ use crate::edits::{add_pair, drop_member, take_member, take_part};
 use crate::find::place_of;
 use sk_base::{Bound, Score};
 use sk_resp::Word;
-use sk_track::Tracked;
+use sk_undo::UndoList;
 use std::alloc::Global;
 use std::marker::Model;
 
@@ -21,12 +21,12 @@ use std::marker::Model;
 /// now, and what stood at the begin of an open step. A rank is a pair's place in that list, from 0.
 #[derive(Drop)]
 pub struct ZSet {
-    pairs: Tracked<Score, Word>,
+    pairs: UndoList<Score, Word>,
 }
 
 impl Model for ZSet {
     ghost use Rattle.std.specs.Prelude.{List};
-    ghost use Rattle.sk_track.specs.Steps.{Steps};
+    ghost use Rattle.sk_undo.specs.Steps.{Steps};
     ghost use Rattle.sk_zset.specs.Pair.{Pair};
 
     ghost Value = { Steps (List Pair) };
@@ -44,7 +44,7 @@ impl ZSet {
         ensures { result ≡ closed [] }
     {
         ZSet {
-            pairs: Tracked::new(alloc),
+            pairs: UndoList::new(alloc),
         }
     }
 

@@ -1,7 +1,7 @@
 use Rattle.std.proofs.Common.{ap, ◌∙◌}
 use Rattle.sk_batch.specs.Open.{with_mark}
 use Rattle.sk_batch.proofs.Places.{tag_moved}
-use Rattle.sk_track.specs.Steps.{edited}
+use Rattle.sk_undo.specs.Steps.{edited}
 use Rattle.sk_batch.proofs.edits.mark_member.Goals as goal
 
 pub returns : goal.returns

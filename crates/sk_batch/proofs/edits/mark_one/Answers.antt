@@ -2,7 +2,7 @@ use Rattle.std.proofs.Common.{ap, ◌∙◌, arith}
 use Rattle.sk_batch.specs.Batched.{has_bid}
 use Rattle.sk_batch.specs.Fires.{with_kind}
 use Rattle.sk_batch.proofs.Places.{tag_moved}
-use Rattle.sk_track.specs.Steps.{edited}
+use Rattle.sk_undo.specs.Steps.{edited}
 use Rattle.sk_batch.proofs.edits.mark_one.Goals as goal
 
 pub returns-then-at-len-clause-list : goal.returns-then-at-len-clause-list

@@ -1,6 +1,6 @@
 use Rattle.std.proofs.Common.{◌≡◌, ◌∙◌, ap, length}
 use Rattle.sk_value.specs.Answer.{counted}
-use Rattle.sk_track.specs.Steps.{edited}
+use Rattle.sk_undo.specs.Steps.{edited}
 use Rattle.sk_batch.specs.Events.{joined}
 use Rattle.sk_model.specs.Batches.{jids_of, push_jobs}
 use Rattle.sk_model.specs.Change.{perform}

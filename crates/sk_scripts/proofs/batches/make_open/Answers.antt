@@ -1,6 +1,6 @@
 use Rattle.std.proofs.Common.{◌≡◌, ◌∙◌, ap, refl}
 use Rattle.sk_value.specs.Answer.{texts}
-use Rattle.sk_track.specs.Steps.{edited}
+use Rattle.sk_undo.specs.Steps.{edited}
 use Rattle.sk_batch.specs.Events.{made, made_fires}
 use Rattle.sk_model.specs.Batches.{jids_of, push_jobs}
 use Rattle.sk_model.specs.Change.{perform}

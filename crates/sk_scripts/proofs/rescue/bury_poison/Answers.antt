@@ -3,7 +3,7 @@ use Rattle.std.specs.Prelude.{Some}
 use Rattle.sk_payload.specs.Head.{head as head_of}
 use Rattle.sk_payload.specs.declared.head.Head.{Head}
 use Rattle.sk_leases.specs.Leased.{forgotten}
-use Rattle.sk_track.specs.Steps.{edited}
+use Rattle.sk_undo.specs.Steps.{edited}
 use Rattle.sk_model.specs.Change.{Forgets, changed}
 use Rattle.sk_model.specs.World.{World}
 use Rattle.sk_scripts.specs.Stocked.{at}

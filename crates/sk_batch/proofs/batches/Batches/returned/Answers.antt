@@ -3,7 +3,7 @@ use Rattle.sk_batch.specs.Batched.{Batched}
 use Rattle.sk_batch.specs.Events.{returned_fires}
 use Rattle.sk_batch.proofs.Wholes.{told_whole}
 use Rattle.sk_batch.specs.declared.event.Event.TheVariants as event
-use Rattle.sk_track.specs.Steps.{Steps}
+use Rattle.sk_undo.specs.Steps.{Steps}
 use Rattle.sk_batch.proofs.batches.Batches.returned.Goals as goal
 
 pub returns-clause-fires : goal.returns-clause-fires

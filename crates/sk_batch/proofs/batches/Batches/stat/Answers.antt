@@ -1,7 +1,7 @@
 use Rattle.std.proofs.Common.{ap, ◌∙◌}
 use Rattle.sk_batch.specs.Batched.{Batched}
 use Rattle.sk_batch.specs.Stat.{stat}
-use Rattle.sk_track.specs.Steps.{Steps}
+use Rattle.sk_undo.specs.Steps.{Steps}
 use Rattle.sk_batch.proofs.batches.Batches.stat.Goals as goal
 
 pub returns-clause-is : goal.returns-clause-is

@@ -1,5 +1,5 @@
 use Rattle.std.proofs.Common.{◌≡◌, ap, subst, sym}
-use Rattle.sk_track.specs.Steps.{edited}
+use Rattle.sk_undo.specs.Steps.{edited}
 use Rattle.sk_lives.specs.Bag.{bag_in, take_word}
 use Rattle.sk_lives.specs.Words.{words_of}
 use Rattle.sk_lives.proofs.Counts.{entry_taken, taken_absent}

@@ -1,6 +1,6 @@
 use Rattle.std.proofs.Common.{◌≡◌, ap, ◌∙◌}
 use Rattle.std.specs.List.{insert}
-use Rattle.sk_track.specs.Steps.{edited}
+use Rattle.sk_undo.specs.Steps.{edited}
 use Rattle.sk_lives.specs.Bag.{bag_in, put_word}
 use Rattle.sk_lives.specs.Words.{is_ordered, words_of}
 use Rattle.sk_lives.proofs.Counts.{entry_added, ordered_put}

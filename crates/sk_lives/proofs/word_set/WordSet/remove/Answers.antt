@@ -1,5 +1,5 @@
 use Rattle.std.proofs.Common.{◌≡◌, ap, subst, sym}
-use Rattle.sk_track.specs.Steps.{edited}
+use Rattle.sk_undo.specs.Steps.{edited}
 use Rattle.sk_lives.specs.Words.{without_word, words_of}
 use Rattle.sk_lives.specs.WordSet.{set_in}
 use Rattle.sk_lives.proofs.Places.{entry_gone, sorted_left, sorted_ordered, without_absent}

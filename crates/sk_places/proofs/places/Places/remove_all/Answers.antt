@@ -1,5 +1,5 @@
 use Rattle.std.proofs.Common.{ap, sym, ◌++◌, drop, take, ◌∙◌}
-use Rattle.sk_track.specs.Steps.{edited}
+use Rattle.sk_undo.specs.Steps.{edited}
 use Rattle.sk_lives.specs.Lives.{all_ended}
 use Rattle.sk_lives.specs.declared.ending.Ending.TheVariants.{Deleted}
 use Rattle.sk_places.specs.Ends.{texts_of}

@@ -1,6 +1,6 @@
 use Rattle.std.proofs.Common.{ap, replicate, sym, w64, ◌∙◌}
 use Rattle.std.proofs.lemmas.Int.{to_z-of_z}
-use Rattle.sk_track.specs.Steps.{edited}
+use Rattle.sk_undo.specs.Steps.{edited}
 use Rattle.sk_lives.specs.Lives.{all_ended}
 use Rattle.sk_lives.specs.declared.ending.Ending.TheVariants.{Deleted}
 use Rattle.sk_places.specs.Placed.{placed}

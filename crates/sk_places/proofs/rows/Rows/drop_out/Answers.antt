@@ -1,5 +1,5 @@
 use Rattle.std.proofs.Common.{◌<◌, ap, length, subst, sym}
-use Rattle.sk_track.specs.Steps.{edited}
+use Rattle.sk_undo.specs.Steps.{edited}
 use Rattle.sk_places.specs.Entries.{as_row, rows_in}
 use Rattle.sk_places.proofs.Entries.{map_remove}
 use Rattle.sk_places.proofs.Sound.{sound_taken}

@@ -1,8 +1,0 @@
-pub mod Balance
-pub mod Edits
-pub mod Kept
-pub mod Moves
-pub mod Node
-pub mod Rises
-pub mod Steps
-pub mod Tracked

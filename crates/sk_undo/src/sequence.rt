@@ -1,0 +1,448 @@
+// A list as a weight-balanced tree: each node keeps the number of its items, so that an item is found, put in and taken out by its place in
+// logarithmic time. The memory of an item can be made before it is put in, and comes back with it when it is taken out.
+ghost use Rattle.std.specs.Prelude.{◌≡◌, ◌+◌, ◌*◌, ◌^◌, ◌<◌, ◌≤◌, [], ◌∷◌, ◌++◌, true, length, slice_index_or, MatchOption, IfSome, OnOk, drop, map, take};
+ghost use Rattle.std.specs.List.{insert, position_or_len, remove};
+ghost use Rattle.sk_undo.specs.Balance.{DifferBy, most};
+ghost use Rattle.sk_undo.specs.Rises.{rises};
+
+use crate::{Memory, Test, Visit};
+use std::alloc::Global;
+use std::marker::Model;
+use std::mem;
+
+/// A list of at most 2^62 items. Contracts see the list.
+#[cycle(sequence)]
+#[derive(Drop)]
+pub struct Sequence<T> {
+    root: Option<Box<Node<T>>>,
+}
+
+#[cycle(sequence)]
+#[derive(Drop)]
+enum Node<T> {
+    Empty,
+    // The left side, the item, the number of items in all, the right side.
+    Fork(Sequence<T>, T, usize, Sequence<T>),
+}
+
+/// The memory that one item is kept in.
+#[derive(Drop)]
+pub struct Spare<T> {
+    node: Box<Node<T>>,
+}
+
+impl<T: Drop> Spare<T> {
+    pub fn new(alloc: Global) -> Result<Spare<T>, Memory> {
+        Ok(Spare {
+            node: Box::new(alloc, Node::Empty)?,
+        })
+    }
+}
+
+// A sequence taken apart at its root.
+#[derive(Drop)]
+struct Parts<T> {
+    left: Sequence<T>,
+    item: T,
+    right: Sequence<T>,
+    spare: Spare<T>,
+}
+
+impl<T> Model for Sequence<T> {
+    ghost use Rattle.std.specs.Prelude.{IfSome, List, [], length, option_map, unwrap_or};
+    ghost use Rattle.std.specs.Coded.{coded_list};
+
+    ghost Value = { List T };
+
+    ghost coded = { coded_list T.code };
+
+    ghost use Rattle.sk_undo.specs.Node.{IsCounted, items_in};
+
+    ghost view = { λ a. unwrap_or (option_map (λ b. items_in b.value) a.root) [] };
+
+    ghost invariant = { λ a. IfSome a.root (λ b. IsCounted b.value) };
+
+    ghost size = { length };
+
+    ghost use Rattle.std.proofs.Common.{arith, length-append};
+
+    ghost size_decreases = { λ a h. Prim.grind (arith, length-append) };
+}
+
+impl<T: Drop> Sequence<T> {
+    /// Takes no memory.
+    pub fn new() -> Sequence<T>
+        ensures { result ≡ [] }
+    {
+        Sequence { root: None }
+    }
+
+    pub fn len(&self) -> usize
+        ensures is { result ≡ length self.now }
+        ensures small { result ≤ most }
+    {
+        match &self.root {
+            None => 0,
+            Some(node) => match &**node {
+                Node::Empty => 0,
+                Node::Fork(_, _, n, _) => *n,
+            },
+        }
+    }
+
+    // The sides of the root and its item.
+    fn sides(&self) -> Option<(&Sequence<T>, &T, &Sequence<T>)>
+        ensures is { MatchOption result (self.now ≡ []) (λ p. self.now ≡ p.0.now ++ p.1.now ∷ p.2.now) }
+        ensures small { length self.now ≤ most }
+    {
+        match &self.root {
+            None => None,
+            Some(node) => match &**node {
+                Node::Empty => None,
+                Node::Fork(l, x, _, r) => Some((l, x, r)),
+            },
+        }
+    }
+
+    pub fn get(&self, at: usize) -> &T
+        requires { at < length self.now }
+        ensures { result.now ≡ slice_index_or self.now at result.now }
+    {
+        match self.sides() {
+            None => unreachable!(),
+            Some((l, x, r)) => {
+                let here = l.len();
+                if at < here {
+                    l.get(at)
+                } else if at == here {
+                    x
+                } else {
+                    r.get(at - here - 1)
+                }
+            }
+        }
+    }
+
+    /// The place of the first item that passes, where all behind it pass too; the length where none does. Logarithmic.
+    #[tactic(auto, using(crate::proofs::Descents::first_left, crate::proofs::Descents::first_right, crate::proofs::Descents::rises_left, crate::proofs::Descents::rises_right))]
+    pub fn first_where<F: Test<T>>(&self, test: &F) -> usize
+        requires { rises (F.passes test.now) self.now ≡ true }
+        ensures is { result ≡ position_or_len (F.passes test.now) self.now }
+        ensures within { result ≤ length self.now }
+    {
+        match self.sides() {
+            None => 0,
+            Some((l, x, r)) => {
+                if test.test(x) {
+                    l.first_where(test)
+                } else {
+                    l.len() + 1 + r.first_where(test)
+                }
+            }
+        }
+    }
+
+    /// The place of the first item that passes, of those from the place `first` to the one before `end`, where all behind it up to `end` pass too;
+    /// `end` where none does. Logarithmic.
+    #[tactic(auto, using(crate::proofs::Ranges::range_left, crate::proofs::Ranges::range_right, crate::proofs::Searches::first_before, crate::proofs::Searches::first_behind, crate::proofs::Searches::rises_first, crate::proofs::Searches::rises_second))]
+    pub fn first_in<F: Test<T>>(&self, first: usize, end: usize, test: &F) -> usize
+        requires order { first ≤ end }
+        requires within { end ≤ length self.now }
+        requires rises { rises (F.passes test.now) (drop first (take end self.now)) ≡ true }
+        ensures is { result ≡ first + position_or_len (F.passes test.now) (drop first (take end self.now)) }
+        ensures within { result ≤ end }
+    {
+        match self.sides() {
+            None => end,
+            Some((l, x, r)) => {
+                let here = l.len();
+                if end <= here {
+                    l.first_in(first, end, test)
+                } else if here < first {
+                    here + 1 + r.first_in(first - here - 1, end - here - 1, test)
+                } else if test.test(x) {
+                    l.first_in(first, here, test)
+                } else {
+                    here + 1 + r.first_in(0, end - here - 1, test)
+                }
+            }
+        }
+    }
+
+    /// The place of the first item that passes, or the length where none does. Looks at the items one after another.
+    #[tactic(auto, using(crate::proofs::Descents::position_left, crate::proofs::Descents::position_right))]
+    pub fn position<F: Test<T>>(&self, test: &F) -> usize
+        ensures is { result ≡ position_or_len (F.passes test.now) self.now }
+        ensures within { result ≤ length self.now }
+    {
+        match self.sides() {
+            None => 0,
+            Some((l, x, r)) => {
+                let at = l.position(test);
+                if at < l.len() || test.test(x) {
+                    at
+                } else {
+                    at + 1 + r.position(test)
+                }
+            }
+        }
+    }
+
+    /// The place of the first item that passes, of those from the place `first` to the one before `end`; `end` where none does. Looks at these
+    /// items one after another.
+    #[tactic(auto, using(crate::proofs::Ranges::range_left, crate::proofs::Ranges::range_right, crate::proofs::Searches::found_left, crate::proofs::Searches::found_here, crate::proofs::Searches::found_right))]
+    pub fn position_in<F: Test<T>>(&self, first: usize, end: usize, test: &F) -> usize
+        requires order { first ≤ end }
+        requires within { end ≤ length self.now }
+        ensures is { result ≡ first + position_or_len (F.passes test.now) (drop first (take end self.now)) }
+        ensures within { result ≤ end }
+    {
+        match self.sides() {
+            None => end,
+            Some((l, x, r)) => {
+                let here = l.len();
+                if end <= here {
+                    l.position_in(first, end, test)
+                } else if here < first {
+                    here + 1 + r.position_in(first - here - 1, end - here - 1, test)
+                } else {
+                    let at = l.position_in(first, here, test);
+                    if at < here {
+                        at
+                    } else if test.test(x) {
+                        here
+                    } else {
+                        here + 1 + r.position_in(0, end - here - 1, test)
+                    }
+                }
+            }
+        }
+    }
+
+    /// Visits the items from the place `first` to the one before `end`, one after another.
+    #[tactic(auto, using(crate::proofs::Ranges::range_left, crate::proofs::Ranges::range_right, crate::proofs::Ranges::range_around))]
+    pub fn walk<V: Visit<T>>(&self, first: usize, end: usize, visit: &mut V) -> Result<(), Memory>
+        ensures { OnOk result (V.visited visit.new ≡ V.visited visit.old ++ map V.kept (drop first (take end self.now))) }
+    {
+        match self.sides() {
+            None => Ok(()),
+            Some((l, x, r)) => {
+                let here = l.len();
+                if end <= here {
+                    l.walk(first, end, visit)
+                } else if here < first {
+                    r.walk(first - here - 1, end - here - 1, visit)
+                } else {
+                    l.walk(first, here, visit)?;
+                    visit.visit(x)?;
+                    r.walk(0, end - here - 1, visit)
+                }
+            }
+        }
+    }
+
+    /// Puts an item in at a place. Takes no memory.
+    pub fn insert(&mut self, at: usize, item: T, spare: Spare<T>)
+        requires within { at ≤ length self.old }
+        requires small { length self.old < most }
+        ensures is { self.new ≡ insert self.old at item }
+        ensures len { length self.new ≡ length self.old + 1 }
+    {
+        let whole = mem::replace(self, Sequence::new());
+        *self = whole.put(at, item, spare);
+    }
+
+    /// Takes out the item at a place, with the memory that it was kept in. Takes no memory.
+    pub fn remove(&mut self, at: usize) -> (T, Spare<T>)
+        requires { at < length self.old }
+        ensures item { result.0 ≡ slice_index_or self.old at result.0 }
+        ensures rest { self.new ≡ remove self.old at }
+        ensures len { length self.new + 1 ≡ length self.old }
+        ensures small { length self.old ≤ most }
+    {
+        let whole = mem::replace(self, Sequence::new());
+        let (rest, item, spare) = whole.cut(at);
+        *self = rest;
+        (item, spare)
+    }
+
+    fn open(self) -> Option<Parts<T>>
+        ensures is { MatchOption result (self ≡ []) (λ p. self ≡ p.left ++ p.item ∷ p.right) }
+        ensures balanced { IfSome result (λ p. DifferBy 0 (length p.left) (length p.right)) }
+        ensures small { length self ≤ most }
+    {
+        let mut node = self.root?;
+        match mem::replace(&mut *node, Node::Empty) {
+            Node::Empty => None,
+            Node::Fork(left, item, _, right) => Some(Parts {
+                left,
+                item,
+                right,
+                spare: Spare { node },
+            }),
+        }
+    }
+
+    // Puts an item in at a place.
+    #[tactic(auto, using(crate::proofs::Sides::insert_left, crate::proofs::Sides::insert_past))]
+    fn put(self, at: usize, item: T, spare: Spare<T>) -> Sequence<T>
+        requires within { at ≤ length self }
+        requires small { length self < most }
+        ensures { result ≡ insert self at item }
+    {
+        match self.open() {
+            None => fork(Sequence::new(), item, Sequence::new(), spare),
+            Some(
+                Parts {
+                    left,
+                    item: own,
+                    right,
+                    spare: kept,
+                },
+            ) => {
+                let here = left.len();
+                if at <= here {
+                    join(left.put(at, item, spare), own, right, kept)
+                } else {
+                    join(left, own, right.put(at - here - 1, item, spare), kept)
+                }
+            }
+        }
+    }
+
+    // Takes out the item at a place; the rest is the left side of the answer.
+    #[tactic(auto, using(crate::proofs::Sides::remove_left, crate::proofs::Sides::remove_past, crate::proofs::Sides::remove_here, crate::proofs::Sides::remove_by_last))]
+    fn cut(self, at: usize) -> (Sequence<T>, T, Spare<T>)
+        requires { at < length self }
+        ensures item { result.1 ≡ slice_index_or self at result.1 }
+        ensures rest { result.0 ≡ remove self at }
+        ensures small { length self ≤ most }
+    {
+        match self.open() {
+            None => unreachable!(),
+            Some(
+                Parts {
+                    left,
+                    item,
+                    right,
+                    spare,
+                },
+            ) => {
+                let here = left.len();
+                if at < here {
+                    let (rest, out, free) = left.cut(at);
+                    (join(rest, item, right, spare), out, free)
+                } else if here < at {
+                    let (rest, out, free) = right.cut(at - here - 1);
+                    (join(left, item, rest, spare), out, free)
+                } else if here == 0 {
+                    (right, item, spare)
+                } else {
+                    let (rest, last, free) = left.cut(here - 1);
+                    (join(rest, last, right, spare), item, free)
+                }
+            }
+        }
+    }
+}
+
+// A node over two balanced sides.
+fn fork<T: Drop>(left: Sequence<T>, item: T, right: Sequence<T>, spare: Spare<T>) -> Sequence<T>
+    requires small { length left + length right < most }
+    requires balanced { DifferBy 0 (length left) (length right) }
+    ensures { result ≡ left ++ item ∷ right }
+{
+    let n = left.len() + right.len() + 1;
+    let Spare { mut node } = spare;
+    *node = Node::Fork(left, item, n, right);
+    Sequence { root: Some(node) }
+}
+
+// A node over two sides after an edit of one item, balanced again where one side is too long.
+fn join<T: Drop>(left: Sequence<T>, item: T, right: Sequence<T>, spare: Spare<T>) -> Sequence<T>
+    requires small { length left + length right < most }
+    requires nearly { DifferBy 3 (length left) (length right) }
+    ensures { result ≡ left ++ item ∷ right }
+{
+    if left.len() + 1 > 3 * (right.len() + 1) {
+        rotate_right(left, item, right, spare)
+    } else if right.len() + 1 > 3 * (left.len() + 1) {
+        rotate_left(left, item, right, spare)
+    } else {
+        fork(left, item, right, spare)
+    }
+}
+
+// The left side is too long: its item comes to the root, or that of its own right side where that is too long in turn.
+fn rotate_right<T: Drop>(
+    left: Sequence<T>,
+    item: T,
+    right: Sequence<T>,
+    spare: Spare<T>,
+) -> Sequence<T>
+    requires small { length left + length right < most }
+    requires more { 3 * (length right + 1) < length left + 1 }
+    requires nearly { length left + 1 ≤ 3 * (length right + 1) + 3 }
+    ensures { result ≡ left ++ item ∷ right }
+{
+    match left.open() {
+        None => unreachable!(),
+        Some(
+            Parts {
+                left: outer,
+                item: top,
+                right: inner,
+                spare: free,
+            },
+        ) => {
+            if inner.len() + 1 < 2 * (outer.len() + 1) {
+                return fork(outer, top, fork(inner, item, right, spare), free);
+            }
+            match inner.open() {
+                None => unreachable!(),
+                Some(middle) => {
+                    let left = fork(outer, top, middle.left, free);
+                    let right = fork(middle.right, item, right, spare);
+                    fork(left, middle.item, right, middle.spare)
+                }
+            }
+        }
+    }
+}
+
+// The right side is too long.
+fn rotate_left<T: Drop>(
+    left: Sequence<T>,
+    item: T,
+    right: Sequence<T>,
+    spare: Spare<T>,
+) -> Sequence<T>
+    requires small { length left + length right < most }
+    requires more { 3 * (length left + 1) < length right + 1 }
+    requires nearly { length right + 1 ≤ 3 * (length left + 1) + 3 }
+    ensures { result ≡ left ++ item ∷ right }
+{
+    match right.open() {
+        None => unreachable!(),
+        Some(
+            Parts {
+                left: inner,
+                item: top,
+                right: outer,
+                spare: free,
+            },
+        ) => {
+            if inner.len() + 1 < 2 * (outer.len() + 1) {
+                return fork(fork(left, item, inner, spare), top, outer, free);
+            }
+            match inner.open() {
+                None => unreachable!(),
+                Some(middle) => {
+                    let left = fork(left, item, middle.left, spare);
+                    let right = fork(middle.right, top, outer, free);
+                    fork(left, middle.item, right, middle.spare)
+                }
+            }
+        }
+    }
+}
