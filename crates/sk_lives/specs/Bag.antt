@@ -30,7 +30,7 @@ take_word word (other ∷ words) = cond (is_at (text_cmp word) other) words (oth
 
 -- ## As the code keeps them
 
-abbrev pub bag_in : Kept Bytes (Unit {0}) → Bag
+abbrev pub bag_in : Kept (List (Bytes × Unit {0})) → Bag
 bag_in kept = record { list = words_in kept.list; room = kept.room }
 
 abbrev pub was_ordered : Option (List Bytes) → Bool

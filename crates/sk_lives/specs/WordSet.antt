@@ -10,7 +10,7 @@ pub record WordSet : Type 0 where
   pub list : Steps (List Bytes)
   pub room : ℕ
 
-abbrev pub set_in : Kept Bytes (Unit {0}) → WordSet
+abbrev pub set_in : Kept (List (Bytes × Unit {0})) → WordSet
 set_in kept = record { list = words_in kept.list; room = kept.room }
 
 abbrev pub was_sorted : Option (List Bytes) → Bool

@@ -1,5 +1,9 @@
 pub mod Descents
 pub mod Edits
+pub mod Entries
+pub mod Keys
+pub mod Maps
 pub mod Ranges
 pub mod Searches
 pub mod Sides
+pub mod Sorted

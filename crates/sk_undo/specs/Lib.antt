@@ -1,8 +1,13 @@
 pub mod Balance
 pub mod Edits
+pub mod Entries
 pub mod Kept
 pub mod Moves
 pub mod Node
+pub mod Queries
 pub mod Rises
+pub mod Sorted
 pub mod Steps
 pub mod UndoList
+pub mod UndoMap
+pub mod UndoSet

@@ -1,14 +1,21 @@
-//! Lists whose edits in an open step can be taken back without memory. A step is done whole or leaves no trace.
+//! Lists, maps and sets whose edits in an open step can be taken back without memory. A step is done whole or leaves no trace.
 #![tactic(auto)]
 
 mod edit;
+mod query;
+mod search;
 mod sequence;
 mod test;
 mod undo_list;
+mod undo_map;
+mod undo_set;
 
+pub use query::Query;
 pub use std::alloc::AllocError as Memory;
 pub use test::{Test, Visit};
 pub use undo_list::UndoList;
+pub use undo_map::UndoMap;
+pub use undo_set::UndoSet;
 
 #[cfg(test)]
 mod tests;

@@ -29,11 +29,13 @@ pub struct UndoList<K, T> {
 }
 
 impl<K, T> Model for UndoList<K, T> {
+    ghost use Rattle.std.specs.Prelude.{List};
+    ghost use Rattle.std.specs.Coded.{coded_list, coded×};
     ghost use Rattle.sk_undo.specs.Kept.{Kept, kept_code};
 
-    ghost Value = { Kept K T };
+    ghost Value = { Kept (List (K × T)) };
 
-    ghost coded = { kept_code K.code T.code };
+    ghost coded = { kept_code (coded_list (coded× K.code T.code)) };
 
     ghost use Rattle.sk_undo.specs.UndoList.{is_sound, kept_in};
 
