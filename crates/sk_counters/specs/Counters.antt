@@ -2,11 +2,17 @@
 use Rattle.std.specs.Prelude.{ℕ, suc, ◌-◌, ◌^◌, ◌++◌, List, Option, min, codes, unwrap_or}
 use Rattle.std.specs.Map.{lookup}
 use Rattle.std.specs.BTreeMap.{is_at, insert_entry}
+use Rattle.std.specs.Cmp.Lexicographic.{slice_cmp}
+use Rattle.std.specs.Ordering.{nat_cmp}
+use Rattle.std.specs.declared.cmp.Ordering.{Ordering}
 use Rattle.sk_resp.specs.Spelling.{Bytes}
-use Rattle.sk_value.specs.Order.{text_cmp}
 use Rattle.sk_counters.specs.Date.{date_of, text_of}
 use Rattle.sk_counters.specs.declared.counters.Counted.{Counted}
 use Rattle.sk_counters.specs.declared.counters.Counted.TheVariants.{Processed, Failed}
+
+-- by their bytes
+abbrev pub name_cmp : Bytes → Bytes → Ordering
+name_cmp = slice_cmp nat_cmp
 
 -- names behind `stat:`, in the order of their bytes, each with its count
 abbrev pub Counters : Type 0
@@ -28,14 +34,14 @@ abbrev pub of_day : Bytes → ℕ → Bytes
 of_day name moment = name ++ codes ":" ++ text_of (date_of moment)
 
 abbrev pub count_in : Counters → Bytes → Option ℕ
-count_in counters name = lookup (is_at (text_cmp name)) counters
+count_in counters name = lookup (is_at (name_cmp name)) counters
 
 -- A counter stays at the last value of a signed number of 64 bits.
 abbrev pub last_count : ℕ
 last_count = 2 ^ 63 - 1
 
 abbrev pub raised : Bytes → Counters → Counters
-raised name counters = insert_entry text_cmp counters name (min last_count (suc (unwrap_or (count_in counters name) 0)))
+raised name counters = insert_entry name_cmp counters name (min last_count (suc (unwrap_or (count_in counters name) 0)))
 
 -- one more, in all and of the day
 abbrev pub counted_at : ℕ → Bytes → Counters → Counters

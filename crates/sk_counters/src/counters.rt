@@ -1,16 +1,21 @@
 // The counters of runs, each with its name.
-ghost use Rattle.std.specs.Prelude.{◌≡◌, ◌≤◌, [], IsSome, None, OnErr, OnOk};
+ghost use Rattle.std.proofs.lemmas.Cmp.{nat_list_cmp_total};
+ghost use Rattle.std.specs.Prelude.{◌≡◌, ◌+◌, ◌<◌, ◌≤◌, [], suc, IsSome, None, OnErr, OnOk, min};
 ghost use Rattle.sk_base.specs.Score.{last_moment};
 ghost use Rattle.sk_undo.specs.Steps.{begun, closed, committed, edited, undone};
-ghost use Rattle.sk_counters.specs.Counters.{count_in, counted_at, name_of};
+ghost use Rattle.sk_undo.specs.Queries.{key_query};
+ghost use Rattle.sk_counters.specs.Counters.{count_in, counted_at, last_count, name_cmp, name_of, raised};
 
 use crate::Memory;
 use crate::day::of_day;
-use crate::entries::{Entries, count_of, raise};
 use sk_resp::Word;
-use sk_undo::UndoList;
+use sk_undo::{Query, UndoMap};
 use std::alloc::Global;
+use std::cmp::Ordering;
 use std::marker::Model;
+
+// The last value of a signed number of 64 bits.
+const LAST_COUNT: u64 = i64::MAX as u64;
 
 /// What is counted.
 #[derive(Clone, Copy, Debug, PartialEq, Eq)]
@@ -38,7 +43,7 @@ impl Counted {
 #[derive(Drop)]
 pub struct Counters {
     alloc: Global,
-    entries: Entries,
+    counts: UndoMap<Word, u64>,
 }
 
 impl Model for Counters {
@@ -47,11 +52,40 @@ impl Model for Counters {
 
     ghost Value = { Steps CountersSeen };
 
-    ghost use Rattle.sk_counters.specs.Order.{AreSorted, counters_in};
+    ghost view = { λ c. c.counts.list };
+}
 
-    ghost view = { λ c. counters_in c.entries.list };
+// A name looked for by its bytes.
+#[derive(Drop)]
+struct ByName<'a> {
+    name: &'a [u8],
+}
 
-    ghost invariant = { λ c. AreSorted (counters_in c.entries.list) };
+impl<'a> Query<Word> for ByName<'a> {
+    ghost order = { λ query. name_cmp query.name.now };
+
+    fn cmp_key(&self, key: &Word) -> Ordering {
+        self.name.cmp(key.bytes())
+    }
+
+    ghost is_query = { λ query. key_query nat_list_cmp_total query.name.now };
+}
+
+// The next count. It stays at the last one.
+fn one_more(count: u64) -> u64
+    ensures { result ≡ min last_count (suc count) }
+{
+    count.saturating_add(1).min(LAST_COUNT)
+}
+
+// Counts one more for a name. Logarithmic.
+fn raise(counts: &mut UndoMap<Word, u64>, name: Word)
+    requires { 0 < counts.old.room }
+    ensures list { counts.new.list ≡ edited (raised name counts.old.list.stands) counts.old.list }
+    ensures room { counts.old.room ≤ counts.new.room + 1 }
+{
+    let count = counts.get(&name).copied().unwrap_or(0);
+    counts.put(name, one_more(count));
 }
 
 impl Counters {
@@ -61,7 +95,7 @@ impl Counters {
     {
         Counters {
             alloc,
-            entries: UndoList::new(alloc),
+            counts: UndoMap::new(alloc),
         }
     }
 
@@ -69,7 +103,7 @@ impl Counters {
     pub fn get(&self, name: &[u8]) -> Option<u64>
         ensures { result ≡ count_in self.now.stands name.now }
     {
-        count_of(&self.entries, name)
+        self.counts.get(&ByName { name }).copied()
     }
 
     /// One more counts at this moment, in milliseconds since 1970: in all, and of the moment's day. Where memory runs out nothing has changed.
@@ -81,9 +115,9 @@ impl Counters {
         let name = what.name();
         let total = Word::new(Vec::from_slice(self.alloc, name)?);
         let of_day = of_day(self.alloc, name, moment)?;
-        self.entries.reserve(2)?;
-        raise(&mut self.entries, total);
-        raise(&mut self.entries, of_day);
+        self.counts.reserve(2)?;
+        raise(&mut self.counts, total);
+        raise(&mut self.counts, of_day);
         Ok(())
     }
 
@@ -92,7 +126,7 @@ impl Counters {
         requires { self.old.stood ≡ None }
         ensures { self.new ≡ begun self.old }
     {
-        self.entries.begin();
+        self.counts.begin();
     }
 
     /// Closes the step, and what stood at its begin stands again. Takes no memory.
@@ -100,7 +134,7 @@ impl Counters {
         requires { IsSome self.old.stood }
         ensures { self.new ≡ undone self.old }
     {
-        self.entries.undo();
+        self.counts.undo();
     }
 
     /// Closes the step, and what stands now stays. Takes no memory.
@@ -108,6 +142,6 @@ impl Counters {
         requires { IsSome self.old.stood }
         ensures { self.new ≡ committed self.old }
     {
-        self.entries.commit();
+        self.counts.commit();
     }
 }

@@ -3,7 +3,6 @@
 
 mod counters;
 mod day;
-mod entries;
 
 pub use counters::{Counted, Counters};
 pub use std::alloc::AllocError as Memory;
