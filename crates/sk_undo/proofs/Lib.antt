@@ -1,3 +1,5 @@
+pub mod Copies
+pub mod Counting
 pub mod Descents
 pub mod Edits
 pub mod Entries

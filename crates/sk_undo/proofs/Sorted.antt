@@ -10,12 +10,12 @@ use Rattle.sk_undo.specs.Rises.{all_pass, rises}
 use Rattle.sk_undo.specs.Sorted.{IsQuery, is_ordered, is_sorted}
 
 module _ {K : Type 0} where
-  all_more : (t u : K → Bool) → ((key : K) → t key ≡ true → u key ≡ true) → (keys : List K) → all_pass t keys ≡ true → all_pass u keys ≡ true
+  pub all_more : (t u : K → Bool) → ((key : K) → t key ≡ true → u key ≡ true) → (keys : List K) → all_pass t keys ≡ true → all_pass u keys ≡ true
   all_more t u more [] h = refl
   all_more t u more (key ∷ keys) h = grind (arith, h, more key, all_more t u more keys)
 
 module _ {K : Type 0} (cmp : K → K → Ordering) where
-  lt_is_le : (x y : K) → is_lt (cmp x y) ≡ true → is_le (cmp x y) ≡ true
+  pub lt_is_le : (x y : K) → is_lt (cmp x y) ≡ true → is_le (cmp x y) ≡ true
   lt_is_le x y h = grind (arith, h)
 
   pub sorted_ordered : (keys : List K) → is_sorted cmp keys ≡ true → is_ordered cmp keys ≡ true
@@ -54,7 +54,7 @@ module _ {K : Type 0} (cmp : K → K → Ordering) where
   sorted_remove t (first ∷ es) h = grind (arith, h, all_remove (λ other. is_lt (cmp first.0 other)) t es, sorted_remove t es)
 
   module _ (total : IsTotalOrder cmp) where
-    behind : (x y : K) → is_le (cmp x y) ≡ false → is_lt (cmp y x) ≡ true
+    pub behind : (x y : K) → is_le (cmp x y) ≡ false → is_lt (cmp y x) ≡ true
     behind x y h = let a = total.antisymm x y in grind (arith, a, h)
 
     pub before_rest : (key first : K) (keys : List K) → is_lt (cmp key first) ≡ true → all_pass (λ other. is_lt (cmp first other)) keys ≡ true → all_pass (λ other. is_lt (cmp key other)) keys ≡ true

@@ -4,10 +4,12 @@ pub mod Entries
 pub mod Kept
 pub mod Moves
 pub mod Node
+pub mod Pairs
 pub mod Queries
 pub mod Rises
 pub mod Sorted
 pub mod Steps
 pub mod UndoList
 pub mod UndoMap
+pub mod UndoMultiset
 pub mod UndoSet

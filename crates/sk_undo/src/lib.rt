@@ -8,6 +8,7 @@ mod sequence;
 mod test;
 mod undo_list;
 mod undo_map;
+mod undo_multiset;
 mod undo_set;
 
 pub use query::Query;
@@ -15,6 +16,7 @@ pub use std::alloc::AllocError as Memory;
 pub use test::{Test, Visit};
 pub use undo_list::UndoList;
 pub use undo_map::UndoMap;
+pub use undo_multiset::UndoMultiset;
 pub use undo_set::UndoSet;
 
 #[cfg(test)]
