@@ -1,4 +1,2 @@
-pub mod Between
-pub mod Order
-pub mod Places
 pub mod Kept
+pub mod Order

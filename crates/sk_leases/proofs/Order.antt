@@ -1,120 +1,75 @@
--- Edits keep the order, and in an ordered list tests pass from some place on.
-use Rattle.std.proofs.Common.{◌≡◌, ℕ, zero, suc, ◌+◌, Bool, true, false, not, cond, List, [], ◌∷◌, refl, sym, arith, ap, ◌∙◌}
-use Rattle.std.specs.List.{insert, remove, position_or_len}
-use Rattle.std.specs.Ordering.{is_lt, nat_cmp, ordering_reverse, ordering_then}
-use Rattle.std.specs.declared.cmp.Ordering.{Ordering}
-use Rattle.std.specs.declared.cmp.Ordering.TheVariants.{Less, Equal, Greater}
+-- The order of leases, and which of them a part of a name's leases matches.
+use Rattle.std.proofs.Common.{◌≡◌, ℕ, Bool, true, false, not, ◌&&◌, cond, List, [], ◌∷◌, nat_lt, refl, sym, arith, ap, ◌∙◌}
 use Rattle.std.specs.Cmp.{IsTotalOrder}
 use Rattle.std.specs.Cmp.Lexicographic.{slice_cmp}
+use Rattle.std.specs.Ordering.{is_eq, is_le, nat_cmp, ordering_reverse, ordering_then}
+use Rattle.std.specs.declared.cmp.Ordering.{Ordering}
+use Rattle.std.specs.declared.cmp.Ordering.TheVariants.{Less, Equal, Greater}
 use Rattle.std.proofs.lemmas.Cmp.{then_total, on_total, nat_cmp_total, nat_list_cmp_total}
-use Rattle.sk_undo.specs.Rises.{all_pass, rises}
+use Rattle.std.proofs.lemmas.Map.Text.{is_eq-slice_cmp}
+use Rattle.sk_undo.specs.Rises.{all_pass}
+use Rattle.sk_undo.specs.Sorted as keys
 use Rattle.sk_resp.specs.Spelling.{Bytes}
-use Rattle.sk_leases.specs.Lease.{Lease, lease_cmp, precedes}
+use Rattle.sk_leases.specs.Lease.{Lease, lease_cmp, names, precedes, stands_at}
 use Rattle.sk_leases.specs.Order.{is_first, is_ordered}
-use Rattle.sk_leases.specs.Places.{is_from, is_past}
-
-module _ {K : Type 0} (cmp : K → K → Ordering) (total : IsTotalOrder cmp) where
-  -- what is above y is below each z that isn't below y
-  below_at : (o : Ordering) (x y z : K) → cmp z y ≡ o → cmp x y ≡ Less → is_lt o ≡ false → cmp x z ≡ Less
-  below_at Less x y z e h k = absurd (cc)
-  below_at Equal x y z e h k = let a = total.congr z y x e in let b = total.antisymm x z in let c = total.antisymm x y in grind (arith, a, b, c, h)
-  below_at Greater x y z e h k = let a = total.antisymm y z in let t = total.trans x y z h in grind (arith, a, t, e)
-
-  less_at : (o : Ordering) → is_lt o ≡ true → o ≡ Less
-  less_at Less h = refl
-  less_at Equal h = absurd (cc)
-  less_at Greater h = absurd (cc)
-
-  pub below : (x y z : K) → is_lt (cmp x y) ≡ true → is_lt (cmp z y) ≡ false → is_lt (cmp x z) ≡ true
-  below x y z h k = ap is_lt (below_at _ x y z refl (less_at _ h) k)
-
-  asymm_at : (o : Ordering) → is_lt (ordering_reverse o) ≡ true → is_lt o ≡ false
-  asymm_at Less h = absurd (cc)
-  asymm_at Equal h = refl
-  asymm_at Greater h = refl
-
-  pub asymm : (x y : K) → is_lt (cmp x y) ≡ true → is_lt (cmp y x) ≡ false
-  asymm x y h = asymm_at (cmp y x) (sym (ap is_lt (total.antisymm x y)) ∙ h)
+use Rattle.sk_leases.specs.Parts.{is_over, lease_order}
+use Rattle.sk_leases.specs.declared.part.Part.TheVariants.{All, Over, Standing}
 
 lease_total : IsTotalOrder lease_cmp
 lease_total = then_total (on_total (λ p. p.0) nat_list_cmp_total) (on_total (λ p. p.1) nat_cmp_total)
 
--- ---- edits
+not_behind : (p q : Lease) → is_le (lease_cmp p q) ≡ true → precedes q p ≡ false
+not_behind p q h = let a = lease_total.antisymm p q in grind (arith, a, h)
 
-first_up : (p q : Lease) (ps : List Lease) → precedes p q ≡ true → is_first q ps ≡ true → is_first p ps ≡ true
-first_up p q [] h f = refl
-first_up p q (r ∷ ps) h f =
-    let no : precedes r q ≡ false = grind (arith, f) in
-    let ahead : precedes r p ≡ false = asymm lease_cmp lease_total p r (below lease_cmp lease_total p q r h no) in
-    grind (arith, ahead, f, first_up p q ps h)
+first_from : (p : Lease) (ps : List Lease) → all_pass (λ q. is_le (lease_cmp p q)) ps ≡ true → is_first p ps ≡ true
+first_from p [] h = refl
+first_from p (q ∷ ps) h = grind (arith, h, not_behind p q, first_from p ps)
 
-first_insert : (q p : Lease) (ps : List Lease) (i : ℕ) → is_first q ps ≡ true → precedes p q ≡ false → is_first q (insert ps i p) ≡ true
-first_insert q p [] zero f a = grind (arith, a)
-first_insert q p [] (suc i) f a = grind (arith, a)
-first_insert q p (r ∷ ps) zero f a = grind (arith, f, a)
-first_insert q p (r ∷ ps) (suc i) f a = grind (arith, f, first_insert q p ps i)
+pub ordered_leases : (ps : List Lease) → keys.is_ordered lease_cmp ps ≡ true → is_ordered ps ≡ true
+ordered_leases [] h = refl
+ordered_leases (p ∷ ps) h = grind (arith, h, first_from p ps, ordered_leases ps)
 
-put_one : (b : Bool) (p q : Lease) (ps : List Lease) (k : ℕ) → precedes p q ≡ b → is_ordered (q ∷ ps) ≡ true → is_ordered (insert ps k p) ≡ true → is_ordered (insert (q ∷ ps) (cond (not b) (1 + k) 0) p) ≡ true
-put_one true p q ps k e h rest =
-    let no = asymm lease_cmp lease_total p q e in
-    let f : is_first q ps ≡ true = grind (arith, h) in
-    grind (arith, no, h, first_up p q ps e f)
-put_one false p q ps k e h rest =
-    let f : is_first q ps ≡ true = grind (arith, h) in
-    let i = first_insert q p ps k f e in
-    let s : 1 + k ≡ suc k = omega arith in
-    let both : is_ordered (q ∷ insert ps k p) ≡ true = grind (arith, i, rest) in
-    ap (λ j. is_ordered (insert (q ∷ ps) j p)) s ∙ both
+-- ## Which leases a part matches
 
-pub ordered_insert : (p : Lease) (ps : List Lease) → is_ordered ps ≡ true → is_ordered (insert ps (position_or_len (precedes p) ps) p) ≡ true
-ordered_insert p [] h = refl
-ordered_insert p (q ∷ ps) h = put_one (precedes p q) p q ps (position_or_len (precedes p) ps) refl h (ordered_insert p ps (grind (arith, h)))
+turned : (o : Ordering) → is_eq (ordering_reverse o) ≡ is_eq o
+turned Less = refl
+turned Equal = refl
+turned Greater = refl
 
-first_remove : (q : Lease) (ps : List Lease) (i : ℕ) → is_first q ps ≡ true → is_first q (remove ps i) ≡ true
-first_remove q [] zero f = refl
-first_remove q [] (suc i) f = refl
-first_remove q (r ∷ ps) zero f = grind (arith, f)
-first_remove q (r ∷ ps) (suc i) f = grind (arith, f, first_remove q ps i)
+named : (name : Bytes) (p : Lease) → is_eq (slice_cmp nat_cmp name p.0) ≡ names name p
+named name p = ap is_eq (nat_list_cmp_total.antisymm name p.0) ∙ turned (slice_cmp nat_cmp p.0 name) ∙ is_eq-slice_cmp p.0 name
 
-pub ordered_remove : (ps : List Lease) (i : ℕ) → is_ordered ps ≡ true → is_ordered (remove ps i) ≡ true
-ordered_remove [] zero h = refl
-ordered_remove [] (suc i) h = refl
-ordered_remove (r ∷ ps) zero h = grind (arith, h)
-ordered_remove (r ∷ ps) (suc i) h = grind (arith, h, ordered_remove ps i, first_remove r ps i)
+all_at : (o : Ordering) → is_eq (ordering_then o Equal) ≡ is_eq o
+all_at Less = refl
+all_at Equal = refl
+all_at Greater = refl
 
--- ---- tests that pass from some place on
+over_at : (o : Ordering) (b : Bool) → is_eq (ordering_then o (cond b Less Equal)) ≡ (is_eq o && not b)
+over_at Less b = refl
+over_at Equal true = refl
+over_at Equal false = refl
+over_at Greater b = refl
 
-module _ (t : Lease → Bool) (up : (p q : Lease) → precedes q p ≡ false → t p ≡ true → t q ≡ true) where
-  all_behind : (p : Lease) (ps : List Lease) → is_first p ps ≡ true → t p ≡ true → all_pass t ps ≡ true
-  all_behind p [] f h = refl
-  all_behind p (q ∷ ps) f h = grind (arith, f, h, up p q, all_behind p ps)
+standing_at : (o : Ordering) (b : Bool) → is_eq (ordering_then o (cond b Equal Greater)) ≡ (is_eq o && b)
+standing_at Less b = refl
+standing_at Equal true = refl
+standing_at Equal false = refl
+standing_at Greater b = refl
 
-  rising : (ps : List Lease) → is_ordered ps ≡ true → rises t ps ≡ true
-  rising [] h = refl
-  rising (p ∷ ps) h = grind (arith, h, all_behind p ps, rising ps)
+pub all_is : (name : Bytes) (p : Lease) → is_eq (lease_order name All p) ≡ names name p
+all_is name p = all_at (slice_cmp nat_cmp name p.0) ∙ named name p
 
-then_not : (o r : Ordering) → is_lt (ordering_then o r) ≡ false → is_lt o ≡ false
-then_not Less r h = h
-then_not Equal r h = refl
-then_not Greater r h = refl
+pub over_is : (name : Bytes) (now : ℕ) (p : Lease) → is_eq (lease_order name (Over now) p) ≡ is_over name now p
+over_is name now p = over_at (slice_cmp nat_cmp name p.0) (nat_lt now p.1) ∙ ap (λ b. b && not (nat_lt now p.1)) (named name p)
 
--- a lease that doesn't stand before another doesn't have a name before its name
-name_not : (p q : Lease) → precedes q p ≡ false → is_lt (slice_cmp nat_cmp q.0 p.0) ≡ false
-name_not p q h = then_not (slice_cmp nat_cmp q.0 p.0) (nat_cmp q.1 p.1) h
+pub standing_is : (name : Bytes) (now : ℕ) (p : Lease) → is_eq (lease_order name (Standing now) p) ≡ (names name p && stands_at now p)
+standing_is name now p = standing_at (slice_cmp nat_cmp name p.0) (nat_lt now p.1) ∙ ap (λ b. b && nat_lt now p.1) (named name p)
 
-from_at : (b : Bool) (name : Bytes) (p q : Lease) → is_lt (slice_cmp nat_cmp q.0 name) ≡ b → precedes q p ≡ false → is_from name p ≡ true → not b ≡ true
-from_at false name p q e h f = refl
-from_at true name p q e h f =
-    let no : is_lt (slice_cmp nat_cmp p.0 name) ≡ false = grind (arith, f) in
-    let less = below (slice_cmp nat_cmp) nat_list_cmp_total q.0 name p.0 e no in
-    let not_less = name_not p q h in
-    absurd (cc)
+both_second : (a b : Bool) → (a && not b) ≡ true → b ≡ false
+both_second true true h = sym h
+both_second true false h = refl
+both_second false b h = absurd (cc)
 
-pub rises_from : (name : Bytes) (ps : List Lease) → is_ordered ps ≡ true → rises (is_from name) ps ≡ true
-rises_from name ps h = rising (is_from name) (λ p q no f. from_at _ name p q refl no f) ps h
-
-pub rises_past : (name : Bytes) (ps : List Lease) → is_ordered ps ≡ true → rises (is_past name) ps ≡ true
-rises_past name ps h = rising (is_past name) (λ p q no f. below (slice_cmp nat_cmp) nat_list_cmp_total name p.0 q.0 f (name_not p q no)) ps h
-
-pub rises_behind : (p : Lease) (ps : List Lease) → is_ordered ps ≡ true → rises (precedes p) ps ≡ true
-rises_behind p ps h = rising (precedes p) (λ q r no f. below lease_cmp lease_total p q r f no) ps h
+-- what is over doesn't stand
+pub over_stands : (name : Bytes) (now : ℕ) (p : Lease) → is_eq (lease_order name (Over now) p) ≡ true → stands_at now p ≡ false
+over_stands name now p h = both_second (names name p) (stands_at now p) (sym (over_is name now p) ∙ h)

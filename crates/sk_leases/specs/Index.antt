@@ -1,16 +1,14 @@
 -- The index of deadlines: each deadline with its name, the soonest first. A pair may outstay its lease.
-use Rattle.std.specs.Prelude.{◌≡◌, ◌<◌, ℕ, List, [], ◌∷◌, Bool, true, false, not, nat_lt, Option, Some, None}
+use Rattle.std.specs.Prelude.{◌≡◌, ◌<◌, ℕ, List, [], ◌∷◌, Bool, true, false, not, nat_lt}
 use Rattle.std.specs.List.{count_by, list_all}
 use Rattle.std.specs.Cmp.Lexicographic.{slice_cmp}
 use Rattle.std.specs.Ordering.{nat_cmp, ordering_then}
 use Rattle.std.specs.declared.cmp.Ordering.{Ordering}
 use Rattle.std.specs.BTreeSet.{BTreeSet, contains}
-use Rattle.sk_undo.specs.Steps.{Steps}
 use Rattle.sk_resp.specs.Spelling.{Bytes}
 use Rattle.sk_leases.specs.Lease.{Lease}
 use Rattle.sk_leases.specs.Lists.{standing}
-use Rattle.sk_leases.specs.Places.{is_over}
-use Rattle.sk_leases.specs.Order.{is_ordered}
+use Rattle.sk_leases.specs.Parts.{is_over}
 
 abbrev pub Due : Type 0
 Due = ℕ × Bytes
@@ -25,20 +23,6 @@ is_due_in dues p = contains due_cmp dues (p.1, p.0)
 -- The index has the deadline of each of these.
 abbrev pub covers : BTreeSet Due → List Lease → Bool
 covers dues ps = list_all (is_due_in dues) ps
-
--- a list that is in order, and whose deadlines the index has
-pub record IsKept (dues : BTreeSet Due) (ps : List Lease) : Type 0 where
-  pub ordered : is_ordered ps ≡ true
-  pub covered : covers dues ps ≡ true
-
-abbrev pub WasKept : BTreeSet Due → Option (List Lease) → Type 0
-WasKept dues None = Unit {0}
-WasKept dues (Some ps) = IsKept dues ps
-
--- what stands and what stood are kept
-pub record AreKept (dues : BTreeSet Due) (s : Steps (List Lease)) : Type 0 where
-  pub stands : IsKept dues s.stands
-  pub stood : WasKept dues s.stood
 
 -- ## Time
 
@@ -63,7 +47,6 @@ DropsDue now name before after = (p : Lease) → is_due_in before p ≡ true →
 
 -- The leases of the name that are over are gone, and no others.
 pub record TakesOver (name : Bytes) (now : ℕ) (before after : List Lease) : Type 0 where
-  pub ordered : is_ordered after ≡ true
   pub standing : standing now after ≡ standing now before
   pub none : count_by (is_over name now) after ≡ 0
   pub covered : (dues : BTreeSet Due) → covers dues before ≡ true → covers dues after ≡ true

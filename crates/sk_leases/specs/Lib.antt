@@ -3,4 +3,4 @@ pub mod Lists
 pub mod Leased
 pub mod Order
 pub mod Index
-pub mod Places
+pub mod Parts

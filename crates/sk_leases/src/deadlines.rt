@@ -1,4 +1,4 @@
-// Names with deadlines: a list with undo in order, and the index of its deadlines. Memory is taken before the first edit.
+// Names with deadlines: a multiset with undo, and the index of its deadlines. Memory is taken before the first edit.
 ghost use Rattle.std.specs.Prelude.{◌≡◌, [], None, true, IfOk, IsSome, OnErr, OnOk};
 ghost use Rattle.sk_undo.specs.Steps.{begun, closed, committed, edited, undone};
 ghost use Rattle.sk_leases.specs.Lists.{count_standing, names_of, put, standing, without};
@@ -6,10 +6,9 @@ ghost use Rattle.sk_leases.specs.Order.{is_ordered};
 
 use crate::Memory;
 use crate::dues::{Dues, add_due};
-use crate::edits::{drop_named, purge, put_lease};
-use crate::find::{Entries, count_named, count_standing};
+use crate::edits::{Entries, count_named, count_standing, drop_named, purge};
 use sk_resp::Word;
-use sk_undo::UndoList;
+use sk_undo::UndoMultiset;
 use std::alloc::Global;
 use std::collections::BTreeSet;
 use std::marker::Model;
@@ -23,16 +22,16 @@ pub struct Deadlines {
 
 impl Model for Deadlines {
     ghost use Rattle.std.specs.Prelude.{List};
-    ghost use Rattle.sk_undo.specs.Steps.{Steps};
+    ghost use Rattle.sk_undo.specs.Steps.{Steps, BothPass};
     ghost use Rattle.sk_leases.specs.Lease.{Lease};
 
     ghost Value = { Steps (List Lease) };
 
-    ghost use Rattle.sk_leases.specs.Index.{AreKept};
+    ghost use Rattle.sk_leases.specs.Index.{covers};
 
     ghost view = { λ d. d.entries.list };
 
-    ghost invariant = { λ d. AreKept d.dues d.entries.list };
+    ghost invariant = { λ d. BothPass (covers d.dues) d.entries.list };
 }
 
 fn word(alloc: Global, bytes: &[u8]) -> Result<Word, Memory>
@@ -46,7 +45,7 @@ fn standing_names(alloc: Global, entries: &Entries, now: u64) -> Result<Vec<Word
 {
     let mut names = Vec::new(alloc);
     for at in 0..entries.len() {
-        let (name, deadline) = entries.get(at);
+        let (name, deadline) = entries.at(at);
         if now < *deadline {
             names.push(name.copy()?)?;
         }
@@ -60,7 +59,7 @@ impl Deadlines {
         ensures { result ≡ closed [] }
     {
         Deadlines {
-            entries: UndoList::new(alloc),
+            entries: UndoMultiset::new(alloc),
             dues: BTreeSet::new(alloc),
         }
     }
@@ -74,6 +73,7 @@ impl Deadlines {
     }
 
     /// Adds a lease of the name.
+    #[tactic(auto, unfolding(crate::specs::Lists::put))]
     pub fn put(&mut self, alloc: Global, name: &[u8], deadline: u64) -> Result<(), Memory>
         ensures ok { OnOk result (self.new ≡ edited (put (name.now, deadline) self.old.stands) self.old) }
         ensures err { OnErr result (self.new ≡ self.old) }
@@ -81,11 +81,12 @@ impl Deadlines {
         let lease = word(alloc, name)?;
         self.entries.reserve(1)?;
         add_due(&mut self.dues, word(alloc, name)?, deadline)?;
-        put_lease(&mut self.entries, lease, deadline);
+        self.entries.put((lease, deadline));
         Ok(())
     }
 
     /// Makes this the only lease of the name.
+    #[tactic(auto, unfolding(crate::specs::Lists::put))]
     pub fn renew(&mut self, alloc: Global, name: &[u8], deadline: u64) -> Result<(), Memory>
         ensures ok { OnOk result (self.new ≡ edited (put (name.now, deadline) (without name.now self.old.stands)) self.old) }
         ensures err { OnErr result (self.new ≡ self.old) }
@@ -95,7 +96,7 @@ impl Deadlines {
         self.entries.reserve(count + 1)?;
         add_due(&mut self.dues, word(alloc, name)?, deadline)?;
         drop_named(&mut self.entries, name, &self.dues);
-        put_lease(&mut self.entries, lease, deadline);
+        self.entries.put((lease, deadline));
         Ok(())
     }
 
@@ -122,6 +123,7 @@ impl Deadlines {
         ensures names { IfOk result (λ names. names.items ≡ names_of (standing now self.now.stands)) }
         ensures order { is_ordered self.now.stands ≡ true }
     {
+        let _len = self.entries.len(); // its contract says that the leases are in order
         standing_names(alloc, &self.entries, now)
     }
 

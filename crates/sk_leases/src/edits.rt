@@ -1,58 +1,79 @@
-// Edits of a list of leases, once there is room for them.
-ghost use Rattle.std.specs.Prelude.{◌≡◌, ◌+◌, ◌<◌, ◌≤◌, true, None, length};
+// Leases that are taken out of a list in order.
+ghost use Rattle.std.specs.Prelude.{◌≡◌, ◌+◌, ◌≤◌, true, None};
 ghost use Rattle.std.specs.List.{count_by};
+ghost use Rattle.sk_undo.specs.Balance.{most};
 ghost use Rattle.sk_undo.specs.Steps.{edited};
-ghost use Rattle.sk_leases.specs.Index.{IsKept, TakesOver};
+ghost use Rattle.sk_leases.specs.Index.{TakesOver, covers};
 ghost use Rattle.sk_leases.specs.Lease.{names};
-ghost use Rattle.sk_leases.specs.Lists.{put, standing, without};
-ghost use Rattle.sk_leases.specs.Order.{is_ordered};
+ghost use Rattle.sk_leases.specs.Lists.{count_standing, standing, without};
 
 use crate::dues::{Dues, next_due};
-use crate::find::{Entries, first_named, first_over, place_for};
+use crate::part::{LeasesOf, Part};
 use sk_resp::Word;
+use sk_undo::UndoMultiset;
 
-/// Puts a lease in at its place.
-#[tactic(auto, unfolding(crate::specs::Lists::put))]
-pub fn put_lease(entries: &mut Entries, name: Word, deadline: u64)
-    requires room { 0 < entries.old.room }
-    requires ordered { is_ordered entries.old.list.stands ≡ true }
-    ensures { entries.new.list ≡ edited (put (name, deadline) entries.old.list.stands) entries.old.list }
+/// Leases by the names' bytes and then by their deadlines in milliseconds since 1970.
+pub type Entries = UndoMultiset<(Word, u64)>;
+
+/// How many leases the name has.
+pub fn count_named(entries: &Entries, name: &[u8]) -> usize
+    ensures is { result ≡ count_by (names name.now) entries.now.list.stands }
+    ensures small { result ≤ most }
 {
-    let at = place_for(entries, name.bytes(), deadline);
-    entries.insert(at, (name, deadline));
+    entries.count(&LeasesOf {
+        name,
+        part: Part::All,
+    })
+}
+
+/// How many leases of the name stand.
+pub fn count_standing(entries: &Entries, name: &[u8], now: u64) -> usize
+    ensures { result ≡ count_standing name.now now entries.now.list.stands }
+{
+    entries.count(&LeasesOf {
+        name,
+        part: Part::Standing(now),
+    })
 }
 
 /// Drops the leases of the name out.
 pub fn drop_named(entries: &mut Entries, name: &[u8], dues: &Dues)
     requires room { count_by (names name.now) entries.old.list.stands ≤ entries.old.room }
-    requires kept { IsKept dues.now entries.old.list.stands }
+    requires covered { covers dues.now entries.old.list.stands ≡ true }
     ensures list { entries.new.list ≡ edited (without name.now entries.old.list.stands) entries.old.list }
     ensures room { entries.old.room ≤ entries.new.room + count_by (names name.now) entries.old.list.stands }
-    ensures kept { IsKept dues.now entries.new.list.stands }
+    ensures covered { covers dues.now entries.new.list.stands ≡ true }
 {
-    while let Some(at) = first_named(entries, name) {
-        entries.drop_out(at);
+    let named = LeasesOf {
+        name,
+        part: Part::All,
+    };
+    let mut left = count_named(entries, name);
+    while 0 < left {
+        entries.remove(&named);
+        left -= 1;
     }
 }
 
 // Takes the leases of the name out that are over.
 fn take_over(entries: &mut Entries, name: &[u8], now: u64)
-    requires closed { entries.old.list.stood ≡ None }
-    requires ordered { is_ordered entries.old.list.stands ≡ true }
+    requires { entries.old.list.stood ≡ None }
     ensures closed { entries.new.list.stood ≡ None }
     ensures rest { TakesOver name.now now entries.old.list.stands entries.new.list.stands }
 {
-    while let Some(at) = first_over(entries, name, now) {
-        entries.take(at);
-    }
+    let over = LeasesOf {
+        name,
+        part: Part::Over(now),
+    };
+    while entries.take(&over) {}
 }
 
 /// Takes the leases out that are over. What stays isn't looked at.
 pub fn purge(entries: &mut Entries, dues: &mut Dues, now: u64)
     requires closed { entries.old.list.stood ≡ None }
-    requires kept { IsKept dues.old entries.old.list.stands }
+    requires covered { covers dues.old entries.old.list.stands ≡ true }
     ensures list { entries.new.list ≡ edited (standing now entries.old.list.stands) entries.old.list }
-    ensures kept { IsKept dues.new entries.new.list.stands }
+    ensures covered { covers dues.new entries.new.list.stands ≡ true }
 {
     while let Some(name) = next_due(dues, now) {
         take_over(entries, name.bytes(), now);

@@ -4,8 +4,8 @@
 mod deadlines;
 mod dues;
 mod edits;
-mod find;
 mod leases;
+mod part;
 
 pub use leases::Leases;
 pub use std::alloc::AllocError as Memory;

@@ -7,7 +7,7 @@ use Rattle.std.proofs.lemmas.Slice.Eq.{bytes_eq-Decides}
 use Rattle.sk_resp.specs.Spelling.{Bytes}
 use Rattle.sk_leases.specs.Index.{due_cmp, is_first_over}
 use Rattle.sk_leases.specs.Lease.{Lease}
-use Rattle.sk_leases.specs.Places.{is_over}
+use Rattle.sk_leases.specs.Parts.{is_over}
 use Rattle.sk_leases.proofs.dues.next_due.Goals as goal
 
 -- only the pair that was taken out is gone

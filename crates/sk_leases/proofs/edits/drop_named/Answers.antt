@@ -1,23 +1,35 @@
-use Rattle.std.proofs.Common.{◌≡◌, ◌+◌, arith, refl, ◌∙◌, sym}
-use Rattle.std.specs.List.{count_by, remove}
-use Rattle.sk_leases.specs.Lease.{names}
-use Rattle.sk_leases.proofs.Kept.{count_one, kept_remove, steps_are, without_none, without_one}
+use Rattle.std.proofs.Common.{◌≡◌, ◌<◌, ◌∙◌, arith, ap, not, sym, true}
+use Rattle.std.specs.BTreeMap.{is_at}
+use Rattle.std.specs.List.{count_by}
+use Rattle.std.specs.Set.{remove_key}
+use Rattle.sk_leases.specs.Index.{is_due_in}
+use Rattle.sk_leases.specs.Lease.{Lease, names}
+use Rattle.sk_leases.specs.Parts.{lease_order}
+use Rattle.sk_leases.specs.declared.part.Part.TheVariants.{All}
+use Rattle.sk_leases.proofs.Kept.{all_gone, count_gone, count_same, filter_gone, steps_are, without_none}
+use Rattle.sk_leases.proofs.Order.{all_is}
 use Rattle.sk_leases.proofs.edits.drop_named.Goals as goal
 
-pub drop_out-requires-clause-room : goal.drop_out-requires-clause-room
-drop_out-requires-clause-room c = let one = count_one c.args.name.now c.in-Some.at c.loop-at.entries.list.stands c.in-Some.ensures.one in omega (arith, one, c.loop-at.invariant.fits)
-
-pub loop-at-preserved : goal.loop-at-preserved
-loop-at-preserved c =
-    let ps = c.loop-at.entries.list.stands in
-    let one : count_by (names c.args.name.now) (remove ps c.in-Some.at) + 1 ≡ count_by (names c.args.name.now) ps = count_one c.args.name.now c.in-Some.at ps c.in-Some.ensures.one in
-    rw (c.drop_out.ensures.list) (record {
-      rest = without_one c.args.name.now c.in-Some.at ps c.in-Some.ensures.one ∙ c.loop-at.invariant.rest;
-      stood = c.loop-at.invariant.stood;
-      fits = omega (arith, one, c.loop-at.invariant.fits, c.drop_out.ensures.room);
-      room = omega (arith, one, c.loop-at.invariant.room, c.drop_out.ensures.room);
-      kept = kept_remove c.args.dues.now ps c.in-Some.at c.loop-at.invariant.kept;
+pub loop-left-preserved : goal.loop-left-preserved
+loop-left-preserved c =
+    let name = c.args.name.now in
+    let ps = c.loop-left.entries.list.stands in
+    let here = is_at (lease_order name All) in
+    let same = count_same here (names name) (all_is name) ps in
+    let some : 0 < count_by here ps = omega (arith, same, c.loop-left.invariant.left, c.loop-left-test.true) in
+    let one = count_gone here ps some in
+    let left = count_same here (names name) (all_is name) (remove_key here ps) in
+    let apart = λ (p : Lease) (is : here p ≡ true). ap not (sym (all_is name p) ∙ is) in
+    rw (c.remove.ensures.list) (record {
+      rest = filter_gone here (λ p. not (names name p)) apart ps ∙ c.loop-left.invariant.rest;
+      stood = c.loop-left.invariant.stood;
+      left = omega (arith, same, one, left, c.loop-left.invariant.left);
+      fits = omega (arith, c.loop-left.invariant.fits, c.remove.ensures.room, c.loop-left-test.true);
+      room = omega (arith, c.loop-left.invariant.room, c.remove.ensures.room, c.loop-left-test.true);
+      covered = all_gone here (is_due_in c.args.dues.now) ps c.loop-left.invariant.covered;
     })
 
 pub returns-clause-list : goal.returns-clause-list
-returns-clause-list c = steps_are c.loop-at.entries.list c.args.entries.now.list _ (sym (without_none c.args.name.now c.loop-at.entries.list.stands (c.in_default.ensures.none refl)) ∙ c.loop-at.invariant.rest) c.loop-at.invariant.stood
+returns-clause-list c =
+    let none : count_by (names c.args.name.now) c.loop-left.entries.list.stands ≡ 0 = omega (arith, c.loop-left.invariant.left, c.loop-left-test.false) in
+    steps_are c.loop-left.entries.list c.args.entries.now.list _ (sym (without_none c.args.name.now c.loop-left.entries.list.stands none) ∙ c.loop-left.invariant.rest) c.loop-left.invariant.stood

@@ -1,7 +1,7 @@
 use Rattle.std.proofs.Common.{◌∙◌, sym, refl, subst}
 use Rattle.sk_resp.specs.Spelling.{Bytes}
-use Rattle.sk_leases.specs.Index.{IsKept, TakesOver}
-use Rattle.sk_leases.proofs.Kept.{kept_more, kept_taken, standing_clear, steps_are}
+use Rattle.sk_leases.specs.Index.{TakesOver}
+use Rattle.sk_leases.proofs.Kept.{covers_more, covers_taken, standing_clear, steps_are}
 use Rattle.sk_leases.proofs.edits.purge.Goals as goal
 
 pub loop-name-smaller : goal.loop-name-smaller
@@ -13,15 +13,15 @@ loop-name-preserved c =
     record {
       closed = c.take_over.ensures.closed;
       standing = rest.standing ∙ c.loop-name.invariant.standing;
-      kept = kept_taken c.in-Some.name c.args.now c.loop-name.dues c.next_due.new.dues c.loop-name.entries.list.stands c.take_over.new.entries.list.stands c.loop-name.invariant.kept rest c.in-Some.ensures.taken;
+      covered = covers_taken c.in-Some.name c.args.now c.loop-name.dues c.next_due.new.dues c.loop-name.entries.list.stands c.take_over.new.entries.list.stands c.loop-name.invariant.covered rest c.in-Some.ensures.taken;
     }
 
 pub returns-clause-list : goal.returns-clause-list
 returns-clause-list c =
     let ps = c.loop-name.entries.list.stands in
-    let kept : IsKept c.next_due.new.dues ps = kept_more c.loop-name.dues c.next_due.new.dues ps (c.in_default.ensures.same refl) c.loop-name.invariant.kept in
-    steps_are c.loop-name.entries.list c.args.entries.now.list _ (sym (standing_clear c.args.now c.next_due.new.dues ps (c.in_default.ensures.clear refl) kept.covered) ∙ c.loop-name.invariant.standing)
+    let covered = covers_more c.loop-name.dues c.next_due.new.dues ps (c.in_default.ensures.same refl) c.loop-name.invariant.covered in
+    steps_are c.loop-name.entries.list c.args.entries.now.list _ (sym (standing_clear c.args.now c.next_due.new.dues ps (c.in_default.ensures.clear refl) covered) ∙ c.loop-name.invariant.standing)
     (c.loop-name.invariant.closed ∙ sym c.requires.closed)
 
-pub returns-clause-kept : goal.returns-clause-kept
-returns-clause-kept c = kept_more c.loop-name.dues c.next_due.new.dues c.loop-name.entries.list.stands (c.in_default.ensures.same refl) c.loop-name.invariant.kept
+pub returns-clause-covered : goal.returns-clause-covered
+returns-clause-covered c = covers_more c.loop-name.dues c.next_due.new.dues c.loop-name.entries.list.stands (c.in_default.ensures.same refl) c.loop-name.invariant.covered

@@ -1,6 +1,6 @@
-use Rattle.std.proofs.Common.{◌≡◌, None}
+use Rattle.std.proofs.Common.{◌≡◌, None, true}
 use Rattle.std.specs.BTreeSet.{btree_set_len}
-use Rattle.sk_leases.specs.Index.{IsKept}
+use Rattle.sk_leases.specs.Index.{covers}
 use Rattle.sk_leases.specs.Lists.{standing}
 use Rattle.sk_leases.proofs.edits.purge.Given as goal
 
@@ -8,7 +8,7 @@ abbrev pub invariant-loop-name : goal.invariant-loop-name
 invariant-loop-name l = record {
   closed : l.entries.list.stood ≡ None;
   standing : standing l.now l.entries.list.stands ≡ standing l.now l.initial.entries.list.stands;
-  kept : IsKept l.dues l.entries.list.stands;
+  covered : covers l.dues l.entries.list.stands ≡ true;
 }
 
 abbrev pub decreases-loop-name : goal.decreases-loop-name
