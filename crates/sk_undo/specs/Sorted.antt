@@ -1,5 +1,5 @@
 -- Keys in the order of a comparison, and what is looked for among them.
-use Rattle.std.specs.Prelude.{◌≡◌, ℕ, Bool, true, false, ◌&&◌, List, [], ◌∷◌, Option, Some, None}
+use Rattle.std.specs.Prelude.{◌≡◌, ℕ, Bool, true, false, ◌&&◌, List, [], ◌∷◌, Option, Some, None, slice_get}
 use Rattle.std.specs.List.{position_or_len}
 use Rattle.std.specs.Ordering.{is_eq, is_le, is_lt}
 use Rattle.std.specs.declared.cmp.Ordering.{Ordering}
@@ -34,3 +34,7 @@ module _ {K : Type 0} (order : K → Ordering) where
   abbrev pub is_match : Option K → Bool
   is_match None = false
   is_match (Some key) = is_eq (order key)
+
+  -- A key matches. The first that does stands at the rank.
+  abbrev pub is_found : List K → Bool
+  is_found keys = is_match (slice_get keys (rank keys))

@@ -3,7 +3,7 @@ ghost use Rattle.std.specs.Prelude.{◌≡◌, ◌<◌, ◌≤◌, true, IfSome,
 ghost use Rattle.std.specs.Option.{is_some};
 ghost use Rattle.std.specs.Ordering.{is_le, is_lt};
 ghost use Rattle.sk_undo.specs.Entries.{keys_in};
-ghost use Rattle.sk_undo.specs.Sorted.{is_match, is_ordered, rank, rank_past};
+ghost use Rattle.sk_undo.specs.Sorted.{is_found, is_match, is_ordered, rank, rank_past};
 
 use crate::{Query, Test, UndoList};
 
@@ -75,7 +75,7 @@ pub fn find<K: Ord + Drop, V: Drop, Q: Query<K>>(
     query: &Q,
 ) -> Option<usize>
     requires { is_ordered K.cmp (keys_in entries.now.list.stands) ≡ true }
-    ensures there { is_some result ≡ is_match (Q.order query.now) (slice_get (keys_in entries.now.list.stands) (rank (Q.order query.now) (keys_in entries.now.list.stands))) }
+    ensures there { is_some result ≡ is_found (Q.order query.now) (keys_in entries.now.list.stands) }
     ensures place { IfSome result (λ at. at ≡ rank (Q.order query.now) (keys_in entries.now.list.stands)) }
     ensures within { IfSome result (λ at. at < length entries.now.list.stands) }
 {

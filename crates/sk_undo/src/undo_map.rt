@@ -1,11 +1,10 @@
 // A map in the order of its keys, whose edits in an open step can be taken back. Memory is taken by `reserve` alone.
 ghost use Rattle.std.specs.Prelude.{◌≡◌, ◌+◌, ◌<◌, ◌≤◌, [], not, true, IsSome, None, OnOk, Some, length, option_map, slice_get};
 ghost use Rattle.std.specs.BTreeMap.{insert_entry, is_at};
-ghost use Rattle.std.specs.List.{insert};
 ghost use Rattle.std.specs.Map.{keys_of, lookup, remove_entry};
 ghost use Rattle.std.specs.Option.{is_some};
 ghost use Rattle.sk_undo.specs.Balance.{most};
-ghost use Rattle.sk_undo.specs.Entries.{keys_in, with_entry};
+ghost use Rattle.sk_undo.specs.Entries.{keys_in, with_entry, with_new};
 ghost use Rattle.sk_undo.specs.Sorted.{is_ordered, is_sorted, rank, rank_past};
 ghost use Rattle.sk_undo.specs.Steps.{begun, closed, committed, edited, undone};
 
@@ -42,7 +41,7 @@ impl<K: Ord, V> Model for UndoMap<K, V> {
 fn put_new<K: Ord + Drop, V: Drop>(entries: &mut UndoList<V, K>, key: K, value: V)
     requires room { 0 < entries.old.room }
     requires ordered { is_ordered K.cmp (keys_in entries.old.list.stands) ≡ true }
-    ensures list { entries.new.list ≡ edited (insert entries.old.list.stands (rank (K.cmp key) (keys_in entries.old.list.stands)) (value, key)) entries.old.list }
+    ensures list { entries.new.list ≡ edited (with_new K.cmp entries.old.list.stands key value) entries.old.list }
     ensures room { entries.old.room ≤ entries.new.room + 1 }
 {
     let at = rank(entries, &key);
