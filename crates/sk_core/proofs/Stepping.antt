@@ -15,12 +15,12 @@ use Rattle.sk_value.specs.Action.{action_of}
 use Rattle.sk_value.specs.declared.action.Action.{Action}
 use Rattle.sk_value.specs.declared.action.Action.TheVariants as action
 use Rattle.sk_value.specs.declared.edit.Edit.TheVariants as edit
-use Rattle.sk_model.specs.declared.key_class.KeyClass.{KeyClass}
-use Rattle.sk_model.specs.declared.key_class.KeyClass.TheVariants as class
-use Rattle.sk_model.specs.declared.phase.Phase.{Phase}
-use Rattle.sk_model.specs.declared.phase.Phase.TheVariants.{Plain, Idle, Held, Put, Settled}
+use Rattle.sk_key.specs.declared.key_class.KeyClass.{KeyClass}
+use Rattle.sk_key.specs.declared.key_class.KeyClass.TheVariants as class
+use Rattle.sk_seats.specs.declared.phase.Phase.{Phase}
+use Rattle.sk_seats.specs.declared.phase.Phase.TheVariants.{Plain, Idle, Held, Put, Settled}
 use Rattle.sk_model.specs.Change.{Passes, passed, changed}
-use Rattle.sk_model.specs.Class.{class_of, ident_of, is_private, private_key}
+use Rattle.sk_key.specs.Class.{class_of, ident_of, is_private, private_key}
 use Rattle.sk_model.specs.Life.{IsSound}
 use Rattle.sk_model.specs.Outcome.{Comes, Outcome, tells}
 use Rattle.sk_model.specs.Seats.{is_release, is_workers, releases, works_on}
@@ -28,7 +28,7 @@ use Rattle.sk_model.specs.Step.{Steps, act, at_moment, by_seat, is_script_built,
 use Rattle.sk_model.specs.Workers.{work}
 use Rattle.sk_model.specs.World.{World, phase_of}
 use Rattle.sk_model.proofs.Commands.{step_sound}
-use Rattle.sk_keyspace.proofs.Coming.{if_ok}
+use Rattle.sk_model.proofs.Coming.{if_ok}
 
 -- ## Every action
 

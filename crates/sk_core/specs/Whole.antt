@@ -2,7 +2,7 @@
 use Rattle.std.specs.Prelude.{◌≤◌}
 use Rattle.sk_base.specs.Score.{last_moment}
 use Rattle.sk_model.specs.World.{World}
-use Rattle.sk_scripts.specs.Stocked.{IsClosed}
+use Rattle.sk_jobs.specs.Stocked.{IsClosed}
 use Rattle.sk_core.specs.declared.parts.Parts.TheInside.{Inside}
 
 abbrev pub world_in : Inside → World

@@ -11,22 +11,22 @@ ghost use Rattle.sk_model.specs.Status.{numbers};
 ghost use Rattle.sk_model.specs.Step.{Steps, act, by_seat, cut, plain_outcome, run, script_outcome, starves};
 ghost use Rattle.sk_model.specs.Workers.{work};
 ghost use Rattle.sk_model.specs.World.{first, phase_of};
-ghost use Rattle.sk_scripts.specs.Counting.{tally_of};
+ghost use Rattle.sk_jobs.specs.Counting.{tally_of};
 
 use crate::built::is_script_built;
 use crate::rights::{adds, is_plain, is_workers};
 use sk_cmd::{Command, PlainCommand, ScriptCommand};
-use sk_keys::Keys;
-use sk_keyspace::{delete, edit, exists, expire, flush, look, move_text, refused, set};
-use sk_model::{Limits, Phase};
-use sk_resp::{Memory, Refusal, Reply, Say};
-use sk_scripts::{
+use sk_jobs::{
     BatchWords, SetScript, Stock, add_to_batch, back, batch_stat, beat, bury, discard, fail, join,
     locate, numbers, push_batch, send, start, status_page, succeed, tally, work,
 };
-use sk_seats::Seats;
+use sk_keys::Keys;
+use sk_keyspace::{delete, edit, exists, expire, flush, look, move_text, set};
+use sk_model::Limits;
+use sk_resp::{Memory, Refusal, Reply, Say};
+use sk_seats::{Phase, Seats};
 use sk_status::{Numbers, Tally};
-use sk_value::{Action, action_of};
+use sk_value::{Action, action_of, refused};
 use std::alloc::Global;
 use std::marker::Model;
 

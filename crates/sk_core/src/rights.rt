@@ -1,13 +1,13 @@
 // Which seat may send which command. Nothing here takes memory.
 ghost use Rattle.std.specs.Prelude.{◌≡◌};
-ghost use Rattle.sk_model.specs.Class.{class_of, is_private};
-ghost use Rattle.sk_model.specs.Phases.{is_plain};
+ghost use Rattle.sk_key.specs.Class.{class_of, is_private};
+ghost use Rattle.sk_seats.specs.Phases.{is_plain};
 ghost use Rattle.sk_model.specs.Seats.{adds, adds_on, is_workers, works_on};
-ghost use Rattle.sk_model.specs.declared.key_class.KeyClass.TheVariants as KeyClass;
+ghost use Rattle.sk_key.specs.declared.key_class.KeyClass.TheVariants as KeyClass;
 
 use sk_cmd::Scored;
-use sk_keyspace::class_of;
-use sk_model::{KeyClass, Phase};
+use sk_key::{KeyClass, class_of};
+use sk_seats::Phase;
 use sk_value::{Action, Edit};
 
 /// Whether the seat is no worker's.

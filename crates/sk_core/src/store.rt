@@ -5,12 +5,13 @@ ghost use Rattle.sk_model.specs.Outcome.{Comes, Outcome};
 ghost use Rattle.sk_model.specs.Status.{numbers};
 ghost use Rattle.sk_model.specs.Step.{Steps, cut};
 ghost use Rattle.sk_model.specs.World.{first, phase_of};
-ghost use Rattle.sk_scripts.specs.Counting.{tally_of};
+ghost use Rattle.sk_jobs.specs.Counting.{tally_of};
 
 use crate::parts::Parts;
 use sk_cmd::Command;
-use sk_model::{Limits, Phase};
+use sk_model::Limits;
 use sk_resp::{Memory, Reply};
+use sk_seats::Phase;
 use sk_status::{Numbers, Tally};
 use std::alloc::Global;
 use std::marker::Model;

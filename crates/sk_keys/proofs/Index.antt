@@ -10,7 +10,7 @@ use Rattle.std.specs.BTreeSet.{BTreeSet}
 use Rattle.std.proofs.lemmas.Map.Lookups.{exact_bytes}
 use Rattle.sk_resp.specs.Spelling.{Bytes}
 use Rattle.sk_value.specs.declared.entry.Entry.{Entry}
-use Rattle.sk_value.specs.Order.{text_cmp}
+use Rattle.sk_resp.specs.WordOrder.{text_cmp}
 use Rattle.sk_value.specs.Keys.{Keys, at}
 use Rattle.sk_keys.specs.Index.{Due, due_cmp, has, is_moment, goes_at, HasDue, SetsDue, AddsDue, DropsDue, IsIndexed}
 

@@ -24,7 +24,7 @@ use Rattle.sk_value.specs.declared.value.Value.TheVariants as value
 use Rattle.sk_resp.specs.declared.reply.Reply.TheVariants as reply
 use Rattle.sk_value.specs.Answer.{text_or_null}
 use Rattle.sk_value.specs.Apply.{answers, deadline_at, list_at, move_keys, put_list}
-use Rattle.sk_value.specs.Order.{text_cmp}
+use Rattle.sk_resp.specs.WordOrder.{text_cmp}
 use Rattle.sk_value.specs.Keys.{Keys, at, put, without}
 use Rattle.sk_value.specs.Lists.{first_and_rest, push_one, read_from, take_one, end_of}
 use Rattle.sk_value.proofs.Ends.{taken, reverse_of_cons, reverse_of_push}

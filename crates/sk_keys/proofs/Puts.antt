@@ -11,7 +11,7 @@ use Rattle.std.proofs.lemmas.Map.Entries.{none_below_head}
 use Rattle.std.proofs.lemmas.Cmp.{nat_list_cmp_total}
 use Rattle.sk_resp.specs.Spelling.{Bytes}
 use Rattle.sk_value.specs.declared.entry.Entry.{Entry}
-use Rattle.sk_value.specs.Order.{text_cmp}
+use Rattle.sk_resp.specs.WordOrder.{text_cmp}
 use Rattle.sk_value.specs.Keys.{Keys, at, put, without}
 
 pub lookup_absent : (name : Bytes) (key : Bytes × Entry) (keys : Keys) → IsStrictlySortedBy text_cmp (keys_of (key ∷ keys)) → text_cmp name key.0 ≡ Less → at name (key ∷ keys) ≡ None

@@ -8,7 +8,7 @@ ghost use Rattle.sk_value.specs.Answer.{Gives, text_or_null};
 ghost use Rattle.sk_value.specs.Apply.{list_at, move_keys};
 ghost use Rattle.sk_value.specs.Keys.{at};
 ghost use Rattle.sk_value.specs.Lists.{end_of, push_one, take_one};
-ghost use Rattle.sk_value.specs.Order.{text_cmp};
+ghost use Rattle.sk_resp.specs.WordOrder.{text_cmp};
 ghost use Rattle.sk_keys.specs.Index.{IsIndexed};
 ghost use Rattle.sk_keys.specs.Moves.{push_at, take_at, turned};
 

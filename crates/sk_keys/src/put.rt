@@ -1,7 +1,7 @@
 // Putting a key, whatever stood there, with the pair of the index that its deadline asks for.
 ghost use Rattle.std.specs.Prelude.{◌≡◌, None, OnErr, OnOk};
 ghost use Rattle.std.specs.BTreeMap.{IsOrdered};
-ghost use Rattle.sk_value.specs.Order.{text_cmp};
+ghost use Rattle.sk_resp.specs.WordOrder.{text_cmp};
 ghost use Rattle.sk_value.specs.Keys.{at, put};
 ghost use Rattle.sk_keys.specs.Index.{IsIndexed};
 

@@ -19,49 +19,25 @@ use Rattle.sk_value.specs.Answer.{Answer, Gives}
 use Rattle.sk_value.specs.declared.entry.Entry.{Entry}
 use Rattle.sk_value.specs.Keys.{Keys, how_many}
 use Rattle.sk_value.specs.Values.{look_at}
-use Rattle.sk_model.specs.declared.key_class.KeyClass.TheVariants as class
+use Rattle.sk_key.specs.declared.key_class.KeyClass.TheVariants as class
 use Rattle.sk_places.specs.declared.row.Place.TheVariants.{Private, Queue, Set}
 use Rattle.sk_places.specs.Rows.{pair_of, rows_at, texts_at}
 use Rattle.sk_places.specs.Placed.{Placed}
 use Rattle.sk_model.specs.declared.limits.Limits.{Limits}
 use Rattle.sk_counters.specs.Counters.{Counters, count_in}
 use Rattle.sk_leases.specs.Leased.{Leased, idents}
-use Rattle.sk_model.specs.Phases.{Phases}
+use Rattle.sk_seats.specs.Phases.{Phases}
 use Rattle.sk_model.specs.World.{World}
-use Rattle.sk_model.specs.Class.{class_by, class_of, counter_of, ident_of, is_queue, queue_of, set_of}
+use Rattle.sk_key.specs.Class.{class_by, class_of, counter_of, ident_of, is_queue, queue_of, set_of}
 use Rattle.sk_model.specs.Held.{count_entry, if_any, held, held_as}
 use Rattle.sk_model.specs.Outcome.{Comes, reply_of}
 use Rattle.sk_model.specs.Queues.{move}
 use Rattle.sk_model.specs.Sets.{edit_jobs}
 use Rattle.sk_model.specs.Step.{on_keys, edit_queue, edit_names, edits, moves}
-use Rattle.sk_keyspace.specs.Whole.{with_places, with_pushed, with_told, world_at, world_pushed}
-use Rattle.sk_keyspace.proofs.Coming.{if_ok}
+use Rattle.sk_keyspace.specs.Whole.{with_places, with_told, world_at, world_pushed}
+use Rattle.sk_model.specs.Room.{with_pushed}
+use Rattle.sk_model.proofs.Coming.{if_ok}
 use Rattle.sk_keyspace.proofs.Deleting.{one_if}
-
--- ## Names
-
--- a name is UTF-8 text
-pub name_is_text : (name : Bytes) → is_name 255 name ≡ true → IsUtf8 name
-name_is_text name h = ((is_name-Decides 255 name).0 h).utf8
-
--- a queue's key has a name behind `queue:`
-named_if : (a b c d e f g : Bool) (set : Option Scored)
-    → is_queue (cond a (cond b class.Queue class.NoQueue) (cond c (cond d class.Private class.NoPrivate) (cond e class.Queues (cond f class.Processes (cond g class.Counter (class_by set)))))) ≡ true → b ≡ true
-named_if true true c d e f g set h = refl
-named_if true false c d e f g set h = absurd (cc h)
-named_if false b true true e f g set h = absurd (cc h)
-named_if false b true false e f g set h = absurd (cc h)
-named_if false b false d true f g set h = absurd (cc h)
-named_if false b false d false true g set h = absurd (cc h)
-named_if false b false d false false true set h = absurd (cc h)
-named_if false b false d false false false None h = absurd (cc h)
-named_if false b false d false false false (Some set) h = absurd (cc h)
-
-pub queue_is_named : (key : Bytes) → is_queue (class_of key) ≡ true → is_name 255 (queue_of key) ≡ true
-unfolding class_of
-queue_is_named key h =
-    named_if (starts_with nat_eq key (codes "queue:")) (is_name 255 (queue_of key)) (starts_with nat_eq key (codes "sq:")) (is_name 255 (ident_of key))
-    (bytes_eq key (codes "queues")) (bytes_eq key (codes "processes")) (starts_with nat_eq key (codes "stat:")) (set_of key) h
 
 -- ## Reading
 

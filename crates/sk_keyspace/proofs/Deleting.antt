@@ -13,10 +13,10 @@ use Rattle.sk_places.specs.declared.row.Row.{Row}
 use Rattle.sk_places.specs.Rows.{rows_at}
 use Rattle.sk_lives.specs.declared.ending.Ending.TheVariants.{Deleted}
 use Rattle.sk_places.specs.Placed.{Placed, ended_row, ended_rows, without_name}
-use Rattle.sk_model.specs.declared.key_class.KeyClass.TheVariants as class
+use Rattle.sk_key.specs.declared.key_class.KeyClass.TheVariants as class
 use Rattle.sk_model.specs.World.{World}
 use Rattle.sk_model.specs.Change.{Keeps, Unnames, changed, perform}
-use Rattle.sk_model.specs.Class.{class_of, queue_of}
+use Rattle.sk_key.specs.Class.{class_of, queue_of}
 use Rattle.sk_model.specs.Deletes.{delete_as, delete_each, flush, take_all}
 use Rattle.sk_model.specs.Outcome.{Comes}
 use Rattle.sk_model.proofs.Good.{perform-append}

@@ -26,18 +26,18 @@ use Rattle.sk_lives.specs.declared.origin.Origin.{Origin}
 use Rattle.sk_lives.specs.declared.origin.Origin.TheVariants.{Outside}
 use Rattle.sk_lives.specs.declared.totals.Totals.{Totals}
 use Rattle.sk_places.specs.Placed.{Placed, added, ended_copies, ended_row, ended_rows, moved_if, pushed_to, with_name}
-use Rattle.sk_model.specs.Phases.{Phases, some_has}
+use Rattle.sk_seats.specs.Phases.{Phases, some_has}
 use Rattle.sk_seats.specs.Held.{held_by, is_held}
 use Rattle.sk_model.specs.declared.limits.Limits.{Limits}
 use Rattle.sk_model.specs.World.{World}
 use Rattle.sk_model.specs.Change.{Add, Moves, Names, changed, perform}
 use Rattle.sk_model.specs.Outcome.{Comes, refuses}
 use Rattle.sk_model.specs.Queues.{push, pushes, length_at, takes, remove, move, move_row, add_names}
-use Rattle.sk_model.specs.Room.{is_full}
+use Rattle.sk_model.specs.Room.{is_full, with_pushed}
 use Rattle.sk_keyspace.proofs.Classes.{with_limits}
 use Rattle.sk_keyspace.proofs.Deleting.{taken_world}
 use Rattle.sk_keyspace.specs.Edits.{all_pushed, all_named}
-use Rattle.sk_keyspace.specs.Whole.{with_places, with_pushed}
+use Rattle.sk_keyspace.specs.Whole.{with_places}
 
 -- ## Pushes
 

@@ -4,7 +4,7 @@ use Rattle.sk_resp.specs.Spelling.{Bytes}
 use Rattle.sk_cmd.specs.declared.argument.Side.{Side}
 use Rattle.sk_lives.specs.declared.ending.Ending.TheVariants.{Deleted}
 use Rattle.sk_lives.specs.declared.origin.Origin.TheVariants.{Outside}
-use Rattle.sk_model.specs.Phases.{Phases}
+use Rattle.sk_seats.specs.Phases.{Phases}
 use Rattle.sk_places.specs.declared.row.Place.{Place}
 use Rattle.sk_places.specs.declared.row.Place.TheVariants.{Queue}
 use Rattle.sk_places.specs.Rows.{row_at, rows_at}

@@ -5,16 +5,12 @@ use Rattle.sk_leases.specs.Leased.{Leased}
 use Rattle.sk_value.specs.Keys.{Keys}
 use Rattle.sk_places.specs.Placed.{Placed}
 use Rattle.sk_model.specs.declared.limits.Limits.{Limits}
-use Rattle.sk_model.specs.Phases.{Phases}
+use Rattle.sk_seats.specs.Phases.{Phases}
 use Rattle.sk_model.specs.World.{World}
 
 -- a world with these rows and names, and the jobs that are live
 abbrev pub with_places : World → Placed → World
 with_places w p = record w { rows = p.rows; names = p.names; live = p.lives.live; tally = p.lives.totals }
-
--- the same, with these limits, and seats that do this
-abbrev pub with_pushed : World → Limits → Phases → Placed → World
-with_pushed w limits phases p = record w { limits = limits; rows = p.rows; names = p.names; live = p.lives.live; tally = p.lives.totals; phases = phases }
 
 -- a world at a moment, with these rows and names and these plain keys
 abbrev pub world_at : World → ℕ → Placed → Keys → World

@@ -2,7 +2,7 @@
 ghost use Rattle.std.specs.Prelude.{◌≡◌, ◌<◌, ◌^◌, ℕ, None, cond, length, nat_lt};
 ghost use Rattle.std.specs.List.{list_all};
 ghost use Rattle.sk_model.specs.Change.{perform};
-ghost use Rattle.sk_model.specs.Class.{class_of};
+ghost use Rattle.sk_key.specs.Class.{class_of};
 ghost use Rattle.sk_model.specs.Deletes.{delete, delete_as, delete_each, flush, may_go};
 ghost use Rattle.sk_model.specs.Outcome.{Comes};
 ghost use Rattle.sk_model.specs.World.{World};
@@ -12,10 +12,9 @@ ghost use Rattle.sk_places.specs.Rows.{rows_at};
 ghost use Rattle.sk_keyspace.specs.Edits.{without_queue};
 ghost use Rattle.sk_keyspace.specs.Whole.{world_at};
 
-use crate::key_class::{class_of, queue_of};
 use crate::plain::managed_key;
+use sk_key::{KeyClass, class_of, queue_of};
 use sk_keys::Keys;
-use sk_model::KeyClass;
 use sk_places::{Place, Places};
 use sk_resp::{Reply, Say, Text, Word, Words};
 use sk_value::counted;

@@ -1,22 +1,23 @@
 // The commands that edit what one key holds: a plain key, a queue, a set of jobs, or the set of the queues' names. Edits of a private list, of the
 // set of processes and of a counter are refused.
 ghost use Rattle.std.specs.Prelude.{◌≡◌, None, IfOk, OnErr};
-ghost use Rattle.sk_model.specs.Class.{class_of};
+ghost use Rattle.sk_key.specs.Class.{class_of};
 ghost use Rattle.sk_model.specs.Outcome.{Comes};
 ghost use Rattle.sk_model.specs.Sets.{edit_jobs};
 ghost use Rattle.sk_model.specs.Step.{edit_names, edit_queue, edits};
 ghost use Rattle.sk_model.specs.World.{World};
-ghost use Rattle.sk_keyspace.specs.Whole.{with_places, with_pushed, world_pushed};
+ghost use Rattle.sk_keyspace.specs.Whole.{with_places, world_pushed};
+ghost use Rattle.sk_model.specs.Room.{with_pushed};
 
-use crate::key_class::{class_of, queue_of};
 use crate::names::add_names;
 use crate::plain::{do_on_keys, managed_key};
 use crate::pushes::push;
 use crate::removals::remove;
 use crate::sets::{add_to, remove_members, remove_range, remove_scores};
 use sk_cmd::Scored;
+use sk_key::{KeyClass, class_of, queue_of};
 use sk_keys::Keys;
-use sk_model::{KeyClass, Limits};
+use sk_model::Limits;
 use sk_places::Places;
 use sk_resp::{Memory, Reply, Text, Word};
 use sk_seats::Seats;

@@ -2,7 +2,7 @@
 // counter.
 ghost use Rattle.std.specs.Prelude.{◌≡◌, ◌<◌, ◌^◌, ℕ, List, IfOk, length, map, drop, option_map, slice_get, take, Some};
 ghost use Rattle.std.specs.Option.{is_some};
-ghost use Rattle.sk_model.specs.Class.{counter_of};
+ghost use Rattle.sk_key.specs.Class.{counter_of};
 ghost use Rattle.sk_model.specs.Held.{count_entry, held, if_any};
 ghost use Rattle.sk_model.specs.Outcome.{reply_of};
 ghost use Rattle.sk_model.specs.World.{World};
@@ -14,25 +14,24 @@ ghost use Rattle.sk_value.specs.Answer.{Gives, counted, texts};
 ghost use Rattle.sk_counters.specs.Counters.{count_in};
 ghost use Rattle.sk_leases.specs.Leased.{idents};
 ghost use Rattle.sk_value.specs.Lists.{range_of};
-ghost use Rattle.sk_value.specs.Sets.{is_member};
+ghost use Rattle.sk_resp.specs.WordOrder.{is_member};
 ghost use Rattle.sk_value.specs.Values.{look_at};
 ghost use Rattle.sk_places.specs.declared.row.Place.TheVariants.{Set};
 ghost use Rattle.sk_places.specs.Rows.{pair_of, rows_at, texts_at};
 ghost use Rattle.sk_keyspace.specs.Whole.{with_told, world_at};
 
 use crate::jobs::Jobs;
-use crate::key_class::{class_of, counter_of, ident_of, queue_of};
 use crate::plain::answered;
 use sk_cmd::Scored;
 use sk_counters::Counters;
+use sk_key::{KeyClass, class_of, counter_of, ident_of, queue_of};
 use sk_keys::Keys;
 use sk_leases::Leases;
-use sk_model::KeyClass;
 use sk_places::{Place, Places};
 use sk_resp::{Kind, Memory, Replies, Reply, Say, Word, Words};
 use sk_value::{
-    Action, Entry, KeysFault, Look, Pairs, Value, counted, end_index, first_index, look_sorted,
-    one_if,
+    Action, Entry, KeysFault, Look, Pairs, Value, as_reply, counted, end_index, first_index,
+    look_sorted, one_if,
 };
 use std::alloc::Global;
 
@@ -51,17 +50,6 @@ fn range(
     let end = end_index(last, count);
     let part = places.texts(alloc, place, start, end)?;
     as_reply(alloc, part)
-}
-
-/// Texts as a reply.
-pub fn as_reply(alloc: Global, list: Vec<Word>) -> Result<Reply, Memory>
-    ensures { IfOk result (λ reply. reply ≡ texts list.items) }
-{
-    let mut replies = Vec::with_capacity(alloc, list.len())?;
-    for text in list {
-        replies.push(Reply::Bulk(text))?;
-    }
-    Ok(Reply::Array(Replies::new(replies)))
 }
 
 // What a command that reads a key answers of a queue's jobs, of which there is one at least.

@@ -1,19 +1,18 @@
 // LMOVE source destination LEFT|RIGHT LEFT|RIGHT (Redis, "LMOVE")
 ghost use Rattle.std.specs.Prelude.{◌≡◌, IfOk, OnErr};
 ghost use Rattle.sk_places.specs.declared.row.Place.TheVariants.{Queue};
-ghost use Rattle.sk_model.specs.Class.{class_of};
+ghost use Rattle.sk_key.specs.Class.{class_of};
 ghost use Rattle.sk_model.specs.Outcome.{Comes};
 ghost use Rattle.sk_model.specs.Queues.{move};
 ghost use Rattle.sk_model.specs.Step.{moves};
 ghost use Rattle.sk_model.specs.World.{World};
 ghost use Rattle.sk_keyspace.specs.Whole.{with_places, world_at};
 
-use crate::key_class::{class_of, queue_of};
 use crate::plain::{do_on_keys, managed_key};
 use sk_base::Score;
 use sk_cmd::Side;
+use sk_key::{KeyClass, class_of, queue_of};
 use sk_keys::Keys;
-use sk_model::KeyClass;
 use sk_places::{Place, Places};
 use sk_resp::{Memory, Reply, Text, Word};
 use sk_value::Action;

@@ -10,8 +10,8 @@ ghost use Rattle.sk_keyspace.specs.Edits.{all_named};
 ghost use Rattle.sk_keyspace.specs.Whole.{with_places};
 
 use crate::closing::close;
-use crate::key_class::{is_name, name_text};
 use crate::plain::managed_key;
+use sk_key::{is_name, name_text};
 use sk_places::Places;
 use sk_resp::{Memory, Reply, Word, Words};
 use sk_value::counted;

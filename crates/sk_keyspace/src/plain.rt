@@ -1,6 +1,6 @@
 // The commands on keys of the clients' own, and what is refused on others.
 ghost use Rattle.std.specs.Prelude.{◌≡◌, ◌≢◌, ℕ, IfOk, IfErr, IsErr, OnErr, OnOk};
-ghost use Rattle.sk_model.specs.Class.{class_of};
+ghost use Rattle.sk_key.specs.Class.{class_of};
 ghost use Rattle.sk_model.specs.Outcome.{Comes, reply_of};
 ghost use Rattle.sk_model.specs.Step.{on_keys, on_plain};
 ghost use Rattle.sk_model.specs.World.{World};
@@ -8,19 +8,11 @@ ghost use Rattle.sk_value.specs.Answer.{Answer, Gives, fault_say};
 ghost use Rattle.sk_places.specs.Placed.{Placed};
 ghost use Rattle.sk_keyspace.specs.Whole.{world_at};
 
-use crate::key_class::class_of;
 use sk_cmd::SetOptions;
+use sk_key::{KeyClass, class_of};
 use sk_keys::Keys;
-use sk_model::KeyClass;
 use sk_resp::{Memory, Refusal, Reply, Say, Word};
-use sk_value::{Action, KeysFault};
-
-/// A refusal as a reply.
-pub fn refused(refusal: Refusal) -> Reply
-    ensures { result ≡ Reply.Say (Say.Refused refusal) }
-{
-    Reply::Say(Say::Refused(refusal))
-}
+use sk_value::{Action, KeysFault, refused};
 
 /// The refusal of a write on a managed key.
 pub fn managed_key() -> Reply

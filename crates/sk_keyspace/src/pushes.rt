@@ -6,32 +6,19 @@ ghost use Rattle.sk_model.specs.Outcome.{Comes};
 ghost use Rattle.sk_model.specs.Queues.{push};
 ghost use Rattle.sk_model.specs.World.{World};
 ghost use Rattle.sk_keyspace.specs.Edits.{all_pushed};
-ghost use Rattle.sk_keyspace.specs.Whole.{with_pushed};
+ghost use Rattle.sk_model.specs.Room.{with_pushed};
 
 use crate::closing::close;
-use crate::plain::refused;
-use crate::room::{bytes_of, is_full};
 use sk_base::Score;
 use sk_cmd::Side;
 use sk_lives::Origin;
-use sk_model::Limits;
-use sk_payload::Payload;
+use sk_model::{Limits, bytes_of, is_full};
+use sk_payload::{Payload, payloads_of};
 use sk_places::{Place, Places};
 use sk_resp::{Memory, Refusal, Reply, Text, Word, Words};
 use sk_seats::Seats;
-use sk_value::counted;
+use sk_value::{counted, refused};
 use std::alloc::Global;
-
-/// The texts as payloads. Each text is parsed here, once.
-pub fn payloads_of(alloc: Global, texts: Vec<Word>) -> Result<Vec<Payload>, Memory>
-    ensures { IfOk result (λ payloads. payloads.items ≡ texts.items) }
-{
-    let mut payloads = Vec::with_capacity(alloc, texts.len())?;
-    for text in texts {
-        payloads.push(Payload::of(alloc, text)?)?;
-    }
-    Ok(payloads)
-}
 
 // Puts each payload in turn at that end of the queue. After want of memory some of them stand.
 fn push_each(

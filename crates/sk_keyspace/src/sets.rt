@@ -6,20 +6,20 @@ ghost use Rattle.sk_model.specs.Sets.{add, add_each, add_one, add_to, edit_jobs}
 ghost use Rattle.sk_model.specs.World.{World};
 ghost use Rattle.sk_model.specs.declared.limits.Limits.{Limits};
 ghost use Rattle.sk_value.specs.declared.edit.Edit.TheVariants as Edit;
-ghost use Rattle.sk_keyspace.specs.Whole.{with_places, with_pushed};
+ghost use Rattle.sk_keyspace.specs.Whole.{with_places};
+ghost use Rattle.sk_model.specs.Room.{with_pushed};
 
 use crate::closing::close;
-use crate::plain::{managed_key, refused};
-use crate::room::{bytes_scored, is_full};
+use crate::plain::managed_key;
 use sk_base::{Bound, Score};
 use sk_cmd::{Scored, Scores, Side};
 use sk_lives::Origin;
-use sk_model::Limits;
+use sk_model::{Limits, bytes_scored, is_full};
 use sk_payload::Payload;
 use sk_places::{Place, Places};
 use sk_resp::{Memory, Refusal, Reply, Word, Words};
 use sk_seats::Seats;
-use sk_value::{counted, end_index, first_index};
+use sk_value::{counted, end_index, first_index, refused};
 use std::alloc::Global;
 
 // Gives the text its score in the set. A text that is there is moved, and isn't parsed again.

@@ -5,8 +5,7 @@ use Rattle.std.specs.Ordering.{is_le}
 use Rattle.std.specs.BTreeMap.{is_at}
 use Rattle.std.proofs.lemmas.List.Sums.{sum_by-cons}
 use Rattle.sk_resp.specs.Spelling.{Bytes}
-use Rattle.sk_value.specs.Order.{text_cmp}
-use Rattle.sk_value.specs.Sets.{is_member}
+use Rattle.sk_resp.specs.WordOrder.{text_cmp, is_member}
 use Rattle.sk_lives.specs.Bag.{count_in, put_word, take_word}
 use Rattle.sk_lives.specs.Lives.{one_if}
 use Rattle.sk_lives.specs.Words.{is_from, is_ordered, is_past, without_word, words_of}

@@ -4,7 +4,7 @@ use Rattle.std.specs.Ordering.{is_eq, is_lt, is_le}
 use Rattle.std.proofs.lemmas.Bool.Decides.{nat_tests}
 use Rattle.std.proofs.lemmas.Cmp.{nat_list_cmp_total}
 use Rattle.sk_resp.specs.Spelling.{Bytes}
-use Rattle.sk_value.specs.Order.{text_cmp}
+use Rattle.sk_resp.specs.WordOrder.{text_cmp}
 
 pub same_word : (xs ys : Bytes) → is_eq (text_cmp xs ys) ≡ true → xs ≡ ys
 same_word [] [] h = refl

@@ -4,8 +4,7 @@ use Rattle.std.specs.List.{insert, remove, position_or_len}
 use Rattle.std.specs.Ordering.{is_eq}
 use Rattle.sk_resp.specs.Spelling.{Bytes}
 use Rattle.sk_undo.specs.Rises.{all_pass, rises}
-use Rattle.sk_value.specs.Order.{text_cmp}
-use Rattle.sk_value.specs.Sets.{is_member}
+use Rattle.sk_resp.specs.WordOrder.{text_cmp, is_member}
 use Rattle.sk_lives.specs.Words.{is_from, is_here, is_ordered, is_past, is_sorted, with_word, without_word, words_of}
 use Rattle.sk_lives.proofs.Entries.{map_insert, map_remove}
 use Rattle.sk_lives.proofs.Order.{gt_back, le_back, le_lt, le_trans, lt_is_le, lt_le}

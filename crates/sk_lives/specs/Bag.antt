@@ -6,7 +6,7 @@ use Rattle.std.specs.List.{count_by}
 use Rattle.sk_resp.specs.Spelling.{Bytes}
 use Rattle.sk_undo.specs.Kept.{Kept}
 use Rattle.sk_undo.specs.Steps.{Steps}
-use Rattle.sk_value.specs.Order.{text_cmp}
+use Rattle.sk_resp.specs.WordOrder.{text_cmp}
 use Rattle.sk_lives.specs.Words.{is_ordered, words_in}
 
 -- the words with their step, and how many further edits can't fail

@@ -7,7 +7,7 @@ use Rattle.std.specs.Set.{remove_key}
 use Rattle.sk_resp.specs.Spelling.{Bytes}
 use Rattle.sk_payload.specs.Head.{head}
 use Rattle.sk_undo.specs.Steps.{Steps}
-use Rattle.sk_value.specs.Order.{text_cmp}
+use Rattle.sk_resp.specs.WordOrder.{text_cmp}
 use Rattle.sk_lives.specs.declared.ending.Ending.{Ending}
 use Rattle.sk_lives.specs.declared.ending.Ending.TheVariants.{Muddled}
 use Rattle.sk_lives.specs.declared.origin.Origin.{Origin}

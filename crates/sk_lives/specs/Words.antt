@@ -7,7 +7,7 @@ use Rattle.std.specs.Set.{remove_key}
 use Rattle.sk_resp.specs.Spelling.{Bytes}
 use Rattle.sk_undo.specs.Rises.{all_pass}
 use Rattle.sk_undo.specs.Steps.{Steps}
-use Rattle.sk_value.specs.Order.{text_cmp}
+use Rattle.sk_resp.specs.WordOrder.{text_cmp}
 
 abbrev pub words_of : List (Bytes × Unit {0}) → List Bytes
 words_of entries = map (λ e. e.0) entries

@@ -2,7 +2,7 @@
 ghost use Rattle.std.specs.Prelude.{◌≡◌, ◌<◌, ◌≤◌, true, IfSome, length, slice_get};
 ghost use Rattle.std.specs.List.{position_or_len};
 ghost use Rattle.std.specs.Option.{is_some};
-ghost use Rattle.sk_value.specs.Sets.{is_member};
+ghost use Rattle.sk_resp.specs.WordOrder.{is_member};
 ghost use Rattle.sk_lives.specs.Words.{is_from, is_here, is_ordered, is_past, words_of};
 
 use sk_resp::Word;

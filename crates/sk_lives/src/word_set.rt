@@ -2,7 +2,7 @@
 ghost use Rattle.std.specs.Prelude.{◌≡◌, ◌<◌, ◌≤◌, not, true, None, [], IfOk, IsSome, OnErr, OnOk, length, option_map, slice_get};
 ghost use Rattle.sk_undo.specs.Balance.{most};
 ghost use Rattle.sk_undo.specs.Steps.{begun, closed, committed, edited, undone};
-ghost use Rattle.sk_value.specs.Sets.{is_member};
+ghost use Rattle.sk_resp.specs.WordOrder.{is_member};
 ghost use Rattle.sk_lives.specs.Words.{is_sorted, with_word, without_word};
 
 use crate::Memory;

@@ -23,7 +23,7 @@ use Rattle.sk_payload.specs.declared.head.Head.{Head}
 use Rattle.sk_zset.specs.Bounds.{is_between}
 use Rattle.sk_zset.specs.Pair.{Pair}
 use Rattle.sk_value.specs.Lists.{range_of}
-use Rattle.sk_value.specs.Sets.{is_member}
+use Rattle.sk_resp.specs.WordOrder.{is_member}
 use Rattle.sk_value.specs.Action.{action_of}
 use Rattle.sk_value.specs.declared.action.Action.{Action}
 use Rattle.sk_value.specs.declared.action.Action.TheVariants as action
@@ -44,18 +44,18 @@ use Rattle.sk_batch.specs.declared.batch_stat.BatchStat.{BatchStat}
 use Rattle.sk_batch.specs.declared.event.Event.TheVariants.{Returned, Reported}
 use Rattle.sk_batch.specs.declared.firing.Firing.{Firing}
 use Rattle.sk_lives.specs.declared.origin.Origin.TheVariants.{Outside}
-use Rattle.sk_model.specs.declared.key_class.KeyClass.{KeyClass}
-use Rattle.sk_model.specs.declared.key_class.KeyClass.TheVariants as class
-use Rattle.sk_model.specs.declared.phase.End.TheVariants as end
-use Rattle.sk_model.specs.declared.phase.Phase.{Phase}
-use Rattle.sk_model.specs.declared.phase.Phase.TheVariants.{Plain, Idle, Held, Put, Settled}
-use Rattle.sk_model.specs.Phases.{is_plain as is_plain_seat}
+use Rattle.sk_key.specs.declared.key_class.KeyClass.{KeyClass}
+use Rattle.sk_key.specs.declared.key_class.KeyClass.TheVariants as class
+use Rattle.sk_seats.specs.declared.phase.End.TheVariants as end
+use Rattle.sk_seats.specs.declared.phase.Phase.{Phase}
+use Rattle.sk_seats.specs.declared.phase.Phase.TheVariants.{Plain, Idle, Held, Put, Settled}
+use Rattle.sk_seats.specs.Phases.{is_plain as is_plain_seat}
 use Rattle.sk_counters.specs.Counters.{processed, failed}
 use Rattle.sk_leases.specs.Leased.{is_alive}
 use Rattle.sk_model.specs.Reading.{Words}
 use Rattle.sk_model.specs.World.{World, phase_of, first}
 use Rattle.sk_model.specs.Change.{Carry, Trim, Change, Moves, Passes, Names, Unnames, Turns, Counts, Recovers, Forgets, Makes, changed, perform}
-use Rattle.sk_model.specs.Class.{class_of, queue_of, is_plain, is_queue}
+use Rattle.sk_key.specs.Class.{class_of, queue_of, is_plain, is_queue}
 use Rattle.sk_model.specs.Outcome.{Outcome}
 use Rattle.sk_model.specs.Room.{is_full as is_store_full, is_too_much}
 use Rattle.sk_model.specs.Queues.{pushes, takes, move_row}

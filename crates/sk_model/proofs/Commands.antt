@@ -16,19 +16,19 @@ use Rattle.sk_value.specs.declared.action.Action.TheVariants as action
 use Rattle.sk_value.specs.declared.edit.Edit.{Edit}
 use Rattle.sk_value.specs.declared.edit.Edit.TheVariants as edit
 use Rattle.sk_value.specs.Action.{action_of}
-use Rattle.sk_model.specs.declared.key_class.KeyClass.{KeyClass}
-use Rattle.sk_model.specs.declared.key_class.KeyClass.TheVariants as class
-use Rattle.sk_model.specs.declared.phase.Phase.{Phase}
-use Rattle.sk_model.specs.declared.phase.Phase.TheVariants.{Plain}
+use Rattle.sk_key.specs.declared.key_class.KeyClass.{KeyClass}
+use Rattle.sk_key.specs.declared.key_class.KeyClass.TheVariants as class
+use Rattle.sk_seats.specs.declared.phase.Phase.{Phase}
+use Rattle.sk_seats.specs.declared.phase.Phase.TheVariants.{Plain}
 use Rattle.sk_places.specs.declared.row.Place.{Place}
 use Rattle.sk_places.specs.declared.row.Place.TheVariants.{Queue, Set}
 use Rattle.sk_places.specs.declared.row.Row.{Row}
 use Rattle.sk_places.specs.Rows.{is_at, rows_at, row_at, row_at_end}
-use Rattle.sk_model.specs.Phases.{is_plain as is_plain_seat}
+use Rattle.sk_seats.specs.Phases.{is_plain as is_plain_seat}
 use Rattle.sk_lives.specs.declared.origin.Origin.TheVariants.{Outside}
 use Rattle.sk_model.specs.World.{World, phase_of}
 use Rattle.sk_model.specs.Change.{Add, Take, Moves, Passes, Names, Unnames, Keeps, changed, perform}
-use Rattle.sk_model.specs.Class.{class_of, queue_of, is_plain, is_queue}
+use Rattle.sk_key.specs.Class.{class_of, queue_of, is_plain, is_queue}
 use Rattle.sk_model.specs.Queues.{pushes, takes, move_row, add_names}
 use Rattle.sk_places.specs.Rows.{copies_of, end_taken}
 use Rattle.sk_model.specs.Deletes.{take_all, delete_as, delete_each, delete, may_go, flush}

@@ -8,8 +8,8 @@ use Rattle.sk_cmd.specs.declared.argument.Side.{Side}
 use Rattle.sk_cmd.specs.declared.argument.Side.TheVariants.{Left, Right}
 use Rattle.sk_places.specs.Rows.{is_same, insert_after, put_row, row_at, without_first, without_last, take_row}
 use Rattle.sk_places.specs.declared.row.Place.TheVariants.{Private}
-use Rattle.sk_model.specs.declared.phase.Phase.{Phase}
-use Rattle.sk_model.specs.declared.phase.Phase.TheVariants.{Plain, Idle, Held, Put, Settled}
+use Rattle.sk_seats.specs.declared.phase.Phase.{Phase}
+use Rattle.sk_seats.specs.declared.phase.Phase.TheVariants.{Plain, Idle, Held, Put, Settled}
 use Rattle.sk_model.specs.World.{World}
 use Rattle.sk_model.specs.Change.{freed}
 use Rattle.sk_model.specs.Laws.{copies, copies_in, freed_by}

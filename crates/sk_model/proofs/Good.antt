@@ -9,7 +9,7 @@ use Rattle.sk_value.specs.Keys.{Keys}
 use Rattle.sk_places.specs.Rows.{is_same}
 use Rattle.sk_batch.specs.Batched.{Batched}
 use Rattle.sk_batch.specs.declared.firing.Kind.TheVariants.{Death}
-use Rattle.sk_model.specs.declared.phase.Phase.{Phase}
+use Rattle.sk_seats.specs.declared.phase.Phase.{Phase}
 use Rattle.sk_model.specs.World.{World}
 use Rattle.sk_model.specs.Change.{Add, Carry, Take, Trim, PutBack, Free, Change, Moves, Passes, Names, Unnames, Keeps, Turns, Beats, Counts, Recovers, Forgets, changed, perform}
 use Rattle.sk_lives.specs.Lives.{one_if}

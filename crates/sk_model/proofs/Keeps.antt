@@ -11,7 +11,7 @@ use Rattle.sk_batch.specs.declared.batch.Batch.{Batch}
 use Rattle.sk_batch.specs.declared.event.Event.{Event}
 use Rattle.sk_batch.specs.declared.firing.Kind.{Kind}
 use Rattle.sk_places.specs.Rows.{is_same, take_row}
-use Rattle.sk_model.specs.declared.phase.Phase.{Phase}
+use Rattle.sk_seats.specs.declared.phase.Phase.{Phase}
 use Rattle.sk_model.specs.World.{World, phase_of}
 use Rattle.sk_model.specs.Change.{Add, Carry, Take, Trim, Merge, PutBack, Free, Change, Moves, Passes, Names, Unnames, Keeps, Turns, Beats, Counts, Recovers, Forgets, Fire, Makes, Joins, Tells, carried, moved, changed, perform}
 use Rattle.sk_model.specs.Laws.{copies, pushed, taken}

@@ -11,10 +11,10 @@ use Rattle.sk_places.specs.declared.row.Place.{Place}
 use Rattle.sk_places.specs.declared.row.Place.TheVariants.{Private}
 use Rattle.sk_places.specs.declared.row.Row.{Row}
 use Rattle.sk_places.specs.Rows.{is_same, row_at, take_row}
-use Rattle.sk_model.specs.declared.phase.Phase.{Phase}
-use Rattle.sk_model.specs.declared.phase.Phase.TheVariants.{Plain, Idle, Held, Put, Settled}
+use Rattle.sk_seats.specs.declared.phase.Phase.{Phase}
+use Rattle.sk_seats.specs.declared.phase.Phase.TheVariants.{Plain, Idle, Held, Put, Settled}
 use Rattle.sk_model.specs.World.{World, phase_of}
-use Rattle.sk_model.specs.Phases.{phase_in, has}
+use Rattle.sk_seats.specs.Phases.{phase_in, has}
 use Rattle.sk_lives.specs.declared.ending.Ending.{Ending}
 use Rattle.sk_lives.specs.declared.ending.Ending.TheVariants.{Muddled}
 use Rattle.sk_lives.specs.declared.origin.Origin.{Origin}

@@ -30,6 +30,8 @@ pub mod Reliable
 pub mod Starving
 pub mod Running
 pub mod Readings
+pub mod Fitting
+pub mod Coming
 mod Worked
 mod WorkedBatches
 mod WorkedSeats

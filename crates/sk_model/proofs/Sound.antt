@@ -4,11 +4,11 @@ use Rattle.std.specs.Prelude.{Option, Some, None, option_map, unwrap_or}
 use Rattle.std.specs.Str.{bytes_eq}
 use Rattle.std.specs.BTreeSet.{insert_key}
 use Rattle.sk_resp.specs.Spelling.{Bytes}
-use Rattle.sk_value.specs.Order.{text_cmp}
+use Rattle.sk_resp.specs.WordOrder.{text_cmp}
 use Rattle.sk_payload.specs.Head.{head, names}
 use Rattle.sk_payload.specs.declared.head.Head.{Head}
-use Rattle.sk_model.specs.declared.phase.Phase.{Phase}
-use Rattle.sk_model.specs.declared.phase.Phase.TheVariants.{Plain, Idle, Held, Put, Settled}
+use Rattle.sk_seats.specs.declared.phase.Phase.{Phase}
+use Rattle.sk_seats.specs.declared.phase.Phase.TheVariants.{Plain, Idle, Held, Put, Settled}
 use Rattle.sk_lives.specs.declared.ending.Ending.{Ending}
 use Rattle.sk_lives.specs.declared.ending.Ending.TheVariants.{Returned, Discarded, Deleted, Trimmed, Muddled}
 use Rattle.sk_lives.specs.declared.origin.Origin.{Origin}

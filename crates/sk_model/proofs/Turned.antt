@@ -9,9 +9,9 @@ use Rattle.std.proofs.lemmas.Bool.Decides.{nat_tests}
 use Rattle.std.specs.BTreeMap.{is_at, insert_entry}
 use Rattle.std.specs.Ordering.{nat_cmp, is_eq}
 use Rattle.sk_resp.specs.Spelling.{Bytes}
-use Rattle.sk_model.specs.declared.phase.Phase.{Phase}
-use Rattle.sk_model.specs.declared.phase.Phase.TheVariants.{Plain, Idle, Held, Put, Settled}
-use Rattle.sk_model.specs.Phases.{Phases, phase_in, or_plain, turned, has, some_has}
+use Rattle.sk_seats.specs.declared.phase.Phase.{Phase}
+use Rattle.sk_seats.specs.declared.phase.Phase.TheVariants.{Plain, Idle, Held, Put, Settled}
+use Rattle.sk_seats.specs.Phases.{Phases, phase_in, or_plain, turned, has, some_has}
 
 -- a seat's payload is seen among all
 pub has_some : (phases : Phases) (seat : ℕ) (jid : Bytes) → has jid (phase_in phases seat) ≡ true → some_has jid phases ≡ true

@@ -26,7 +26,7 @@ use Rattle.sk_value.specs.Lists.{edit_list}
 use Rattle.sk_model.specs.declared.limits.Limits.{Limits}
 use Rattle.sk_model.specs.World.{World, first}
 use Rattle.sk_model.specs.Change.{perform}
-use Rattle.sk_model.specs.Class.{class_of}
+use Rattle.sk_key.specs.Class.{class_of}
 use Rattle.sk_model.specs.Outcome.{Outcome}
 use Rattle.sk_model.specs.Step.{outcome}
 use Rattle.sk_model.specs.Life.{Life, Unborn, Live, Ended, life_through}

@@ -26,7 +26,7 @@ use Rattle.sk_model.specs.declared.limits.Limits.{Limits}
 use Rattle.sk_counters.specs.Date.{date_of, year_from, month_from}
 use Rattle.sk_model.specs.World.{World, first}
 use Rattle.sk_model.specs.Change.{perform}
-use Rattle.sk_model.specs.Class.{class_of, private_key}
+use Rattle.sk_key.specs.Class.{class_of, private_key}
 use Rattle.sk_model.specs.Outcome.{Outcome}
 use Rattle.sk_model.specs.Step.{outcome}
 

@@ -18,9 +18,9 @@ use Rattle.sk_value.specs.declared.action.Action.TheVariants as action
 use Rattle.sk_places.specs.declared.row.Place.TheVariants.{Queue, Private, Set}
 use Rattle.sk_places.specs.declared.row.Row.{Row}
 use Rattle.sk_places.specs.Rows.{row_in, row_of, rows_at, row_at_end, take_row}
-use Rattle.sk_model.specs.declared.phase.End.TheVariants.{Returned, Discarded}
-use Rattle.sk_model.specs.declared.phase.Phase.{Phase}
-use Rattle.sk_model.specs.declared.phase.Phase.TheVariants.{Plain, Idle, Held, Put, Settled}
+use Rattle.sk_seats.specs.declared.phase.End.TheVariants.{Returned, Discarded}
+use Rattle.sk_seats.specs.declared.phase.Phase.{Phase}
+use Rattle.sk_seats.specs.declared.phase.Phase.TheVariants.{Plain, Idle, Held, Put, Settled}
 use Rattle.sk_model.specs.World.{World}
 use Rattle.sk_leases.specs.Leased.{is_alive}
 use Rattle.sk_model.specs.Change.{Change, Counts, Carry, Free, Moves, Turns, carried, changed, perform}

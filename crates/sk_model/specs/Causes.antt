@@ -13,7 +13,7 @@ use Rattle.sk_value.specs.Action.{action_of}
 use Rattle.sk_batch.specs.declared.event.Event.TheVariants.{Returned}
 use Rattle.sk_lives.specs.declared.origin.Origin.TheVariants.{Inner}
 use Rattle.sk_model.specs.declared.limits.Limits.{Limits}
-use Rattle.sk_model.specs.declared.phase.Phase.TheVariants.{Plain, Held}
+use Rattle.sk_seats.specs.declared.phase.Phase.TheVariants.{Plain, Held}
 use Rattle.sk_model.specs.World.{World, first, phase_of}
 use Rattle.sk_model.specs.Change.{Add, Carry, Take, Trim, PutBack, Free, Change, Moves, Tells, changed}
 use Rattle.sk_model.specs.Seats.{releases}

@@ -11,7 +11,7 @@ use Rattle.sk_places.specs.declared.row.Place.TheVariants.{Private}
 use Rattle.sk_places.specs.Rows.{put_row, take_row, row_at}
 pub use Rattle.sk_places.specs.Placed.{carried, named, with_name, without_name}
 use Rattle.sk_model.specs.World.{World, phase_of}
-use Rattle.sk_model.specs.Phases.{turned}
+use Rattle.sk_seats.specs.Phases.{turned}
 use Rattle.sk_counters.specs.Counters.{counted_at}
 use Rattle.sk_lives.specs.declared.ending.Ending.{Ending}
 use Rattle.sk_lives.specs.declared.ending.Ending.TheVariants.{Returned, Discarded, Deleted, Trimmed}
@@ -19,8 +19,8 @@ use Rattle.sk_lives.specs.declared.origin.Origin.{Origin}
 use Rattle.sk_lives.specs.Totals.{count_push}
 use Rattle.sk_model.specs.Live.{born, count_job, with_end}
 use Rattle.sk_lives.specs.Lives.{jid_of}
-use Rattle.sk_model.specs.declared.phase.End.{End}
-use Rattle.sk_model.specs.declared.phase.End.TheVariants as end
+use Rattle.sk_seats.specs.declared.phase.End.{End}
+use Rattle.sk_seats.specs.declared.phase.End.TheVariants as end
 use Rattle.sk_batch.specs.Batched.{Batched, has_bid}
 use Rattle.sk_batch.specs.Events.{joined, marked, unfired}
 use Rattle.sk_batch.specs.Fires.{retagged, with_kind}
@@ -29,8 +29,8 @@ use Rattle.sk_batch.specs.declared.batch.Batch.{Batch}
 use Rattle.sk_batch.specs.declared.event.Event.{Event}
 use Rattle.sk_batch.specs.declared.firing.Kind.{Kind}
 use Rattle.sk_leases.specs.Leased.{beat, recovered, forgotten, purged as still_leased}
-use Rattle.sk_model.specs.declared.phase.Phase.{Phase}
-use Rattle.sk_model.specs.declared.phase.Phase.TheVariants.{Plain, Idle, Held, Put, Settled}
+use Rattle.sk_seats.specs.declared.phase.Phase.{Phase}
+use Rattle.sk_seats.specs.declared.phase.Phase.TheVariants.{Plain, Idle, Held, Put, Settled}
 
 pub data Move : Type 0 where
   -- a push adds a row at an end of its place

@@ -9,14 +9,14 @@ use Rattle.sk_resp.specs.declared.refusal.Refusal.TheVariants.{ManagedKey}
 use Rattle.sk_cmd.specs.declared.argument.Side.TheVariants.{Left}
 use Rattle.sk_value.specs.Answer.{counted}
 use Rattle.sk_value.specs.Keys.{at, without}
-use Rattle.sk_model.specs.declared.key_class.KeyClass.{KeyClass}
-use Rattle.sk_model.specs.declared.key_class.KeyClass.TheVariants as class
+use Rattle.sk_key.specs.declared.key_class.KeyClass.{KeyClass}
+use Rattle.sk_key.specs.declared.key_class.KeyClass.TheVariants as class
 use Rattle.sk_places.specs.declared.row.Place.TheVariants.{Queue, Set}
 use Rattle.sk_places.specs.declared.row.Row.{Row}
 use Rattle.sk_places.specs.Rows.{rows_at}
 use Rattle.sk_model.specs.World.{World}
 use Rattle.sk_model.specs.Change.{Change, Moves, Take, Unnames, Keeps, perform}
-use Rattle.sk_model.specs.Class.{class_of, queue_of}
+use Rattle.sk_key.specs.Class.{class_of, queue_of}
 use Rattle.sk_model.specs.Outcome.{Outcome, refuses}
 
 -- the rows go one after another, from the left

@@ -6,14 +6,14 @@ use Rattle.sk_value.specs.declared.value.Value.{Value}
 use Rattle.sk_value.specs.declared.value.Value.TheVariants as value
 use Rattle.sk_value.specs.declared.entry.Entry.{Entry}
 use Rattle.sk_value.specs.Keys.{at}
-use Rattle.sk_model.specs.declared.key_class.KeyClass.{KeyClass}
-use Rattle.sk_model.specs.declared.key_class.KeyClass.TheVariants as class
+use Rattle.sk_key.specs.declared.key_class.KeyClass.{KeyClass}
+use Rattle.sk_key.specs.declared.key_class.KeyClass.TheVariants as class
 use Rattle.sk_places.specs.declared.row.Place.TheVariants.{Queue, Private, Set}
 use Rattle.sk_places.specs.Rows.{pair_of, rows_at, texts_at}
 use Rattle.sk_model.specs.World.{World}
 use Rattle.sk_leases.specs.Leased.{idents}
 use Rattle.sk_counters.specs.Counters.{count_in}
-use Rattle.sk_model.specs.Class.{class_of, queue_of, ident_of, counter_of}
+use Rattle.sk_key.specs.Class.{class_of, queue_of, ident_of, counter_of}
 
 -- a list as a value without a deadline; where it is empty there is no key
 abbrev pub if_any : {A : Type 0} → (List A → Value) → List A → Option Entry

@@ -7,8 +7,8 @@ use Rattle.sk_model.specs.declared.limits.Limits.{Limits}
 use Rattle.sk_places.specs.declared.row.Place.TheVariants.{Private}
 use Rattle.sk_places.specs.declared.row.Row.{Row}
 use Rattle.sk_places.specs.Rows.{is_same, row_at}
-use Rattle.sk_model.specs.declared.phase.Phase.{Phase}
-use Rattle.sk_model.specs.declared.phase.Phase.TheVariants.{Plain, Idle, Held, Put, Settled}
+use Rattle.sk_seats.specs.declared.phase.Phase.{Phase}
+use Rattle.sk_seats.specs.declared.phase.Phase.TheVariants.{Plain, Idle, Held, Put, Settled}
 use Rattle.sk_model.specs.World.{World, first, phase_of}
 use Rattle.sk_model.specs.Change.{Add, Take, Trim, Merge, PutBack, Free, Change, Moves, changed}
 use Rattle.sk_model.specs.Event.{Run, Step, after}

@@ -1,9 +1,7 @@
-pub mod Phases
 pub mod World
 pub mod Live
 pub mod Change
 pub mod Outcome
-pub mod Class
 pub mod Held
 pub mod Room
 pub mod Queues

@@ -5,10 +5,10 @@ use Rattle.std.specs.List.{list_any, count_by}
 use Rattle.sk_resp.specs.Spelling.{Bytes}
 use Rattle.sk_payload.specs.Head.{head, names}
 use Rattle.sk_payload.specs.declared.head.Head.{Head}
-use Rattle.sk_value.specs.Order.{text_cmp}
+use Rattle.sk_resp.specs.WordOrder.{text_cmp}
 use Rattle.sk_places.specs.Rows.{rows_of as count_of}
-use Rattle.sk_model.specs.declared.phase.Phase.{Phase}
-use Rattle.sk_model.specs.declared.phase.Phase.TheVariants.{Plain, Idle, Held, Put, Settled}
+use Rattle.sk_seats.specs.declared.phase.Phase.{Phase}
+use Rattle.sk_seats.specs.declared.phase.Phase.TheVariants.{Plain, Idle, Held, Put, Settled}
 use Rattle.sk_lives.specs.declared.ending.Ending.{Ending}
 use Rattle.sk_lives.specs.declared.ending.Ending.TheVariants.{Muddled, Deleted, Trimmed}
 use Rattle.sk_lives.specs.declared.totals.Totals.{Totals}

@@ -5,7 +5,7 @@ use Rattle.sk_lives.specs.Lives.{Lived, is_among, born as born_among, count_job 
 use Rattle.sk_lives.specs.declared.ending.Ending.{Ending}
 use Rattle.sk_lives.specs.declared.totals.Totals.{Totals}
 use Rattle.sk_places.specs.Rows.{stands_in}
-use Rattle.sk_model.specs.Phases.{some_has}
+use Rattle.sk_seats.specs.Phases.{some_has}
 use Rattle.sk_model.specs.World.{World}
 
 -- some row names the job

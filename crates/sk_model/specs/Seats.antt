@@ -15,11 +15,11 @@ use Rattle.sk_value.specs.declared.action.Action.TheVariants as action
 use Rattle.sk_value.specs.declared.edit.Edit.{Edit}
 use Rattle.sk_value.specs.declared.edit.Edit.TheVariants as edit
 use Rattle.sk_value.specs.Action.{action_of}
-use Rattle.sk_model.specs.declared.key_class.KeyClass.{KeyClass}
-use Rattle.sk_model.specs.declared.key_class.KeyClass.TheVariants as class
-use Rattle.sk_model.specs.declared.phase.Phase.{Phase}
-use Rattle.sk_model.specs.declared.phase.Phase.TheVariants.{Plain, Idle, Held, Put, Settled}
-use Rattle.sk_model.specs.Class.{class_of, queue_of, private_key, is_queue, is_private}
+use Rattle.sk_key.specs.declared.key_class.KeyClass.{KeyClass}
+use Rattle.sk_key.specs.declared.key_class.KeyClass.TheVariants as class
+use Rattle.sk_seats.specs.declared.phase.Phase.{Phase}
+use Rattle.sk_seats.specs.declared.phase.Phase.TheVariants.{Plain, Idle, Held, Put, Settled}
+use Rattle.sk_key.specs.Class.{class_of, queue_of, private_key, is_queue, is_private}
 use Rattle.sk_model.specs.Outcome.{Outcome, refuses}
 
 -- ## What all seats may send

@@ -8,7 +8,7 @@ use Rattle.sk_zset.specs.Pair.{Pair}
 use Rattle.sk_zset.specs.Bounds.{is_between}
 use Rattle.sk_value.specs.Answer.{counted}
 use Rattle.sk_value.specs.Lists.{range_of}
-use Rattle.sk_value.specs.Sets.{is_member}
+use Rattle.sk_resp.specs.WordOrder.{is_member}
 use Rattle.sk_value.specs.declared.edit.Edit.{Edit}
 use Rattle.sk_value.specs.declared.edit.Edit.TheVariants as edit
 use Rattle.sk_places.specs.declared.row.Place.TheVariants.{Set}

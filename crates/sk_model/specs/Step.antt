@@ -19,15 +19,15 @@ use Rattle.sk_value.specs.Action.{action_of}
 use Rattle.sk_value.specs.Keys.{how_many}
 use Rattle.sk_value.specs.Values.{look_at}
 use Rattle.sk_value.specs.Apply.{applied, Applied}
-use Rattle.sk_model.specs.declared.key_class.KeyClass.{KeyClass}
-use Rattle.sk_model.specs.declared.key_class.KeyClass.TheVariants as class
-use Rattle.sk_model.specs.declared.phase.Phase.{Phase}
-use Rattle.sk_model.specs.declared.phase.Phase.TheVariants.{Plain}
+use Rattle.sk_key.specs.declared.key_class.KeyClass.{KeyClass}
+use Rattle.sk_key.specs.declared.key_class.KeyClass.TheVariants as class
+use Rattle.sk_seats.specs.declared.phase.Phase.{Phase}
+use Rattle.sk_seats.specs.declared.phase.Phase.TheVariants.{Plain}
 use Rattle.sk_places.specs.declared.row.Place.TheVariants.{Queue}
-use Rattle.sk_model.specs.Phases.{is_plain as is_plain_seat}
+use Rattle.sk_seats.specs.Phases.{is_plain as is_plain_seat}
 use Rattle.sk_model.specs.World.{World, phase_of}
 use Rattle.sk_model.specs.Change.{Passes, Keeps, Turns, changed}
-use Rattle.sk_model.specs.Class.{class_of, queue_of, is_plain, is_queue}
+use Rattle.sk_key.specs.Class.{class_of, queue_of, is_plain, is_queue}
 use Rattle.sk_model.specs.Held.{held}
 use Rattle.sk_model.specs.Outcome.{Outcome, says, tells, refuses, reply_of}
 use Rattle.sk_model.specs.Queues.{push, remove, move, add_names}

@@ -19,9 +19,9 @@ use Rattle.sk_zset.specs.Pair.{Pair}
 use Rattle.sk_places.specs.declared.row.Place.TheVariants.{Queue, Private, Set}
 use Rattle.sk_places.specs.declared.row.Row.{Row}
 use Rattle.sk_places.specs.Rows.{row_at_end, row_of, rows_at}
-use Rattle.sk_model.specs.declared.phase.End.TheVariants.{Returned, Discarded}
-use Rattle.sk_model.specs.declared.phase.Phase.{Phase}
-use Rattle.sk_model.specs.declared.phase.Phase.TheVariants.{Plain, Idle, Held, Put, Settled}
+use Rattle.sk_seats.specs.declared.phase.End.TheVariants.{Returned, Discarded}
+use Rattle.sk_seats.specs.declared.phase.Phase.{Phase}
+use Rattle.sk_seats.specs.declared.phase.Phase.TheVariants.{Plain, Idle, Held, Put, Settled}
 use Rattle.sk_model.specs.World.{World}
 use Rattle.sk_leases.specs.Leased.{is_alive}
 use Rattle.sk_model.specs.Change.{Moves, Carry, Free, Turns, Beats, Counts}

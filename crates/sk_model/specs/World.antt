@@ -7,10 +7,10 @@ use Rattle.sk_places.specs.declared.row.Row.{Row}
 use Rattle.sk_counters.specs.Counters.{Counters}
 use Rattle.sk_lives.specs.declared.totals.Totals.{Totals}
 use Rattle.sk_lives.specs.Totals.{no_totals}
-use Rattle.sk_model.specs.Phases.{Phases, phase_in}
+use Rattle.sk_seats.specs.Phases.{Phases, phase_in}
 use Rattle.sk_leases.specs.Leased.{Leased, nothing}
 use Rattle.sk_batch.specs.Batched.{Batched}
-use Rattle.sk_model.specs.declared.phase.Phase.{Phase}
+use Rattle.sk_seats.specs.declared.phase.Phase.{Phase}
 
 pub record World : Type 0 where
   -- what the store was made with

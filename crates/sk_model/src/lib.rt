@@ -1,12 +1,10 @@
 //! The abstract store: what it keeps, what each command does to it, what runs of events are, and what holds of every run.
 #![tactic(auto)]
 
-mod key_class;
 mod laws;
 mod limits;
-mod phase;
+mod room;
 
-pub use key_class::KeyClass;
 pub use laws::{
     callbacks_follow, complete_fires_once, death_fires_once, events_are_served_or_starve,
     limits_stay, live_jobs_stand, moves_have_causes, nothing_is_lost, own_words_never_starve,
@@ -14,4 +12,4 @@ pub use laws::{
     words_have_one_reading, words_have_some_reading,
 };
 pub use limits::Limits;
-pub use phase::{End, Phase};
+pub use room::{bytes_of, bytes_scored, is_full};

@@ -10,6 +10,7 @@ mod length;
 mod member;
 mod no_head;
 mod payload;
+mod payloads;
 mod read;
 mod whole;
 
@@ -17,6 +18,7 @@ pub use after::follows;
 pub use edit_fault::EditFault;
 pub use head::{Head, Lock, Retry, Until};
 pub use payload::Payload;
+pub use payloads::payloads_of;
 pub use std::alloc::AllocError as Memory;
 
 #[cfg(test)]

@@ -6,7 +6,7 @@ ghost use Rattle.std.specs.Option.{is_some};
 ghost use Rattle.sk_undo.specs.Balance.{most};
 ghost use Rattle.sk_undo.specs.Steps.{begun, closed, committed, edited, undone};
 ghost use Rattle.sk_cmd.specs.declared.argument.Side.TheVariants.{Left};
-ghost use Rattle.sk_value.specs.Sets.{is_member};
+ghost use Rattle.sk_resp.specs.WordOrder.{is_member};
 ghost use Rattle.sk_places.specs.Entries.{shifted};
 ghost use Rattle.sk_places.specs.Order.{bytes_of, is_ordered};
 ghost use Rattle.sk_places.specs.Placed.{added, ended_copies, ended_if, ended_job, ended_rows, moved_if, named, placed, pushed_to, with_name, without_if, without_name, without_row};

@@ -2,7 +2,7 @@
 ghost use Rattle.std.specs.Prelude.{◌≡◌, ◌+◌, ◌-◌, ◌<◌, ◌≤◌, ◌++◌, ◌&&◌, None, drop, filter, length, min, not, replicate, slice_get, take};
 ghost use Rattle.std.specs.List.{remove};
 ghost use Rattle.sk_undo.specs.Steps.{edited};
-ghost use Rattle.sk_value.specs.Sets.{is_member};
+ghost use Rattle.sk_resp.specs.WordOrder.{is_member};
 ghost use Rattle.sk_lives.specs.Lives.{all_ended};
 ghost use Rattle.sk_lives.specs.declared.ending.Ending.TheVariants.{Deleted};
 ghost use Rattle.sk_places.specs.declared.row.Place.TheVariants.{Set};

@@ -11,3 +11,4 @@ pub mod Reply
 pub mod ReplySize
 pub mod ReplyStream
 pub mod ReplyMachine
+pub mod WordOrder

@@ -19,7 +19,7 @@ use std::{fs, io};
 
 /// The bytes of a row's file: what it is given (`in`) or what it must answer (`out`).
 fn file(rt: &HostRuntime, row: &Row<'_>, kind: &str) -> io::Result<Vec<u8>> {
-    let path = format!(in rt.alloc(); "data/{}.{kind}", row.name)?;
+    let path = format!(in rt.alloc(); "{}.{kind}", row.name)?;
     let bytes = fs::read(rt, path.as_str())?;
     match row.form {
         Form::Repeats => repeats::expand(rt.alloc(), &bytes),
@@ -56,7 +56,7 @@ fn is_met(rt: &HostRuntime, row: &Row<'_>) -> io::Result<bool> {
 }
 
 fn main(rt: HostRuntime) -> io::Result<ExitCode> {
-    let index = fs::read_to_string(&rt, "data/rows.txt")?;
+    let index = fs::read_to_string(&rt, "rows.txt")?;
     let mut rows: u64 = 0;
     let mut differ: u64 = 0;
     for line in index.lines() {

@@ -2,9 +2,10 @@
 use crate::text::{invalid, text_of};
 use sk_cmd::{Command, read_command};
 use sk_core::Core;
-use sk_model::{Limits, Phase};
+use sk_model::Limits;
 use sk_pipe::SHIPPED_LIMITS;
 use sk_resp::{Word, Words, write_reply};
+use sk_seats::Phase;
 use sk_status::{page, tally_text};
 use std::alloc::Global;
 use std::io;

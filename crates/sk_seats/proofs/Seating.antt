@@ -11,10 +11,10 @@ use Rattle.std.specs.declared.cmp.Ordering.TheVariants.{Less, Equal, Greater}
 use Rattle.std.proofs.lemmas.Map.Keys.{sorted_head, sorted_tail}
 use Rattle.std.proofs.lemmas.Map.Lookups.{exact_unsigned}
 use Rattle.sk_resp.specs.Spelling.{Bytes}
-use Rattle.sk_model.specs.declared.phase.Phase.{Phase}
-use Rattle.sk_model.specs.declared.phase.End.{End}
-use Rattle.sk_model.specs.declared.phase.Phase.TheVariants.{Plain, Held, Put, Settled}
-use Rattle.sk_model.specs.Phases.{Phases, has, is_plain, or_plain, phase_in, some_has, turned}
+use Rattle.sk_seats.specs.declared.phase.Phase.{Phase}
+use Rattle.sk_seats.specs.declared.phase.End.{End}
+use Rattle.sk_seats.specs.declared.phase.Phase.TheVariants.{Plain, Held, Put, Settled}
+use Rattle.sk_seats.specs.Phases.{Phases, has, is_plain, or_plain, phase_in, some_has, turned}
 use Rattle.sk_seats.specs.declared.turn.Turn.{Turn}
 use Rattle.sk_seats.specs.Order.{InOrder}
 use Rattle.sk_seats.specs.Turn.{after}

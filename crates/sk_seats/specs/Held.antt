@@ -2,7 +2,7 @@
 use Rattle.std.specs.Prelude.{Option, Some, None, Bool, false}
 use Rattle.sk_resp.specs.Spelling.{Bytes}
 use Rattle.sk_lives.specs.Lives.{jid_of}
-use Rattle.sk_model.specs.Phases.{Phases, some_has}
+use Rattle.sk_seats.specs.Phases.{Phases, some_has}
 
 abbrev pub is_held : Phases → Option Bytes → Bool
 is_held phases None = false

@@ -2,3 +2,4 @@ pub mod Held
 pub mod Order
 pub mod Seats
 pub mod Turn
+pub mod Phases

@@ -1,6 +1,6 @@
 -- How a worker's seat goes from one phase to the next.
-use Rattle.sk_model.specs.declared.phase.Phase.{Phase}
-use Rattle.sk_model.specs.declared.phase.Phase.TheVariants.{Idle, Held, Put, Settled}
+use Rattle.sk_seats.specs.declared.phase.Phase.{Phase}
+use Rattle.sk_seats.specs.declared.phase.Phase.TheVariants.{Idle, Held, Put, Settled}
 use Rattle.sk_seats.specs.declared.turn.Turn.{Turn}
 use Rattle.sk_seats.specs.declared.turn.Turn.TheVariants.{Hold, PutBack, Settle, Release}
 

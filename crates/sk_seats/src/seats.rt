@@ -2,13 +2,13 @@
 // another phase without memory.
 ghost use Rattle.std.specs.Prelude.{◌≡◌, [], OnErr, OnOk, false};
 ghost use Rattle.sk_payload.specs.Head.{names};
-ghost use Rattle.sk_model.specs.Phases.{has, is_plain, phase_in, turned};
+ghost use Rattle.sk_seats.specs.Phases.{has, is_plain, phase_in, turned};
 ghost use Rattle.sk_seats.specs.Held.{held_by};
 ghost use Rattle.sk_seats.specs.Order.{InOrder};
 ghost use Rattle.sk_seats.specs.Turn.{after};
 
+use crate::phase::Phase;
 use crate::turn::Turn;
-use sk_model::Phase;
 use sk_payload::Payload;
 use sk_resp::{Memory, Text, Word};
 use std::alloc::Global;
@@ -24,7 +24,7 @@ pub struct Seats {
 }
 
 impl Model for Seats {
-    ghost use Rattle.sk_model.specs.Phases.{Phases};
+    ghost use Rattle.sk_seats.specs.Phases.{Phases};
 
     ghost Value = { Phases };
 

@@ -2,7 +2,7 @@
 ghost use Rattle.std.specs.Prelude.{◌≡◌};
 ghost use Rattle.sk_seats.specs.Turn.{after};
 
-use sk_model::{End, Phase};
+use crate::phase::{End, Phase};
 use sk_payload::Payload;
 
 /// A turn of a worker's seat.

@@ -7,7 +7,7 @@ use Rattle.std.specs.Set.{remove_key}
 use Rattle.std.specs.BTreeMap.{is_at, insert_entry}
 use Rattle.std.specs.BTreeSet.{insert_key}
 use Rattle.sk_resp.specs.Spelling.{Bytes}
-use Rattle.sk_value.specs.Order.{text_cmp}
+use Rattle.sk_resp.specs.WordOrder.{text_cmp}
 use Rattle.sk_value.specs.Maps.{with_pairs, without_texts}
 use Rattle.sk_value.specs.Sets.{with_members, without_members}
 

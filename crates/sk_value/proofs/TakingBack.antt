@@ -10,7 +10,7 @@ use Rattle.std.proofs.lemmas.Map.Keys.{sorted_tail}
 use Rattle.std.proofs.lemmas.Map.Entries.{none_below_head}
 use Rattle.std.proofs.lemmas.Cmp.{nat_list_cmp_total, tied_itself}
 use Rattle.sk_resp.specs.Spelling.{Bytes}
-use Rattle.sk_value.specs.Order.{text_cmp}
+use Rattle.sk_resp.specs.WordOrder.{text_cmp}
 use Rattle.sk_value.specs.Maps.{with_pairs, put_back, all_put_back}
 
 pub with_pairs_last : {V : Type 0} (pairs : List (Bytes × V)) (last : Bytes × V) (map : List (Bytes × V)) → with_pairs (pairs ++ last ∷ []) map ≡ insert_entry text_cmp (with_pairs pairs map) last.0 last.1

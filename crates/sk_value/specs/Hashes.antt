@@ -9,7 +9,7 @@ use Rattle.sk_value.specs.declared.look.Look.TheVariants as look
 use Rattle.sk_value.specs.declared.edit.Edit.{Edit}
 use Rattle.sk_value.specs.declared.edit.Edit.TheVariants as edit
 use Rattle.sk_value.specs.Answer.{Answer, AndThen, counted, texts, text_or_null}
-use Rattle.sk_value.specs.Order.{text_cmp}
+use Rattle.sk_resp.specs.WordOrder.{text_cmp}
 use Rattle.sk_value.specs.Maps.{with_pairs, without_texts}
 
 abbrev pub Pairs : Type 0

@@ -5,7 +5,7 @@ use Rattle.std.specs.BTreeMap.{is_at, insert_entry}
 use Rattle.std.specs.Option.{is_some}
 use Rattle.sk_resp.specs.Spelling.{Bytes}
 use Rattle.sk_value.specs.declared.entry.Entry.{Entry}
-use Rattle.sk_value.specs.Order.{text_cmp}
+use Rattle.sk_resp.specs.WordOrder.{text_cmp}
 
 abbrev pub Keys : Type 0
 Keys = List (Bytes × Entry)

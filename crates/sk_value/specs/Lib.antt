@@ -1,4 +1,3 @@
-pub mod Order
 pub mod Maps
 pub mod Number
 pub mod Answer

@@ -3,7 +3,7 @@ use Rattle.std.specs.Prelude.{List, [], ◌∷◌, Option, Some, None}
 use Rattle.std.specs.BTreeMap.{is_at, insert_entry}
 use Rattle.std.specs.Map.{remove_entry, set_value}
 use Rattle.sk_resp.specs.Spelling.{Bytes}
-use Rattle.sk_value.specs.Order.{text_cmp}
+use Rattle.sk_resp.specs.WordOrder.{text_cmp}
 
 -- each text has its value; of one text given twice the last value stands
 abbrev pub with_pairs : {V : Type 0} → List (Bytes × V) → List (Bytes × V) → List (Bytes × V)

@@ -11,10 +11,7 @@ use Rattle.sk_value.specs.declared.look.Look.TheVariants as look
 use Rattle.sk_value.specs.declared.edit.Edit.{Edit}
 use Rattle.sk_value.specs.declared.edit.Edit.TheVariants as edit
 use Rattle.sk_value.specs.Answer.{Answer, AndThen, counted, one_if, texts}
-use Rattle.sk_value.specs.Order.{text_cmp}
-
-abbrev pub is_member : Bytes → List Bytes → Bool
-is_member text members = list_any (is_at (text_cmp text)) members
+use Rattle.sk_resp.specs.WordOrder.{is_member, text_cmp}
 
 -- each at its place in the order, where it isn't there
 abbrev pub with_members : List Bytes → List Bytes → List Bytes

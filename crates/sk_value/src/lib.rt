@@ -29,7 +29,7 @@ pub use maps::insert_all;
 pub use members::{Members, look_members};
 pub use number::int_of;
 pub use pairs::{Pairs, look_sorted};
-pub use replies::{counted, one_if};
+pub use replies::{as_reply, counted, one_if, refused};
 pub use sorted::Sorted;
 pub use std::alloc::AllocError as Memory;
 pub use value::Value;

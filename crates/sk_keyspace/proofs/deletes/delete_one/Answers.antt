@@ -1,5 +1,5 @@
 use Rattle.std.proofs.Common.{◌∙◌, ap, sym}
-use Rattle.sk_model.specs.Class.{class_of}
+use Rattle.sk_key.specs.Class.{class_of}
 use Rattle.sk_keyspace.proofs.Deleting.{queue_count, queue_world, jobs_world}
 use Rattle.sk_keyspace.proofs.deletes.delete_one.Goals as goal
 

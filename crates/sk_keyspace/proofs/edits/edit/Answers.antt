@@ -1,5 +1,5 @@
 use Rattle.std.proofs.Common.{◌∙◌, ap, sym}
-use Rattle.sk_model.specs.Class.{class_of}
+use Rattle.sk_key.specs.Class.{class_of}
 use Rattle.sk_keyspace.proofs.Classes.{jobs_edit, plain_edit, queue_edit, names_edit}
 use Rattle.sk_keyspace.proofs.edits.edit.Goals as goal
 

@@ -4,7 +4,8 @@ use Rattle.sk_value.specs.declared.edit.Edit.TheVariants as edit
 use Rattle.sk_model.specs.World.{World}
 use Rattle.sk_model.specs.Outcome.{Comes}
 use Rattle.sk_model.specs.Sets.{edit_jobs}
-use Rattle.sk_keyspace.specs.Whole.{with_places, with_pushed}
+use Rattle.sk_keyspace.specs.Whole.{with_places}
+use Rattle.sk_model.specs.Room.{with_pushed}
 use Rattle.sk_keyspace.proofs.Classes.{with_limits}
 use Rattle.sk_keyspace.proofs.edits.edit_jobs.Goals as goal
 

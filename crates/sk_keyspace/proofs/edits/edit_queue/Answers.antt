@@ -5,7 +5,8 @@ use Rattle.sk_model.specs.World.{World}
 use Rattle.sk_model.specs.Outcome.{Comes}
 use Rattle.sk_model.specs.Queues.{remove}
 use Rattle.sk_model.specs.Step.{edit_queue}
-use Rattle.sk_keyspace.specs.Whole.{with_places, with_pushed}
+use Rattle.sk_keyspace.specs.Whole.{with_places}
+use Rattle.sk_model.specs.Room.{with_pushed}
 use Rattle.sk_keyspace.proofs.Classes.{with_limits}
 use Rattle.sk_keyspace.proofs.edits.edit_queue.Goals as goal
 

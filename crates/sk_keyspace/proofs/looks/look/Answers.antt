@@ -3,7 +3,7 @@ use Rattle.sk_value.specs.declared.value.Value.TheVariants as value
 use Rattle.sk_leases.specs.Leased.{idents}
 use Rattle.sk_places.specs.declared.row.Place.TheVariants.{Private, Queue, Set}
 use Rattle.sk_places.specs.Rows.{pair_of, rows_at, texts_at}
-use Rattle.sk_model.specs.Class.{class_of}
+use Rattle.sk_key.specs.Class.{class_of}
 use Rattle.sk_model.specs.Held.{count_entry, if_any}
 use Rattle.sk_keyspace.specs.Whole.{with_told}
 use Rattle.sk_keyspace.proofs.Classes.{held_counter, held_jobs, held_private, held_processes, held_queue, look_held}

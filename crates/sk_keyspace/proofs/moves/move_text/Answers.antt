@@ -1,5 +1,5 @@
 use Rattle.std.proofs.Common.{◌∙◌, ap, sym}
-use Rattle.sk_model.specs.Class.{class_of}
+use Rattle.sk_key.specs.Class.{class_of}
 use Rattle.sk_keyspace.proofs.Classes.{plain_move, queue_move}
 use Rattle.sk_keyspace.proofs.moves.move_text.Goals as goal
 

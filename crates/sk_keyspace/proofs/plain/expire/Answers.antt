@@ -1,7 +1,7 @@
 use Rattle.std.proofs.Common.{◌∙◌, ap, subst, rules, to_z-of_z, SFits, w64}
 use Rattle.std.specs.Prelude.{IfOk}
 use Rattle.sk_value.specs.declared.action.Action.TheVariants as action
-use Rattle.sk_model.specs.Class.{class_of}
+use Rattle.sk_key.specs.Class.{class_of}
 use Rattle.sk_model.specs.Outcome.{Comes}
 use Rattle.sk_model.specs.Step.{on_plain}
 use Rattle.sk_model.specs.World.{World}

@@ -3,9 +3,8 @@ use Rattle.sk_resp.specs.declared.reply.Reply.{Reply}
 use Rattle.sk_places.specs.declared.row.Place.TheVariants.{Queue}
 use Rattle.sk_model.specs.Outcome.{Comes}
 use Rattle.sk_model.specs.Queues.{push}
-use Rattle.sk_model.specs.Room.{bytes_of, is_full}
+use Rattle.sk_model.specs.Room.{bytes_of, is_full, with_pushed}
 use Rattle.sk_keyspace.specs.Edits.{all_pushed}
-use Rattle.sk_keyspace.specs.Whole.{with_pushed}
 use Rattle.sk_keyspace.proofs.Editing.{full_comes, push_comes}
 use Rattle.sk_keyspace.proofs.pushes.push.Goals as goal
 

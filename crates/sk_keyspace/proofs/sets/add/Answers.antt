@@ -5,11 +5,10 @@ use Rattle.sk_zset.specs.Pair.{Pair}
 use Rattle.sk_places.specs.declared.row.Place.TheVariants.{Set}
 use Rattle.sk_places.specs.Rows.{rows_at}
 use Rattle.sk_model.specs.Outcome.{Comes}
-use Rattle.sk_model.specs.Room.{bytes_of, is_full}
+use Rattle.sk_model.specs.Room.{bytes_of, is_full, with_pushed}
 use Rattle.sk_model.specs.Sets.{add}
-use Rattle.sk_keyspace.specs.Whole.{with_pushed}
 use Rattle.sk_keyspace.proofs.Editing.{add_comes, add_full}
-use Rattle.sk_keyspace.proofs.Fitting.{how_many_pairs}
+use Rattle.sk_model.proofs.Fitting.{how_many_pairs}
 use Rattle.sk_keyspace.proofs.sets.add.Goals as goal
 
 pub returns-then-is_full-clause-ok : goal.returns-then-is_full-clause-ok

@@ -1,8 +1,8 @@
 use Rattle.std.proofs.Common.{◌∙◌, ap}
 use Rattle.sk_model.specs.Change.{perform}
 use Rattle.sk_model.specs.Sets.{add_each}
-use Rattle.sk_keyspace.specs.Whole.{with_pushed}
-use Rattle.sk_keyspace.proofs.Coming.{both_ok}
+use Rattle.sk_model.specs.Room.{with_pushed}
+use Rattle.sk_model.proofs.Coming.{both_ok}
 use Rattle.sk_keyspace.proofs.sets.add_all.Goals as goal
 
 pub returns-clause-ok : goal.returns-clause-ok

@@ -4,7 +4,7 @@ use Rattle.sk_model.specs.Change.{perform}
 use Rattle.sk_model.specs.Sets.{add_each}
 use Rattle.sk_model.specs.World.{World}
 use Rattle.sk_model.specs.declared.limits.Limits.{Limits}
-use Rattle.sk_keyspace.specs.Whole.{with_pushed}
+use Rattle.sk_model.specs.Room.{with_pushed}
 use Rattle.sk_keyspace.proofs.sets.add_each.Given as goal
 
 -- those that are left come on top of those that were added

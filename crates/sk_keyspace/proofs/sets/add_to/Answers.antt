@@ -3,7 +3,7 @@ use Rattle.sk_cmd.specs.declared.argument.Scored.{Scored}
 use Rattle.sk_model.specs.Outcome.{Comes}
 use Rattle.sk_model.specs.Sets.{add_to}
 use Rattle.sk_model.specs.World.{World}
-use Rattle.sk_keyspace.specs.Whole.{with_pushed}
+use Rattle.sk_model.specs.Room.{with_pushed}
 use Rattle.sk_keyspace.proofs.sets.add_to.Goals as goal
 
 pub returns-in-Schedule-clause-ok : goal.returns-in-Schedule-clause-ok

@@ -1,6 +1,6 @@
 use Rattle.std.proofs.Common.{List, ap, filter, subst, sym}
 use Rattle.sk_resp.specs.declared.reply.Reply.{Reply}
-use Rattle.sk_value.specs.Sets.{is_member}
+use Rattle.sk_resp.specs.WordOrder.{is_member}
 use Rattle.sk_value.specs.declared.edit.Edit.TheVariants as edit
 use Rattle.sk_places.specs.declared.row.Place.TheVariants.{Set}
 use Rattle.sk_places.specs.declared.row.Row.{Row}

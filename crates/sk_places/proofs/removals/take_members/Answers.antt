@@ -4,7 +4,7 @@ use Rattle.std.specs.List.{filter}
 use Rattle.sk_lives.specs.Lives.{all_ended}
 use Rattle.sk_lives.specs.declared.ending.Ending.TheVariants.{Deleted}
 use Rattle.sk_places.specs.Ends.{texts_of}
-use Rattle.sk_value.specs.Sets.{is_member}
+use Rattle.sk_resp.specs.WordOrder.{is_member}
 use Rattle.sk_places.specs.declared.row.Place.TheVariants.{Set}
 use Rattle.sk_places.specs.declared.wanted.Wanted.TheVariants.{Members}
 use Rattle.sk_places.specs.Rows.{is_at}

@@ -2,7 +2,7 @@ use Rattle.std.proofs.Common.{◌≡◌, ◌∙◌, sym, false}
 use Rattle.sk_model.specs.Seats.{is_workers}
 use Rattle.sk_model.specs.World.{phase_of}
 use Rattle.sk_core.proofs.Stepping.{releases_not}
-use Rattle.sk_keyspace.proofs.Coming.{on_err}
+use Rattle.sk_model.proofs.Coming.{on_err}
 use Rattle.sk_core.proofs.parts.Parts.act_by.Goals as goal
 
 pub returns-then-adds-clause-release : goal.returns-then-adds-clause-release

@@ -1,7 +1,7 @@
 use Rattle.std.proofs.Common.{◌∙◌, ap}
 use Rattle.sk_model.specs.Status.{numbers}
 use Rattle.sk_core.specs.Whole.{world_in}
-use Rattle.sk_keyspace.proofs.Coming.{if_ok}
+use Rattle.sk_model.proofs.Coming.{if_ok}
 use Rattle.sk_core.proofs.parts.Parts.numbers.Goals as goal
 
 pub returns : goal.returns

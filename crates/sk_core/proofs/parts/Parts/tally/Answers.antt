@@ -1,5 +1,5 @@
 use Rattle.std.proofs.Common.{◌∙◌, ap}
-use Rattle.sk_scripts.specs.Counting.{tally_of}
+use Rattle.sk_jobs.specs.Counting.{tally_of}
 use Rattle.sk_core.specs.Whole.{world_in}
 use Rattle.sk_core.proofs.parts.Parts.tally.Goals as goal
 

@@ -2,7 +2,7 @@ use Rattle.std.proofs.Common.{◌≡◌, not, false, true, List, ap, subst, sym,
 use Rattle.std.specs.List.{insert}
 use Rattle.sk_resp.specs.Spelling.{Bytes}
 use Rattle.sk_undo.specs.Steps.{edited}
-use Rattle.sk_value.specs.Sets.{is_member}
+use Rattle.sk_resp.specs.WordOrder.{is_member}
 use Rattle.sk_lives.specs.Words.{is_sorted, with_word, words_of}
 use Rattle.sk_lives.specs.WordSet.{set_in}
 use Rattle.sk_lives.proofs.Places.{entry_put, member_at, place, sorted_ordered, sorted_with, with_again, with_new}

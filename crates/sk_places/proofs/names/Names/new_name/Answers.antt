@@ -1,5 +1,5 @@
 use Rattle.std.proofs.Common.{◌≡◌, ap, subst, sym, true, ◌∙◌}
-use Rattle.sk_value.specs.Sets.{is_member}
+use Rattle.sk_resp.specs.WordOrder.{is_member}
 use Rattle.sk_places.specs.Placed.{named}
 use Rattle.sk_lives.proofs.Places.{sorted_ordered, with_again}
 use Rattle.sk_places.proofs.names.Names.new_name.Goals as goal

@@ -1,6 +1,6 @@
 use Rattle.std.proofs.Common.{ap, sym}
 use Rattle.sk_undo.specs.Steps.{edited}
-use Rattle.sk_value.specs.Sets.{is_member}
+use Rattle.sk_resp.specs.WordOrder.{is_member}
 use Rattle.sk_lives.specs.declared.ending.Ending.TheVariants.{Deleted}
 use Rattle.sk_places.specs.declared.row.Place.TheVariants.{Set}
 use Rattle.sk_places.specs.Whole.{placed_in}

@@ -3,7 +3,7 @@ use Rattle.std.specs.Map.{lookup, set_value}
 use Rattle.std.specs.Option.{option_copied_mut}
 use Rattle.std.specs.BTreeMap.{is_at}
 use Rattle.std.specs.Ordering.{nat_cmp}
-use Rattle.sk_model.specs.Phases.{or_plain, phase_in}
+use Rattle.sk_seats.specs.Phases.{or_plain, phase_in}
 use Rattle.sk_seats.specs.Turn.{after}
 use Rattle.sk_seats.specs.Order.{InOrder}
 use Rattle.sk_seats.proofs.Seating.{turned_after}

@@ -1,0 +1,7 @@
+use Rattle.std.proofs.Common.{◌≡◌, ◌++◌, drop, map}
+use Rattle.sk_jobs.specs.Counting.{waiting}
+use Rattle.sk_jobs.proofs.status.queue_counts.Given as goal
+
+-- those so far, and those of the names that are left
+abbrev pub invariant-loop-at : goal.invariant-loop-at
+invariant-loop-at l = l.list.items ++ map (waiting l.places.stands.rows) (drop l.at l.places.stands.names) ≡ map (waiting l.places.stands.rows) l.places.stands.names

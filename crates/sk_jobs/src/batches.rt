@@ -1,0 +1,482 @@
+// SK.BPUSH bid parent complete success death [payload ..], SK.BADD bid payload .., SK.BSTAT bid: batches of jobs (Sidekiq's wiki, "Batches"). A
+// batch and its jobs come in one step, whole or not at all.
+ghost use Rattle.std.specs.Prelude.{◌≡◌, ◌&&◌, ℕ, IfOk, OnErr, OnOk, None, cond, not};
+ghost use Rattle.std.specs.Result.{result_err};
+ghost use Rattle.sk_payload.specs.Head.{head as head_of};
+ghost use Rattle.sk_payload.specs.Member.{is_name};
+ghost use Rattle.sk_batch.specs.Events.{joined, made, made_fires};
+ghost use Rattle.sk_batch.specs.Faults.{add_fault, bid_fault, breaks, is_full as has_most, jids_fault, make_fault};
+ghost use Rattle.sk_batch.specs.declared.batch_fault.BatchFault.TheVariants as fault;
+ghost use Rattle.sk_lives.specs.Lives.{jid_of};
+ghost use Rattle.sk_model.specs.Batches.{all_may_join, are_callbacks, batch_add, batch_of, batch_push, batch_stat, fault_say, is_callback, jids_of, join, make, may_call, may_join, or_none, push_jobs, unless};
+ghost use Rattle.sk_model.specs.Change.{perform};
+ghost use Rattle.sk_model.specs.Outcome.{Comes, Outcome, refuses};
+ghost use Rattle.sk_seats.specs.Phases.{Phases};
+ghost use Rattle.sk_model.specs.Room.{is_too_much, with_pushed};
+ghost use Rattle.sk_model.specs.World.{World};
+ghost use Rattle.sk_undo.specs.Steps.{edited};
+ghost use Rattle.sk_value.specs.Answer.{counted};
+ghost use Rattle.sk_jobs.specs.Batching.{limited, unless_told};
+ghost use Rattle.sk_jobs.specs.Seated.{with_seats};
+ghost use Rattle.sk_jobs.specs.Stocked.{IsClosed, KeepsStep, at};
+
+use crate::calls::{call_all, push_job};
+use crate::stock::Stock;
+use sk_batch::{Batch, BatchFault, Batches, Callbacks, Firing};
+use sk_lives::Origin;
+use sk_model::{Limits, bytes_of, is_full};
+use sk_payload::{Payload, payloads_of};
+use sk_places::Places;
+use sk_resp::{Memory, Refusal, Replies, Reply, Say, Word, Words};
+use sk_seats::Seats;
+use sk_value::{as_reply, counted, one_if, refused};
+use std::alloc::Global;
+use std::marker::Model;
+
+/// The words of `SK.BPUSH`. An empty word is none.
+#[derive(Drop)]
+pub struct BatchWords {
+    /// The id of the new batch, a name of at most 64 bytes.
+    pub bid: Word,
+    /// The batch that it is in.
+    pub parent: Word,
+    /// The job that is pushed when the batch is complete.
+    pub complete: Word,
+    /// The job that is pushed when it has succeeded.
+    pub success: Word,
+    /// The job that is pushed when it has died.
+    pub death: Word,
+    /// Its first jobs.
+    pub texts: Words,
+}
+
+// ## The words
+
+// An empty word is none.
+fn or_none(word: Word) -> Option<Word>
+    ensures { result ≡ or_none word }
+{
+    if word.bytes().is_empty() {
+        None
+    } else {
+        Some(word)
+    }
+}
+
+// The job of a callback, where there is one. Its text is parsed here, once.
+fn callback_of(alloc: Global, word: Word) -> Result<Option<Payload>, Memory>
+    ensures { IfOk result (λ callback. callback ≡ or_none word) }
+{
+    match or_none(word) {
+        Some(text) => Ok(Some(Payload::of(alloc, text)?)),
+        None => Ok(None),
+    }
+}
+
+// The batch that words tell of.
+fn batch_of(
+    alloc: Global,
+    bid: Word,
+    parent: Word,
+    complete: Word,
+    success: Word,
+    death: Word,
+) -> Result<Batch, Memory>
+    ensures { IfOk result (λ batch. batch ≡ batch_of bid parent complete success death) }
+{
+    let callbacks = Callbacks {
+        complete: callback_of(alloc, complete)?,
+        success: callback_of(alloc, success)?,
+        death: callback_of(alloc, death)?,
+    };
+    Ok(Batch {
+        bid,
+        parent: or_none(parent),
+        callbacks,
+    })
+}
+
+// The job that a payload names.
+fn jid_of(alloc: Global, payload: &Payload) -> Result<Option<Word>, Memory>
+    ensures { IfOk result (λ jid. jid ≡ jid_of payload.now) }
+{
+    let Some(head) = payload.head() else {
+        return Ok(None);
+    };
+    let jid = head.jid.text().as_bytes().to_vec(alloc)?;
+    Ok(Some(Word::new(jid)))
+}
+
+// The jobs that payloads name.
+fn jids_of(alloc: Global, payloads: &[Payload]) -> Result<Vec<Word>, Memory>
+    ensures { IfOk result (λ jids. jids.items ≡ jids_of payloads.now) }
+{
+    let mut jids = Vec::with_capacity(alloc, payloads.len())?;
+    for payload in payloads {
+        if let Some(jid) = jid_of(alloc, payload)? {
+            jids.push(jid)?;
+        }
+    }
+    Ok(jids)
+}
+
+// The jobs that a batch gets. Contracts see their texts.
+#[derive(Drop)]
+struct Jobs {
+    payloads: Vec<Payload>,
+    jids: Vec<Word>,
+    // of all texts together
+    bytes: u128,
+}
+
+impl Model for Jobs {
+    ghost use Rattle.std.specs.Prelude.{◌≡◌, List, ℕ};
+    ghost use Rattle.sk_model.specs.Batches.{jids_of};
+    ghost use Rattle.sk_model.specs.Room.{bytes_of};
+
+    ghost Value = { List (List ℕ) };
+
+    ghost view = { λ j. j.payloads.items };
+
+    ghost invariant = { λ j. (j.jids.items ≡ jids_of j.payloads.items) × (j.bytes ≡ bytes_of j.payloads.items) };
+}
+
+impl Jobs {
+    // Each text is parsed here, once.
+    fn of(alloc: Global, texts: Words) -> Result<Jobs, Memory>
+        ensures { IfOk result (λ jobs. jobs ≡ texts) }
+    {
+        let bytes = bytes_of(texts.list());
+        let payloads = payloads_of(alloc, texts.into_list())?;
+        let jids = jids_of(alloc, &payloads)?;
+        Ok(Jobs {
+            payloads,
+            jids,
+            bytes,
+        })
+    }
+
+    fn jids(&self) -> &[Word]
+        ensures { result.now ≡ jids_of self.now }
+    {
+        &self.jids
+    }
+
+    // The text of each of them names the batch.
+    fn may_join(&self, bid: &[u8]) -> bool
+        ensures { result ≡ all_may_join bid.now self.now }
+    {
+        self.payloads.iter().all(|payload| may_join(bid, payload))
+    }
+
+    // They are more than the store takes.
+    fn are_too_much(&self, limits: &Limits, places: &Places) -> bool
+        ensures { (w : World) (phases : Phases) → result ≡ is_too_much (with_pushed w limits.now phases places.now.stands) self.now }
+    {
+        let count = self.payloads.len();
+        count > 0 && is_full(limits, places, count, self.bytes)
+    }
+}
+
+// ## The rules
+
+// The bytes are the id of a batch.
+fn is_bid(bid: &[u8]) -> bool
+    ensures { result ≡ is_name 64 bid.now }
+{
+    sk_base::is_name(bid, 64)
+}
+
+// The text of the job names the batch.
+fn may_join(bid: &[u8], payload: &Payload) -> bool
+    ensures { result ≡ may_join bid.now (head_of payload.now) }
+{
+    let Some(head) = payload.head() else {
+        return false;
+    };
+    match &head.bid {
+        Some(other) => other.text().as_bytes() == bid,
+        None => false,
+    }
+}
+
+// The job is of no batch, and without a lock.
+fn may_call(payload: &Payload) -> bool
+    ensures { result ≡ may_call (head_of payload.now) }
+{
+    match payload.head() {
+        Some(head) => head.bid.is_none() && head.lock.is_none(),
+        None => false,
+    }
+}
+
+// There is no job, or it may be a callback's.
+fn is_callback(callback: &Option<Payload>) -> bool
+    ensures { result ≡ is_callback callback.now }
+{
+    match callback {
+        Some(payload) => may_call(payload),
+        None => true,
+    }
+}
+
+fn are_callbacks(callbacks: &Callbacks) -> bool
+    ensures { result ≡ are_callbacks callbacks.now }
+{
+    is_callback(&callbacks.complete)
+        && is_callback(&callbacks.success)
+        && is_callback(&callbacks.death)
+}
+
+// What is told of a rule of the batches that is broken.
+fn say_of(fault: BatchFault) -> Say
+    ensures { result ≡ fault_say fault }
+{
+    match fault {
+        BatchFault::NoBatch => Say::Refused(Refusal::NoBatch),
+        BatchFault::RepeatedBid => Say::Refused(Refusal::RepeatedBid),
+        BatchFault::Settled => Say::Refused(Refusal::Settled),
+        BatchFault::RepeatedJid => Say::Refused(Refusal::RepeatedJid),
+        BatchFault::Full => Say::Refused(Refusal::Full),
+        BatchFault::Memory => Say::Oom,
+    }
+}
+
+// A rule of the batches is broken, as it is told.
+fn told(checked: Result<(), BatchFault>) -> Result<(), Say>
+    ensures told { (o : Outcome) → unless (result_err checked) o ≡ unless_told result o }
+    ensures kept { OnOk result (result_err checked ≡ None) }
+{
+    match checked {
+        Ok(()) => Ok(()),
+        Err(fault) => Err(say_of(fault)),
+    }
+}
+
+// What isn't so is refused.
+fn check(passes: bool, refusal: Refusal) -> Result<(), Say>
+    ensures { (o : Outcome) → cond (not passes) (refuses refusal) o ≡ unless_told result o }
+{
+    if passes {
+        Ok(())
+    } else {
+        Err(Say::Refused(refusal))
+    }
+}
+
+// The callbacks of a new batch may be called, and its jobs may join it.
+fn are_fit(batch: &Batch, jobs: &Jobs) -> bool
+    ensures { result ≡ (are_callbacks batch.now.callbacks && all_may_join batch.now.bid jobs.now) }
+{
+    are_callbacks(&batch.callbacks) && jobs.may_join(batch.bid.bytes())
+}
+
+// The rules on the id and the parent of a new batch.
+fn check_bid(batches: &Batches, batch: &Batch) -> Result<(), BatchFault>
+    ensures { result_err result ≡ bid_fault batch.now.bid batch.now.parent batches.now.stands None }
+{
+    batches.check_bid(batch.bid.bytes(), batch.parent.as_ref().map(Word::bytes))
+}
+
+// The rules on the jids of a new batch, and there may be one more.
+fn check_new(batches: &Batches, bid: &[u8], jids: &[Word]) -> Result<(), BatchFault>
+    ensures { result_err result ≡ jids_fault bid.now jids.now batches.now.stands (breaks (has_most batches.now.stands) fault.Full None) }
+{
+    batches.check_jids(bid, jids)?;
+    if batches.is_full() {
+        Err(BatchFault::Full)
+    } else {
+        Ok(())
+    }
+}
+
+// All rules on a new batch and its first jobs.
+fn check_push(limits: &Limits, stock: &Stock, batch: &Batch, jobs: &Jobs) -> Result<(), Say>
+    ensures told { (w : World) (moment : ℕ) (phases : Phases) → batch_push (limited limits.now (at w moment stock.now phases)) batch.now jobs.now ≡ unless_told result (make batch.now jobs.now) }
+    ensures kept { OnOk result (make_fault batch.now.bid batch.now.parent (jids_of jobs.now) stock.now.batches.stands ≡ None) }
+{
+    let bid = batch.bid.bytes();
+    check(is_bid(bid), Refusal::NoBatch)?;
+    told(check_bid(&stock.batches, batch))?;
+    check(are_fit(batch, jobs), Refusal::BadPayload)?;
+    told(check_new(&stock.batches, bid, jobs.jids()))?;
+    check(!jobs.are_too_much(limits, &stock.places), Refusal::Full)
+}
+
+// All rules on jobs that a batch gets.
+fn check_add(limits: &Limits, stock: &Stock, bid: &[u8], jobs: &Jobs) -> Result<(), Say>
+    ensures told { (w : World) (moment : ℕ) (phases : Phases) → batch_add (limited limits.now (at w moment stock.now phases)) bid.now jobs.now ≡ unless_told result (join bid.now jobs.now) }
+    ensures kept { OnOk result (add_fault bid.now (jids_of jobs.now) stock.now.batches.stands ≡ None) }
+{
+    told(stock.batches.check_batch(bid))?;
+    check(jobs.may_join(bid), Refusal::BadPayload)?;
+    told(stock.batches.check_jids(bid, jobs.jids()))?;
+    check(!jobs.are_too_much(limits, &stock.places), Refusal::Full)
+}
+
+// ## The jobs come
+
+// The jobs are pushed, one after another, each at the left end of the queue that its head names.
+fn push_jobs(seats: &Seats, places: &mut Places, payloads: Vec<Payload>) -> Result<(), Memory>
+    ensures ok { OnOk result ((w : World) → with_seats w places.new.stands seats.now ≡ perform (with_seats w places.old.stands seats.now) (push_jobs payloads.items)) }
+    ensures step { places.new.stood ≡ places.old.stood }
+{
+    for payload in payloads {
+        push_job(seats, places, payload, Origin::Outside)?;
+    }
+    Ok(())
+}
+
+// The batch is made. No rule is broken, so that memory alone can be wanting.
+fn make_batch(
+    alloc: Global,
+    batches: &mut Batches,
+    batch: Batch,
+    jids: Vec<Word>,
+) -> Result<Vec<Firing>, Memory>
+    requires { make_fault batch.bid batch.parent jids.items batches.old.stands ≡ None }
+    ensures fires { IfOk result (λ firings. firings.items ≡ made_fires batch jids.items) }
+    ensures ok { OnOk result (batches.new ≡ edited (made batch jids.items batches.old.stands) batches.old) }
+    ensures step { batches.new.stood ≡ batches.old.stood }
+{
+    match batches.make(alloc, batch, jids) {
+        Ok(firings) => Ok(firings),
+        Err(BatchFault::Memory) => Err(Memory),
+        Err(_) => unreachable!(),
+    }
+}
+
+// The batch gets the jobs, in the same way.
+fn add_jobs(alloc: Global, batches: &mut Batches, bid: &[u8], jids: Vec<Word>) -> Result<(), Memory>
+    requires { add_fault bid.now jids.items batches.old.stands ≡ None }
+    ensures ok { OnOk result (batches.new ≡ edited (joined bid.now jids.items batches.old.stands) batches.old) }
+    ensures step { batches.new.stood ≡ batches.old.stood }
+{
+    match batches.add(alloc, bid, jids) {
+        Ok(()) => Ok(()),
+        Err(BatchFault::Memory) => Err(Memory),
+        Err(_) => unreachable!(),
+    }
+}
+
+// The batch is made with its jobs, and they are pushed; without any it fires at once. After want of memory a part of it is done.
+fn make_open(
+    alloc: Global,
+    seats: &Seats,
+    stock: &mut Stock,
+    batch: Batch,
+    jobs: Jobs,
+) -> Result<Reply, Memory>
+    requires { make_fault batch.bid batch.parent (jids_of jobs) stock.old.batches.stands ≡ None }
+    ensures ok { IfOk result (λ reply. (w : World) (moment : ℕ) → Comes (at w moment stock.old seats.now) (make batch jobs) reply (at w moment stock.new seats.now)) }
+    ensures step { KeepsStep stock.old stock.new }
+{
+    let firings = make_batch(alloc, &mut stock.batches, batch, jobs.jids)?;
+    push_jobs(seats, &mut stock.places, jobs.payloads)?;
+    let fired = call_all(alloc, seats, &mut stock.places, firings)?;
+    as_reply(alloc, fired)
+}
+
+// The batch gets the jobs, and they are pushed. After want of memory a part of it is done.
+fn join_open(
+    alloc: Global,
+    seats: &Seats,
+    stock: &mut Stock,
+    bid: &[u8],
+    jobs: Jobs,
+) -> Result<Reply, Memory>
+    requires { add_fault bid.now (jids_of jobs) stock.old.batches.stands ≡ None }
+    ensures ok { IfOk result (λ reply. (w : World) (moment : ℕ) → Comes (at w moment stock.old seats.now) (join bid.now jobs) reply (at w moment stock.new seats.now)) }
+    ensures step { KeepsStep stock.old stock.new }
+{
+    let count = jobs.payloads.len();
+    add_jobs(alloc, &mut stock.batches, bid, jobs.jids)?;
+    push_jobs(seats, &mut stock.places, jobs.payloads)?;
+    Ok(counted(count))
+}
+
+// ## The commands
+
+/// SK.BPUSH: a batch is made with its first jobs, and they are pushed. Without any its complete and its success are fired at once. The answer names
+/// what was fired, the batch and the kind of each firing. Each text is parsed here, once. It is refused with
+///
+/// - [`Refusal::NoBatch`], where the id is no name, or there is no such parent,
+/// - [`Refusal::RepeatedBid`], where a batch of the id is there,
+/// - [`Refusal::Settled`], where the parent has no open job,
+/// - [`Refusal::BadPayload`], where a callback has no head, a batch or a lock, or where the text of a job doesn't name the batch,
+/// - [`Refusal::RepeatedJid`], where a job comes twice, and
+/// - [`Refusal::Full`], where there are as many batches, rows, bytes or pushes as there may be.
+pub fn push_batch(
+    alloc: Global,
+    limits: &Limits,
+    seats: &Seats,
+    stock: &mut Stock,
+    words: BatchWords,
+) -> Result<Reply, Memory>
+    requires { IsClosed stock.old }
+    ensures ok { IfOk result (λ reply. (w : World) (moment : ℕ) → Comes (limited limits.now (at w moment stock.old seats.now)) (batch_push (limited limits.now (at w moment stock.old seats.now)) (batch_of words.bid words.parent words.complete words.success words.death) words.texts) reply (limited limits.now (at w moment stock.new seats.now))) }
+    ensures closed { IsClosed stock.new }
+    ensures err { OnErr result (stock.new ≡ stock.old) }
+{
+    let batch = batch_of(
+        alloc,
+        words.bid,
+        words.parent,
+        words.complete,
+        words.success,
+        words.death,
+    )?;
+    let jobs = Jobs::of(alloc, words.texts)?;
+    if let Err(say) = check_push(limits, stock, &batch, &jobs) {
+        return Ok(Reply::Say(say));
+    }
+    stock.begin();
+    let done = make_open(alloc, seats, stock, batch, jobs);
+    stock.close(done)
+}
+
+/// SK.BADD: a batch gets more jobs, and they are pushed. The answer tells how many they are. Each text is parsed here, once. It is refused with
+///
+/// - [`Refusal::NoBatch`], where there is no such batch,
+/// - [`Refusal::Settled`], where it has no open job,
+/// - [`Refusal::BadPayload`], where the text of a job doesn't name the batch,
+/// - [`Refusal::RepeatedJid`], where a job comes twice, or is in the batch, and
+/// - [`Refusal::Full`], where there are as many rows, bytes or pushes as there may be.
+pub fn add_to_batch(
+    alloc: Global,
+    limits: &Limits,
+    seats: &Seats,
+    stock: &mut Stock,
+    bid: &Word,
+    texts: Words,
+) -> Result<Reply, Memory>
+    requires { IsClosed stock.old }
+    ensures ok { IfOk result (λ reply. (w : World) (moment : ℕ) → Comes (limited limits.now (at w moment stock.old seats.now)) (batch_add (limited limits.now (at w moment stock.old seats.now)) bid.now texts) reply (limited limits.now (at w moment stock.new seats.now))) }
+    ensures closed { IsClosed stock.new }
+    ensures err { OnErr result (stock.new ≡ stock.old) }
+{
+    let jobs = Jobs::of(alloc, texts)?;
+    if let Err(say) = check_add(limits, stock, bid.bytes(), &jobs) {
+        return Ok(Reply::Say(say));
+    }
+    stock.begin();
+    let done = join_open(alloc, seats, stock, bid.bytes(), jobs);
+    stock.close(done)
+}
+
+/// SK.BSTAT: how many members the batch has, how many of them haven't returned and how many weren't reported, 1 where one was buried and else 0, and
+/// how many members of the batch and of those within it haven't returned. It is refused where there is no such batch.
+pub fn batch_stat(alloc: Global, stock: &Stock, bid: &Word) -> Result<Reply, Memory>
+    ensures { IfOk result (λ reply. (w : World) (moment : ℕ) (phases : Phases) → Comes (at w moment stock.now phases) (batch_stat (at w moment stock.now phases) bid.now) reply (at w moment stock.now phases)) }
+{
+    let Some(stat) = stock.batches.stat(bid.bytes()) else {
+        return Ok(refused(Refusal::NoBatch));
+    };
+    let mut parts = Vec::with_capacity(alloc, 5)?;
+    parts.push(counted(stat.members as usize))?;
+    parts.push(counted(stat.pending as usize))?;
+    parts.push(counted(stat.unreported as usize))?;
+    parts.push(one_if(stat.died))?;
+    parts.push(counted(stat.pending_under as usize))?;
+    Ok(Reply::Array(Replies::new(parts)))
+}

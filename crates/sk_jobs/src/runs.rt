@@ -1,0 +1,160 @@
+// What a worker tells of the run of its job: SK.START payload, SK.FAIL payload, SK.OK payload, SK.DROP payload.
+ghost use Rattle.std.specs.Prelude.{◌≡◌, ◌∷◌, ◌≤◌, [], ℕ, IfOk, IfErr, OnErr};
+ghost use Rattle.sk_base.specs.Score.{last_moment};
+ghost use Rattle.sk_resp.specs.Spelling.{Bytes};
+ghost use Rattle.sk_batch.specs.declared.event.Event.TheVariants as event;
+ghost use Rattle.sk_counters.specs.Counters.{failed, processed};
+ghost use Rattle.sk_places.specs.Placed.{Placed};
+ghost use Rattle.sk_model.specs.Change.{Counts, Turns};
+ghost use Rattle.sk_model.specs.Outcome.{Comes, Outcome, refuses};
+ghost use Rattle.sk_seats.specs.Phases.{Phases, phase_in, turned};
+ghost use Rattle.sk_model.specs.Seats.{where_same};
+ghost use Rattle.sk_model.specs.Told.{and_tell};
+ghost use Rattle.sk_model.specs.Workers.{drop, fail, ok, start};
+ghost use Rattle.sk_model.specs.World.{World};
+ghost use Rattle.sk_jobs.specs.Calls.{Alike, member_of};
+ghost use Rattle.sk_jobs.specs.Seated.{with_seats};
+ghost use Rattle.sk_jobs.specs.Stocked.{IsClosed, KeepsStep, at};
+
+use crate::calls::{member_of, tell};
+use crate::stock::Stock;
+use sk_batch::{Event, Member};
+use sk_counters::Counted;
+use sk_resp::{Memory, Refusal, Reply, Say, Word};
+use sk_seats::{End, Phase, Seats, Turn};
+use sk_value::{as_reply, refused};
+use std::alloc::Global;
+
+/// A worker's seat tells of the very text that it holds, and of no other. Else this is the refusal.
+pub fn tells_of(phase: &Phase, text: &Word) -> Result<(), Refusal>
+    ensures held { IfOk result (λ held. (ident : Bytes) × (phase.now ≡ Phase.Held ident text.now)) }
+    ensures refused { IfErr result (λ refusal. (o : Bytes → Outcome) → where_same phase.now text.now o ≡ refuses refusal) }
+{
+    match phase {
+        Phase::Plain => Err(Refusal::NotWorker),
+        Phase::Held(_, payload) => {
+            if payload.text().bytes() == text.bytes() {
+                Ok(())
+            } else {
+                Err(Refusal::OutOfTurn)
+            }
+        }
+        _ => Err(Refusal::OutOfTurn),
+    }
+}
+
+/// SK.START: the job that the seat holds is about to run.
+pub fn start(seats: &Seats, seat: u32, text: &Word) -> Reply
+    ensures { (w : World) → Comes w (start (phase_in seats.now seat) text.now) result w }
+{
+    match tells_of(seats.get(seat), text) {
+        Ok(()) => Reply::Say(Say::Ok),
+        Err(refusal) => refused(refusal),
+    }
+}
+
+// The member that the job of a seat's payload is, where its head names a batch.
+fn member_at(alloc: Global, phase: &Phase) -> Result<Option<Member>, Memory>
+    ensures { IfOk result (λ member. (ident text : Bytes) → phase.now ≡ Phase.Held ident text → member ≡ member_of text) }
+{
+    match phase {
+        Phase::Held(_, payload) => member_of(alloc, payload),
+        _ => Ok(None),
+    }
+}
+
+// The run of a job has ended: it counts, and its batch is told. After want of memory a part of it is done.
+fn fail_open(
+    alloc: Global,
+    moment: u64,
+    seats: &Seats,
+    stock: &mut Stock,
+    member: Option<Member>,
+) -> Result<Reply, Memory>
+    requires { moment ≤ last_moment }
+    ensures ok { IfOk result (λ reply. (w : World) (text : Bytes) → member ≡ member_of text → Comes (at w moment stock.old seats.now) (and_tell event.Reported (at w moment stock.old seats.now) text (Counts processed ∷ Counts failed ∷ [])) reply (at w moment stock.new seats.now)) }
+    ensures step { KeepsStep stock.old stock.new }
+{
+    stock.counters.raise(Counted::Processed, moment)?;
+    stock.counters.raise(Counted::Failed, moment)?;
+    let fired = tell(alloc, seats, stock, Event::Reported, member)?;
+    as_reply(alloc, fired)
+}
+
+/// SK.FAIL: the job that the seat holds has raised. The answer names what its batch fired.
+pub fn fail(
+    alloc: Global,
+    moment: u64,
+    seats: &Seats,
+    stock: &mut Stock,
+    seat: u32,
+    text: &Word,
+) -> Result<Reply, Memory>
+    requires early { moment ≤ last_moment }
+    requires closed { IsClosed stock.old }
+    ensures ok { IfOk result (λ reply. (w : World) → Comes (at w moment stock.old seats.now) (fail (at w moment stock.old seats.now) (phase_in seats.now seat) text.now) reply (at w moment stock.new seats.now)) }
+    ensures closed { IsClosed stock.new }
+    ensures err { OnErr result (stock.new ≡ stock.old) }
+{
+    if let Err(refusal) = tells_of(seats.get(seat), text) {
+        return Ok(refused(refusal));
+    }
+    let member = member_at(alloc, seats.get(seat))?;
+    stock.begin();
+    let done = fail_open(alloc, moment, seats, stock, member);
+    stock.close(done)
+}
+
+// The run of a job has ended well, in the same way. The seat turns then.
+fn succeed_open(
+    alloc: Global,
+    moment: u64,
+    seats: &Seats,
+    stock: &mut Stock,
+    member: Option<Member>,
+) -> Result<Reply, Memory>
+    requires { moment ≤ last_moment }
+    ensures ok { IfOk result (λ reply. (w : World) (phases : Phases) (seat : ℕ) (ident text : Bytes) → member ≡ member_of text → Alike (turned seat (Phase.Settled ident text End.Returned) phases) seats.now → Comes (at w moment stock.old phases) (and_tell event.Returned (at w moment stock.old phases) text (Turns seat (Phase.Settled ident text End.Returned) ∷ Counts processed ∷ [])) reply (at w moment stock.new (turned seat (Phase.Settled ident text End.Returned) phases))) }
+    ensures step { KeepsStep stock.old stock.new }
+{
+    stock.counters.raise(Counted::Processed, moment)?;
+    let fired = tell(alloc, seats, stock, Event::Returned, member)?;
+    as_reply(alloc, fired)
+}
+
+/// SK.OK: the job that the seat holds has returned, and the seat has still to release it. The answer names what its batch fired.
+pub fn succeed(
+    alloc: Global,
+    moment: u64,
+    seats: &mut Seats,
+    stock: &mut Stock,
+    seat: u32,
+    text: &Word,
+) -> Result<Reply, Memory>
+    requires early { moment ≤ last_moment }
+    requires closed { IsClosed stock.old }
+    ensures ok { IfOk result (λ reply. (w : World) → Comes (at w moment stock.old seats.old) (ok (at w moment stock.old seats.old) seat (phase_in seats.old seat) text.now) reply (at w moment stock.new seats.new)) }
+    ensures closed { IsClosed stock.new }
+    ensures err { OnErr result ((stock.new ≡ stock.old) × (seats.new ≡ seats.old)) }
+{
+    if let Err(refusal) = tells_of(seats.get(seat), text) {
+        return Ok(refused(refusal));
+    }
+    let member = member_at(alloc, seats.get(seat))?;
+    stock.begin();
+    let done = succeed_open(alloc, moment, seats, stock, member);
+    let reply = stock.close(done)?;
+    seats.turn(seat, Turn::Settle(End::Returned));
+    Ok(reply)
+}
+
+/// SK.DROP: the job that the seat holds is given up, and the seat has still to release it. Takes no memory.
+pub fn discard(seats: &mut Seats, seat: u32, text: &Word) -> Reply
+    ensures { (w : World) (p : Placed) → Comes (with_seats w p seats.old) (drop seat (phase_in seats.old seat) text.now) result (with_seats w p seats.new) }
+{
+    if let Err(refusal) = tells_of(seats.get(seat), text) {
+        return refused(refusal);
+    }
+    seats.turn(seat, Turn::Settle(End::Discarded));
+    Reply::Say(Say::Ok)
+}

@@ -1,7 +1,0 @@
-use Rattle.std.proofs.Common.{◌≡◌, ◌++◌}
-use Rattle.std.specs.Vec.Iter.{into_iter_items}
-use Rattle.sk_keyspace.proofs.pushes.payloads_of.Given as goal
-
--- those made so far, and the texts that are left
-abbrev pub invariant-loop-text : goal.invariant-loop-text
-invariant-loop-text l = l.payloads.items ++ into_iter_items l.text-iterator ≡ l.fn.texts.items

@@ -1,5 +1,0 @@
-use Rattle.sk_payload.proofs.Names.{same_test}
-use Rattle.sk_scripts.proofs.batches.is_bid.Goals as goal
-
-pub returns : goal.returns
-returns c = same_test c.is_name.result 64 c.args.bid.now c.is_name.ensures

@@ -1,7 +1,0 @@
-use Rattle.std.proofs.Common.{◌≡◌, ◌++◌, drop}
-use Rattle.sk_model.specs.Batches.{jids_of}
-use Rattle.sk_scripts.proofs.batches.jids_of.Given as goal
-
--- those so far, and those of the payloads that are left
-abbrev pub invariant-loop-payload : goal.invariant-loop-payload
-invariant-loop-payload l = l.jids.items ++ jids_of (drop l.payload-index l.payloads) ≡ jids_of l.payloads
