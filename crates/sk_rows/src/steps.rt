@@ -95,15 +95,30 @@ fn write_numbers(alloc: Global, store: &Core, out: &mut Vec<u8>) -> io::Result<(
     Ok(())
 }
 
+// Lets the store do the steps, of which each stands on a line, and appends its replies, and then its page, its tally and its seats' phases.
+fn write_answers(
+    alloc: Global,
+    store: &mut Core,
+    steps: &[u8],
+    out: &mut Vec<u8>,
+) -> io::Result<()> {
+    for line in text_of(steps)?.lines() {
+        let step = read_step(alloc, line)?;
+        let reply = store.step(step.seat, step.now, step.command);
+        write_reply(alloc, &reply, out)?;
+    }
+    write_numbers(alloc, store, out)
+}
+
+// The store goes. It stands by itself, since to drop a store opens all that is in it.
+fn close(_store: Core) {}
+
 /// What an empty store with the limits answers to the steps, of which each stands on a line, and then its page, its tally and its seats' phases.
 pub fn answers(alloc: Global, limits: &[String], steps: &[u8]) -> io::Result<Vec<u8>> {
     let mut store = Core::new(alloc, read_limits(limits)?);
     let mut out = Vec::new(alloc);
-    for line in text_of(steps)?.lines() {
-        let step = read_step(alloc, line)?;
-        let reply = store.step(step.seat, step.now, step.command);
-        write_reply(alloc, &reply, &mut out)?;
-    }
-    write_numbers(alloc, &store, &mut out)?;
+    let written = write_answers(alloc, &mut store, steps, &mut out);
+    close(store);
+    written?;
     Ok(out)
 }
