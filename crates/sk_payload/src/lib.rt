@@ -20,6 +20,3 @@ pub use head::{Head, Lock, Retry, Until};
 pub use payload::Payload;
 pub use payloads::payloads_of;
 pub use std::alloc::AllocError as Memory;
-
-#[cfg(test)]
-mod tests;

@@ -116,6 +116,3 @@ pub fn write_reply(alloc: Global, reply: &Reply, out: &mut Vec<u8>) -> Result<()
         Reply::NullArray => write_line(b"*-1", out),
     }
 }
-
-#[cfg(test)]
-mod tests;

@@ -18,6 +18,3 @@ pub use undo_list::UndoList;
 pub use undo_map::UndoMap;
 pub use undo_multiset::UndoMultiset;
 pub use undo_set::UndoSet;
-
-#[cfg(test)]
-mod tests;

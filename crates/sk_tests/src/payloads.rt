@@ -1,6 +1,6 @@
 // How large a job may be, and what a failed run makes of its text.
 
-use super::*;
+use sk_payload::{EditFault, Memory, Payload, follows};
 use sk_resp::Word;
 use std::alloc::Global;
 use std::test::Fail;

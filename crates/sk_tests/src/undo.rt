@@ -1,7 +1,7 @@
 // What no clause says: that with memory at hand each call answers, and that a long list stays fast however it grows.
 ghost use Rattle.std.specs.Prelude.{◌==◌};
 
-use super::*;
+use sk_undo::{Memory, Test, UndoList, Visit};
 use std::test::Fail;
 
 #[derive(Drop)]

@@ -1,6 +1,8 @@
 // What no clause says: which reads and writes fail, and where the pieces end.
 
-use super::*;
+use sk_base::{
+    Failed, Feed, Sink, Source, StdSink, StdSource, SteadyFeed, SteadyTray, Tray, write_all,
+};
 use std::io::{self, ErrorKind, Read, Write};
 use std::test::Fail;
 

@@ -1,6 +1,7 @@
 // What no clause says: that the definitions of replies are those of RESP2 and of this reader's limits.
 
-use super::*;
+use sk_resp::{Memory, Reply, ReplyFault, ReplyFeeder, write_reply};
+use std::alloc::Global;
 use std::test::Fail;
 
 /// A stream a line. First come the kinds of the replies in it: Simple, Error, Int, Bulk, Array, Null, or `Z` for a null array; `-` stands

@@ -1,7 +1,7 @@
 // What no clause says: which status a failing read or write has, and what was written before it.
 
-use super::*;
 use sk_base::{Feed, Tray};
+use sk_pipe::run;
 use std::alloc::Global;
 use std::test::Fail;
 
