@@ -46,7 +46,7 @@ use Rattle.sk_batch.specs.declared.firing.Firing.{Firing}
 use Rattle.sk_lives.specs.declared.origin.Origin.TheVariants.{Outside}
 use Rattle.sk_key.specs.declared.key_class.KeyClass.{KeyClass}
 use Rattle.sk_key.specs.declared.key_class.KeyClass.TheVariants as class
-use Rattle.sk_seats.specs.declared.phase.End.TheVariants as end
+use Rattle.sk_seats.specs.declared.work.End.TheVariants as end
 use Rattle.sk_seats.specs.declared.phase.Phase.{Phase}
 use Rattle.sk_seats.specs.declared.phase.Phase.TheVariants.{Plain, Idle, Held, Put, Settled}
 use Rattle.sk_seats.specs.Phases.{is_plain as is_plain_seat}

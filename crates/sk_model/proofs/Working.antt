@@ -18,7 +18,7 @@ use Rattle.sk_value.specs.declared.action.Action.TheVariants as action
 use Rattle.sk_places.specs.declared.row.Place.TheVariants.{Queue, Private, Set}
 use Rattle.sk_places.specs.declared.row.Row.{Row}
 use Rattle.sk_places.specs.Rows.{row_in, row_of, rows_at, row_at_end, take_row}
-use Rattle.sk_seats.specs.declared.phase.End.TheVariants.{Returned, Discarded}
+use Rattle.sk_seats.specs.declared.work.End.TheVariants.{Returned, Discarded}
 use Rattle.sk_seats.specs.declared.phase.Phase.{Phase}
 use Rattle.sk_seats.specs.declared.phase.Phase.TheVariants.{Plain, Idle, Held, Put, Settled}
 use Rattle.sk_model.specs.World.{World}
