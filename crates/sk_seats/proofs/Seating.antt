@@ -1,8 +1,7 @@
 -- What edits of the map of the seats' phases are in the abstract store.
-use Rattle.std.proofs.Common.{◌≡◌, ℕ, [], ◌∷◌, refl, sym, ap, subst, ◌∙◌, arith, false, not}
+use Rattle.std.proofs.Common.{◌≡◌, ℕ, ◌<◌, length, List, [], ◌∷◌, refl, sym, ap, subst, ◌∙◌, arith, Bool, false, not}
 use Rattle.std.specs.Prelude.{Option, Some, None, filter}
 use Rattle.std.specs.List.{AllByRecursion, list_any}
-use Rattle.std.specs.List.Sorted.{IsStrictlySortedBy}
 use Rattle.std.specs.Map.{keys_of, lookup, remove_entry, set_value, values_of}
 use Rattle.std.specs.BTreeMap.{is_at, insert_entry}
 use Rattle.std.specs.Ordering.{nat_cmp}
@@ -80,6 +79,11 @@ found phases seat kept = by_found (lookup (is_at (nat_cmp seat)) phases) kept wh
 stays_joined : (works : List Work) (phase : Phase) → is_plain (with_works works phase) ≡ is_plain phase
 stays_joined works Plain = refl
 stays_joined works (Joined ident before) = refl
+
+-- a Plain seat has no works
+pub has_works : (phase : Phase) (at : ℕ) → at < length (works_of phase) → is_plain phase ≡ false
+has_works Plain at within = absurd (omega (arith, within))
+has_works (Joined ident works) at within = refl
 
 -- the seat's entry with other works
 pub worked : (seat : ℕ) (phases : Phases) (works : List Work) → InOrder phases → is_plain (phase_in phases seat) ≡ false

@@ -1,5 +1,5 @@
 -- The jobs in a worker's hands, in order of fetching. A command is always about the first that it fits.
-use Rattle.std.specs.Prelude.{ℕ, ◌+◌, List, [], ◌∷◌, Option, Some, None, option_map, Bool, true, false, ◌&&◌, ◌||◌, not, cond, bytes_eq}
+use Rattle.std.specs.Prelude.{ℕ, List, [], ◌∷◌, Option, Some, None, Bool, true, false, ◌&&◌, ◌||◌, not, cond, bytes_eq}
 use Rattle.std.specs.Option.{is_some}
 use Rattle.sk_resp.specs.Spelling.{Bytes}
 use Rattle.sk_payload.specs.Follows.{follows}
@@ -57,8 +57,3 @@ staged test stage (work ∷ works) = cond (test work) (record work { stage = sta
 abbrev pub without : (Work → Bool) → List Work → List Work
 without test [] = []
 without test (work ∷ works) = cond (test work) works (work ∷ without test works)
-
--- how many stand before it
-abbrev pub position : (Work → Bool) → List Work → Option ℕ
-position test [] = None
-position test (work ∷ works) = cond (test work) (Some 0) (option_map (λ at. at + 1) (position test works))

@@ -5,7 +5,8 @@ ghost use Rattle.sk_payload.specs.Head.{names};
 ghost use Rattle.sk_seats.specs.Phases.{has, holding, is_plain, phase_in, releasing, staging, turned, works_of};
 ghost use Rattle.sk_seats.specs.Held.{held_by};
 ghost use Rattle.sk_seats.specs.Order.{InOrder};
-ghost use Rattle.sk_seats.specs.Works.{most_works, position};
+ghost use Rattle.sk_seats.specs.Works.{most_works};
+ghost use Rattle.std.specs.List.{position};
 ghost use Rattle.sk_seats.specs.declared.work.Work.{Work};
 
 use crate::phase::Phase;
@@ -94,8 +95,8 @@ impl Seats {
         ensures { self.new ≡ turned seat (holding payload (phase_in self.old seat)) self.old }
     {
         match self.phases.get_mut(&seat) {
-            Some(Phase::Joined(_, works)) => works.hold(payload),
-            _ => unreachable!(),
+            Some(phase) => phase.hold(payload),
+            None => unreachable!(),
         }
     }
 
@@ -105,8 +106,8 @@ impl Seats {
         ensures { (test : Work → Bool) → position test (works_of (phase_in self.old seat)) ≡ Some at → self.new ≡ turned seat (staging test stage (phase_in self.old seat)) self.old }
     {
         match self.phases.get_mut(&seat) {
-            Some(Phase::Joined(_, works)) => works.stage(at, stage),
-            _ => unreachable!(),
+            Some(phase) => phase.stage(at, stage),
+            None => unreachable!(),
         }
     }
 
@@ -116,8 +117,8 @@ impl Seats {
         ensures { (test : Work → Bool) → position test (works_of (phase_in self.old seat)) ≡ Some at → self.new ≡ turned seat (releasing test (phase_in self.old seat)) self.old }
     {
         match self.phases.get_mut(&seat) {
-            Some(Phase::Joined(_, works)) => works.release(at),
-            _ => unreachable!(),
+            Some(phase) => phase.release(at),
+            None => unreachable!(),
         }
     }
 

@@ -1,6 +1,7 @@
 // The jobs in a worker's hands, in order of fetching. There is room for all of them from the first on, so that no edit takes memory.
-ghost use Rattle.std.specs.Prelude.{◌≡◌, ◌<◌, ◌≤◌, ◌++◌, ◌∷◌, [], Bool, IfOk, Some, length, nat_lt, not};
-ghost use Rattle.sk_seats.specs.Works.{held, is_buried_as, is_done_as, is_held_as, is_held as is_held_stage, is_retried_as, may_bury, most_works, position, staged, without};
+ghost use Rattle.std.specs.Prelude.{◌≡◌, ◌<◌, ◌≤◌, ◌++◌, ◌∷◌, [], Bool, IfOk, IfSome, Some, length, nat_lt, not};
+ghost use Rattle.sk_seats.specs.Works.{held, is_buried_as, is_done_as, is_held_as, is_held as is_held_stage, is_retried_as, may_bury, most_works, staged, without};
+ghost use Rattle.std.specs.List.{position};
 ghost use Rattle.sk_seats.specs.declared.work.Work.{Work};
 
 use crate::work::{Stage, Work};
@@ -82,14 +83,16 @@ impl Works {
 
     /// The index of the first that is held, of this text.
     pub fn find_held(&self, text: &[u8]) -> Option<usize>
-        ensures { result ≡ position (is_held_as text.now) self.now }
+        ensures is { result ≡ position (is_held_as text.now) self.now }
+        ensures within { IfSome result (λ at. at < length self.now) }
     {
         self.list.iter().position(|work| is_held(work.stage) && work.payload.text().bytes() == text)
     }
 
     /// The index of the first that is held and that this payload follows after a failure.
     pub fn find_retried(&self, next: &Payload) -> Option<usize>
-        ensures { result ≡ position (is_retried_as next.now) self.now }
+        ensures is { result ≡ position (is_retried_as next.now) self.now }
+        ensures within { IfSome result (λ at. at < length self.now) }
     {
         self.list
             .iter()
@@ -98,14 +101,16 @@ impl Works {
 
     /// The index of the first that is held and that this payload follows after a failure, or equals, where that has no head.
     pub fn find_buried(&self, next: &Payload) -> Option<usize>
-        ensures { result ≡ position (is_buried_as next.now) self.now }
+        ensures is { result ≡ position (is_buried_as next.now) self.now }
+        ensures within { IfSome result (λ at. at < length self.now) }
     {
         self.list.iter().position(|work| is_held(work.stage) && may_bury(&work.payload, next))
     }
 
     /// The index of the first that was put back or is settled, of this text.
     pub fn find_done(&self, text: &[u8]) -> Option<usize>
-        ensures { result ≡ position (is_done_as text.now) self.now }
+        ensures is { result ≡ position (is_done_as text.now) self.now }
+        ensures within { IfSome result (λ at. at < length self.now) }
     {
         self.list.iter().position(|work| !is_held(work.stage)
             && work.payload.text().bytes() == text)
