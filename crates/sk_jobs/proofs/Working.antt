@@ -17,7 +17,7 @@ use Rattle.sk_places.specs.declared.row.Place.TheVariants.{Private, Queue}
 use Rattle.sk_places.specs.declared.row.Row.{Row}
 use Rattle.sk_places.specs.Rows.{pair_of, row_at, row_of, rows_at}
 use Rattle.sk_places.specs.Placed.{Placed, moved_if, without_row}
-use Rattle.sk_seats.specs.declared.phase.End.{End}
+use Rattle.sk_seats.specs.declared.work.End.{End}
 use Rattle.sk_seats.specs.declared.phase.Phase.{Phase}
 use Rattle.sk_seats.specs.declared.phase.Phase.TheVariants.{Plain, Idle, Held, Put, Settled}
 use Rattle.sk_seats.specs.Phases.{Phases, phase_in, turned}

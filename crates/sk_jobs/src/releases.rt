@@ -6,7 +6,7 @@ ghost use Rattle.sk_model.specs.Outcome.{Comes};
 ghost use Rattle.sk_seats.specs.Phases.{phase_in};
 ghost use Rattle.sk_model.specs.Workers.{back, release};
 ghost use Rattle.sk_model.specs.World.{World};
-ghost use Rattle.sk_seats.specs.declared.phase.End.{End};
+ghost use Rattle.sk_seats.specs.declared.work.End.{End};
 ghost use Rattle.sk_model.specs.Change.{ending_of};
 ghost use Rattle.sk_undo.specs.Steps.{edited};
 ghost use Rattle.sk_jobs.specs.Seated.{ended_by, with_seats};

@@ -1,5 +1,6 @@
 -- What moves come from. Each that takes a row away, puts a text back, or is the store's own push has its cause in the event, or in a change before it.
-use Rattle.std.specs.Prelude.{◌≡◌, ℕ, List, [], ◌∷◌, Some, Ok, Bool, true, false, ◌||◌}
+use Rattle.std.specs.Prelude.{◌≡◌, ℕ, pos, List, [], ◌∷◌, Some, Ok, Bool, true, false, ◌||◌}
+use Rattle.std.specs.List.{list_any}
 use Rattle.sk_resp.specs.Spelling.{Bytes}
 use Rattle.sk_cmd.specs.Table.{IsRead}
 use Rattle.sk_cmd.specs.declared.command.Command.{Command}
@@ -13,11 +14,12 @@ use Rattle.sk_value.specs.Action.{action_of}
 use Rattle.sk_batch.specs.declared.event.Event.TheVariants.{Returned}
 use Rattle.sk_lives.specs.declared.origin.Origin.TheVariants.{Inner}
 use Rattle.sk_model.specs.declared.limits.Limits.{Limits}
-use Rattle.sk_seats.specs.declared.phase.Phase.TheVariants.{Plain, Held}
+use Rattle.sk_seats.specs.declared.phase.Phase.TheVariants.{Plain}
+use Rattle.sk_seats.specs.Phases.{works_of}
+use Rattle.sk_seats.specs.Works.{is_buried_as, is_held_as}
 use Rattle.sk_model.specs.World.{World, first, phase_of}
 use Rattle.sk_model.specs.Change.{Add, Carry, Take, Trim, PutBack, Free, Change, Moves, Tells, changed}
 use Rattle.sk_model.specs.Seats.{releases}
-use Rattle.sk_model.specs.Workers.{may_bury}
 use Rattle.sk_model.specs.Event.{Event, Ask, Cut, Run, Step, after}
 use Rattle.sk_model.specs.Once.{called_by, is_dead_set}
 
@@ -46,31 +48,27 @@ pub record IsRemoval (w : World) (event : Event) : Type 0 where
   pub phase : phase_of w seat ≡ Plain
   pub takes : removes c ≡ true
 
--- This seat releases its payload, which it has put back or is done with.
-pub record IsRelease (w : World) (seat : ℕ) (event : Event) : Type 0 where
-  pub c : PlainCommand
-  pub sent : Sends seat (command.Plain c) event
-  pub release : releases (phase_of w seat) (action_of c) ≡ true
+-- This seat releases a job of this text, which it has put back or is done with.
+pub record IsRelease (w : World) (seat : ℕ) (text : Bytes) (event : Event) : Type 0 where
+  pub key : Bytes
+  pub sent : Sends seat (command.Plain (plain.Lrem key (pos 1) text)) event
+  pub release : releases (phase_of w seat) (action_of (plain.Lrem key (pos 1) text)) ≡ true
 
--- A seat that holds a payload puts this text back: it follows the payload after a failure, or is the payload itself, where that has no head.
+-- A seat puts this text back: it follows a payload that the seat holds after a failure, or is that payload itself, where it has no head.
 pub record IsPutBack (w : World) (text : Bytes) (event : Event) : Type 0 where
   pub seat : ℕ
   pub c : Command
-  pub ident : Bytes
-  pub held : Bytes
   pub sent : Sends seat c event
-  pub phase : phase_of w seat ≡ Held ident held
-  pub follows : may_bury held text ≡ true
+  pub held : list_any (is_buried_as text) (works_of (phase_of w seat)) ≡ true
 
 -- A seat that holds a payload of this job, which names this batch, says SK.OK.
 pub record IsReturn (w : World) (bid jid : Bytes) (event : Event) : Type 0 where
   pub seat : ℕ
-  pub ident : Bytes
-  pub held : Bytes
+  pub text : Bytes
   pub h : Head
-  pub sent : Sends seat (command.Script (script.Ok held)) event
-  pub phase : phase_of w seat ≡ Held ident held
-  pub head_is : head held ≡ Some h
+  pub sent : Sends seat (command.Script (script.Ok text)) event
+  pub held : list_any (is_held_as text) (works_of (phase_of w seat)) ≡ true
+  pub head_is : head text ≡ Some h
   pub jid_is : h.jid ≡ jid
   pub bid_is : h.bid ≡ Some bid
 
@@ -86,7 +84,7 @@ is_burial other = false
 abbrev pub HasCause : World → Event → Bool → List Change → Change → Type 0
 HasCause w event buried due (Moves (Take row from)) = IsRemoval w event
 HasCause w event buried due (Moves (Trim row)) = (is_dead_set row.place ≡ true) × (buried ≡ true)
-HasCause w event buried due (Moves (Free seat)) = IsRelease w seat event
+HasCause w event buried due (Moves (Free seat text)) = IsRelease w seat text event
 HasCause w event buried due (Moves (PutBack row)) = IsPutBack w row.text event
 HasCause w event buried due (Moves (Add row end Inner)) = due ≡ Moves (Add row end Inner) ∷ []
 HasCause w event buried due (Tells Returned bid jid) = IsReturn w bid jid event

@@ -1,5 +1,5 @@
 -- What a command does to the world: a list of changes, one after another. Rows change by moves alone.
-use Rattle.std.specs.Prelude.{ℕ, ℤ, List, [], ◌∷◌, min, max}
+use Rattle.std.specs.Prelude.{ℕ, ℤ, List, [], ◌∷◌, Option, Some, None, min, max}
 use Rattle.sk_base.specs.Score.{last_moment}
 use Rattle.sk_resp.specs.Spelling.{Bytes}
 use Rattle.sk_cmd.specs.declared.argument.Side.{Side}
@@ -19,8 +19,8 @@ use Rattle.sk_lives.specs.declared.origin.Origin.{Origin}
 use Rattle.sk_lives.specs.Totals.{count_push}
 use Rattle.sk_model.specs.Live.{born, count_job, with_end}
 use Rattle.sk_lives.specs.Lives.{jid_of}
-use Rattle.sk_seats.specs.declared.phase.End.{End}
-use Rattle.sk_seats.specs.declared.phase.End.TheVariants as end
+use Rattle.sk_seats.specs.declared.work.End.{End}
+use Rattle.sk_seats.specs.declared.work.End.TheVariants as end
 use Rattle.sk_batch.specs.Batched.{Batched, has_bid}
 use Rattle.sk_batch.specs.Events.{joined, marked, unfired}
 use Rattle.sk_batch.specs.Fires.{retagged, with_kind}
@@ -30,7 +30,11 @@ use Rattle.sk_batch.specs.declared.event.Event.{Event}
 use Rattle.sk_batch.specs.declared.firing.Kind.{Kind}
 use Rattle.sk_leases.specs.Leased.{beat, recovered, forgotten, purged as still_leased}
 use Rattle.sk_seats.specs.declared.phase.Phase.{Phase}
-use Rattle.sk_seats.specs.declared.phase.Phase.TheVariants.{Plain, Idle, Held, Put, Settled}
+use Rattle.sk_seats.specs.declared.phase.Phase.TheVariants.{Plain, Joined}
+use Rattle.sk_seats.specs.declared.work.Stage.{Stage}
+use Rattle.sk_seats.specs.declared.work.Stage.TheVariants.{Held, Put, Settled}
+use Rattle.sk_seats.specs.declared.work.Work.{Work}
+use Rattle.sk_seats.specs.Works.{first, is_done_as}
 
 pub data Move : Type 0 where
   -- a push adds a row at an end of its place
@@ -45,8 +49,8 @@ pub data Move : Type 0 where
   Merge : (row : Row) → Move
   -- A worker puts the text of its failed job into a set, where it isn't yet.
   PutBack : (row : Row) → Move
-  -- A worker's seat releases its payload: the leftmost row of it in the private list goes, if there is one.
-  Free : (seat : ℕ) → Move
+  -- A worker's seat releases a job of this text: the leftmost row of it in the private list goes, if there is one.
+  Free : (seat : ℕ) → (text : Bytes) → Move
   -- A batch is complete, has succeeded or has died. Its callback is pushed next, where it has one.
   Fire : (bid : Bytes) → (kind : Kind) → Move
 
@@ -82,12 +86,19 @@ abbrev pub ending_of : End → Ending
 ending_of end.Returned = Returned
 ending_of end.Discarded = Discarded
 
-abbrev pub freed : World → Phase → World
-freed w Plain = w
-freed w (Idle ident) = w
-freed w (Held ident text) = w
-freed w (Put ident text) = record w { rows = take_row Left (row_at (Private ident) text) w.rows }
-freed w (Settled ident text end) = record (with_end (ending_of end) text w) { rows = take_row Left (row_at (Private ident) text) w.rows }
+abbrev pub freed_at : Stage → Bytes → Bytes → World → World
+freed_at Held ident text w = w
+freed_at Put ident text w = record w { rows = take_row Left (row_at (Private ident) text) w.rows }
+freed_at (Settled end) ident text w = record (with_end (ending_of end) text w) { rows = take_row Left (row_at (Private ident) text) w.rows }
+
+abbrev pub freed_work : Bytes → World → Option Work → World
+freed_work ident w None = w
+freed_work ident w (Some work) = freed_at work.stage ident work.payload w
+
+-- a seat in this phase releases its first work of the text that was put back or is settled
+abbrev pub freed : Bytes → World → Phase → World
+freed text w Plain = w
+freed text w (Joined ident works) = freed_work ident w (first (is_done_as text) works)
 
 -- it is kept of a batch what was fired of it
 abbrev pub after_fire : Bytes → Kind → Batched → Batched
@@ -104,7 +115,7 @@ moved w (Take row from) = record (with_end Deleted row.text w) { rows = take_row
 moved w (Trim row) = record (with_end Trimmed row.text w) { rows = take_row Left row w.rows }
 moved w (Merge row) = record w { rows = take_row Left row w.rows }
 moved w (PutBack row) = record w { rows = put_row Left row w.rows; names = named row.place w.names }
-moved w (Free seat) = freed w (phase_of w seat)
+moved w (Free seat text) = freed text w (phase_of w seat)
 moved w (Fire bid kind) = record w { batches = after_fire bid kind w.batches }
 
 -- The greatest moment counts, up to the last one that is told apart. Plain keys, heartbeats and recoveries whose deadline it has reached are gone.

@@ -8,7 +8,8 @@ use Rattle.sk_places.specs.declared.row.Place.TheVariants.{Private}
 use Rattle.sk_places.specs.declared.row.Row.{Row}
 use Rattle.sk_places.specs.Rows.{is_same, row_at}
 use Rattle.sk_seats.specs.declared.phase.Phase.{Phase}
-use Rattle.sk_seats.specs.declared.phase.Phase.TheVariants.{Plain, Idle, Held, Put, Settled}
+use Rattle.sk_seats.specs.declared.phase.Phase.TheVariants.{Plain, Joined}
+use Rattle.sk_seats.specs.Works.{is_done_as}
 use Rattle.sk_model.specs.World.{World, first, phase_of}
 use Rattle.sk_model.specs.Change.{Add, Take, Trim, Merge, PutBack, Free, Change, Moves, changed}
 use Rattle.sk_model.specs.Event.{Run, Step, after}
@@ -76,20 +77,17 @@ pushed text (change ∷ changes) = pushed_by text change + pushed text changes
 abbrev pub is_listed : World → Bytes → Bytes → Bool
 is_listed w ident text = list_any (is_same (row_at (Private ident) text)) w.rows
 
--- whether the release by a seat in this phase takes a row of the text
-abbrev pub freed_by : Bytes → World → Phase → ℕ
-freed_by text w Plain = 0
-freed_by text w (Idle ident) = 0
-freed_by text w (Held ident held) = 0
-freed_by text w (Put ident held) = cond (bytes_eq text held && is_listed w ident held) 1 0
-freed_by text w (Settled ident held end) = cond (bytes_eq text held && is_listed w ident held) 1 0
+-- whether the release of a job by a seat in this phase takes a row of the text
+abbrev pub freed_by : Bytes → Bytes → World → Phase → ℕ
+freed_by text freed w Plain = 0
+freed_by text freed w (Joined ident works) = cond (list_any (is_done_as freed) works && (bytes_eq text freed && is_listed w ident freed)) 1 0
 
 -- how many of the changes of this world take it away
 abbrev pub taken_by : Bytes → World → Change → ℕ
 taken_by text w (Moves (Take row from)) = cond (bytes_eq text row.text) 1 0
 taken_by text w (Moves (Trim row)) = cond (bytes_eq text row.text) 1 0
 taken_by text w (Moves (Merge row)) = cond (bytes_eq text row.text) 1 0
-taken_by text w (Moves (Free seat)) = freed_by text w (phase_of w seat)
+taken_by text w (Moves (Free seat freed)) = freed_by text freed w (phase_of w seat)
 taken_by text w other = 0
 
 abbrev pub taken : Bytes → World → List Change → ℕ

@@ -1,14 +1,18 @@
 -- The life of a job, as the moves of a run make it. Nothing here knows of lists and indexes.
 use Rattle.std.specs.Prelude.{◌≡◌, ◌↔◌, ℕ, ◌+◌, List, [], ◌∷◌, length, Option, Some, None, Bool, true, not, ◌&&◌, nat_lt, cond}
 use Rattle.std.specs.BTreeMap.{is_at}
-use Rattle.std.specs.List.{list_any, count_by}
+use Rattle.std.specs.List.{AllByRecursion, list_any, count_by}
 use Rattle.sk_resp.specs.Spelling.{Bytes}
 use Rattle.sk_payload.specs.Head.{head, names}
 use Rattle.sk_payload.specs.declared.head.Head.{Head}
 use Rattle.sk_resp.specs.WordOrder.{text_cmp}
 use Rattle.sk_places.specs.Rows.{rows_of as count_of}
 use Rattle.sk_seats.specs.declared.phase.Phase.{Phase}
-use Rattle.sk_seats.specs.declared.phase.Phase.TheVariants.{Plain, Idle, Held, Put, Settled}
+use Rattle.sk_seats.specs.declared.work.Stage.{Stage}
+use Rattle.sk_seats.specs.declared.work.Stage.TheVariants.{Held, Put, Settled}
+use Rattle.sk_seats.specs.declared.work.Work.{Work}
+use Rattle.sk_seats.specs.Phases.{works_of}
+use Rattle.sk_seats.specs.Works.{first, is_done_as}
 use Rattle.sk_lives.specs.declared.ending.Ending.{Ending}
 use Rattle.sk_lives.specs.declared.ending.Ending.TheVariants.{Muddled, Deleted, Trimmed}
 use Rattle.sk_lives.specs.declared.totals.Totals.{Totals}
@@ -35,20 +39,26 @@ ended how Unborn = Unborn
 ended how Live = Ended how
 ended how (Ended before) = Ended before
 
+-- the life of the job once a work at this stage is released
+abbrev pub life_at : Stage → Bytes → Bytes → Life → Life
+life_at Held text jid life = life
+life_at Put text jid life = life
+life_at (Settled end) text jid life = cond (names text jid) (ended (ending_of end) life) life
+
+abbrev pub life_of_work : Bytes → Life → Option Work → Life
+life_of_work jid life None = life
+life_of_work jid life (Some work) = life_at work.stage work.payload jid life
+
 -- A seat that is done with the job ends its life by the release.
-abbrev pub freed_life : Phase → Bytes → Life → Life
-freed_life Plain jid life = life
-freed_life (Idle ident) jid life = life
-freed_life (Held ident text) jid life = life
-freed_life (Put ident text) jid life = life
-freed_life (Settled ident text end) jid life = cond (names text jid) (ended (ending_of end) life) life
+abbrev pub freed_life : Bytes → Phase → Bytes → Life → Life
+freed_life text phase jid life = life_of_work jid life (first (is_done_as text) (works_of phase))
 
 -- The life of the job after a change of this world. A push that isn't fresh is no life of its own.
 abbrev pub life_after : World → Bytes → Life → Change → Life
 life_after w jid life (Moves (Add row end from)) = cond (names row.text jid) (cond (fresh w jid) Live (ended Muddled life)) life
 life_after w jid life (Moves (Take row from)) = cond (names row.text jid) (ended Deleted life) life
 life_after w jid life (Moves (Trim row)) = cond (names row.text jid) (ended Trimmed life) life
-life_after w jid life (Moves (Free seat)) = freed_life (phase_of w seat) jid life
+life_after w jid life (Moves (Free seat text)) = freed_life text (phase_of w seat) jid life
 life_after w jid life (Moves (Merge row)) = life
 life_after w jid life (Moves (PutBack row)) = life
 life_after w jid life (Moves (Carry row from to score end)) = life
@@ -88,10 +98,14 @@ is_newer held jid text = names text jid && nat_lt (generation held) (generation 
 abbrev pub outranks : World → Bytes → Bytes → Bool
 outranks w held jid = list_any (λ row. is_newer held jid row.text) w.rows
 
--- A job is kept where it stands, and where a newer row of it stands while a seat that has put it back still has the old payload.
+-- Of a job whose text was put back a newer row stands.
+abbrev pub IsOutranked : World → Bytes → Work → Type 0
+IsOutranked w jid work = work.stage ≡ Put → names work.payload jid ≡ true → outranks w work.payload jid ≡ true
+
+-- A job is kept where it stands, and where a newer row of it stands for each old payload that a seat has put back and still has.
 pub record IsKept (w : World) (jid : Bytes) : Type 0 where
   pub standing : stands w jid ≡ true
-  pub newer : (seat : ℕ) (ident held : Bytes) → phase_of w seat ≡ Put ident held → names held jid ≡ true → outranks w held jid ≡ true
+  pub newer : (seat : ℕ) → AllByRecursion (IsOutranked w jid) (works_of (phase_of w seat))
 
 -- Each job whose life is Live is kept.
 abbrev pub Kept : World → (Bytes → Life) → Type 0

@@ -1,6 +1,7 @@
 -- Which seat may send which command. A client's seat is Plain. What a worker's may send besides turns on its phase.
 use Rattle.std.specs.Prelude.{pos, List, [], ◌∷◌, Option, Some, None, Bool, true, false, ◌||◌, ◌&&◌, cond}
 use Rattle.std.specs.Ordering.{int_cmp, is_eq}
+use Rattle.std.specs.List.{list_any}
 use Rattle.std.specs.Str.{bytes_eq}
 use Rattle.sk_resp.specs.Spelling.{Bytes}
 use Rattle.sk_resp.specs.declared.refusal.Refusal.TheVariants.{NotWorker, OutOfTurn}
@@ -8,7 +9,6 @@ use Rattle.sk_cmd.specs.declared.argument.Side.TheVariants.{Left, Right}
 use Rattle.sk_cmd.specs.declared.argument.Scored.TheVariants.{Schedule, Retry}
 use Rattle.sk_cmd.specs.declared.command.PlainCommand.{PlainCommand}
 use Rattle.sk_cmd.specs.ReadOnly.{only_reads}
-use Rattle.sk_payload.specs.Follows.{follows}
 use Rattle.sk_zset.specs.Pair.{Pair}
 use Rattle.sk_value.specs.declared.action.Action.{Action}
 use Rattle.sk_value.specs.declared.action.Action.TheVariants as action
@@ -18,7 +18,9 @@ use Rattle.sk_value.specs.Action.{action_of}
 use Rattle.sk_key.specs.declared.key_class.KeyClass.{KeyClass}
 use Rattle.sk_key.specs.declared.key_class.KeyClass.TheVariants as class
 use Rattle.sk_seats.specs.declared.phase.Phase.{Phase}
-use Rattle.sk_seats.specs.declared.phase.Phase.TheVariants.{Plain, Idle, Held, Put, Settled}
+use Rattle.sk_seats.specs.declared.phase.Phase.TheVariants.{Plain, Joined}
+use Rattle.sk_seats.specs.declared.work.Work.{Work}
+use Rattle.sk_seats.specs.Works.{is_done_as, is_held_as}
 use Rattle.sk_key.specs.Class.{class_of, queue_of, private_key, is_queue, is_private}
 use Rattle.sk_model.specs.Outcome.{Outcome, refuses}
 
@@ -58,50 +60,42 @@ abbrev pub fetched_from : Bytes → Action → Option Bytes
 fetched_from ident (action.Move source destination Right Left) = cond (is_queue (class_of source) && bytes_eq destination (private_key ident)) (Some (queue_of source)) None
 fetched_from ident other = None
 
--- What a seat that holds a payload puts back: ZADD retry score text, where the text follows the payload
-abbrev pub following : Bytes → List Pair → Option Pair
-following held (pair ∷ []) = cond (follows held pair.1) (Some pair) None
-following held other = None
+-- the only one of pairs
+abbrev pub only : List Pair → Option Pair
+only (pair ∷ []) = Some pair
+only other = None
 
-abbrev pub added_by : Edit → List Pair
-added_by (edit.Zadd pairs) = pairs
-added_by other = []
+-- the text that a release names: LREM sq:ident 1 text
+abbrev pub released_by : Bytes → Bytes → Edit → Option Bytes
+released_by ident key (edit.Lrem count text) = cond (bytes_eq key (private_key ident) && is_eq (int_cmp count (pos 1))) (Some text) None
+released_by ident key other = None
 
-abbrev pub retried : Bytes → Action → Option Pair
-retried held (action.Edit key e) = following held (added_by e)
-retried held other = None
+-- one of the works was put back or is settled, of this text
+abbrev pub has_done : List Work → Option Bytes → Bool
+has_done works None = false
+has_done works (Some text) = list_any (is_done_as text) works
 
--- The release: LREM sq:ident 1 payload
-abbrev pub is_release : Bytes → Bytes → Action → Bool
-is_release ident held (action.Edit key (edit.Lrem count text)) = bytes_eq key (private_key ident) && (is_eq (int_cmp count (pos 1)) && bytes_eq text held)
-is_release ident held other = false
+abbrev pub releases_by : Bytes → List Work → Action → Bool
+releases_by ident works (action.Edit key e) = has_done works (released_by ident key e)
+releases_by ident works other = false
 
--- a seat that has put its payload back, or is done with it, releases it
+-- the seat releases a job that it has put back, or is done with
 abbrev pub releases : Phase → Action → Bool
 releases Plain a = false
-releases (Idle ident) a = false
-releases (Held ident held) a = false
-releases (Put ident held) a = is_release ident held a
-releases (Settled ident held end) a = is_release ident held a
+releases (Joined ident works) a = releases_by ident works a
 
 -- ## Refusals
 
 -- what a Plain seat alone may send
 abbrev pub where_plain : Phase → Outcome → Outcome
 where_plain Plain o = o
-where_plain (Idle ident) o = refuses OutOfTurn
-where_plain (Held ident held) o = refuses OutOfTurn
-where_plain (Put ident held) o = refuses OutOfTurn
-where_plain (Settled ident held end) o = refuses OutOfTurn
+where_plain (Joined ident works) o = refuses OutOfTurn
 
--- what a seat that holds a payload may send
-abbrev pub where_held : Phase → (Bytes → Bytes → Outcome) → Outcome
-where_held Plain o = refuses NotWorker
-where_held (Idle ident) o = refuses OutOfTurn
-where_held (Held ident held) o = o ident held
-where_held (Put ident held) o = refuses OutOfTurn
-where_held (Settled ident held end) o = refuses OutOfTurn
+-- what a worker's seat may send that has a work which passes
+abbrev pub where_some : Phase → (Work → Bool) → (Bytes → Outcome) → Outcome
+where_some Plain test o = refuses NotWorker
+where_some (Joined ident works) test o = cond (list_any test works) (o ident) (refuses OutOfTurn)
 
--- what it may send with the payload's very text
-abbrev pub where_same : Phase → Bytes → (Bytes → Outcome) → Outcome
-where_same phase text o = where_held phase (λ ident held. cond (bytes_eq held text) (o ident) (refuses OutOfTurn))
+-- what it may send with the text of a work that it holds
+abbrev pub where_held : Phase → Bytes → (Bytes → Outcome) → Outcome
+where_held phase text o = where_some phase (is_held_as text) o

@@ -8,6 +8,7 @@ abbrev pub refusal_text : Refusal → Bytes
 refusal_text refusal.ManagedKey = codes "-SK managed key"
 refusal_text refusal.NotWorker = codes "-SK not a worker seat"
 refusal_text refusal.OutOfTurn = codes "-SK out of turn"
+refusal_text refusal.HandsFull = codes "-SK hands full"
 refusal_text refusal.NoProcess = codes "-SK no such process"
 refusal_text refusal.NoBatch = codes "-SK no such batch"
 refusal_text refusal.Settled = codes "-SK batch settled"

@@ -11,6 +11,8 @@ pub enum Refusal {
     NotWorker,
     /// A worker's seat may not send the command now.
     OutOfTurn,
+    /// The worker's seat has sixteen jobs in its hands, and fetches another.
+    HandsFull,
     /// No process of this name stands.
     NoProcess,
     /// There is no such batch.
@@ -42,6 +44,7 @@ impl Refusal {
             Refusal::ManagedKey => b"-SK managed key",
             Refusal::NotWorker => b"-SK not a worker seat",
             Refusal::OutOfTurn => b"-SK out of turn",
+            Refusal::HandsFull => b"-SK hands full",
             Refusal::NoProcess => b"-SK no such process",
             Refusal::NoBatch => b"-SK no such batch",
             Refusal::Settled => b"-SK batch settled",

@@ -1,8 +1,7 @@
 -- What edits of the map of the seats' phases are in the abstract store.
-use Rattle.std.proofs.Common.{◌≡◌, ℕ, [], ◌∷◌, refl, sym, ap, subst, ◌∙◌, arith, false, not}
+use Rattle.std.proofs.Common.{◌≡◌, ℕ, ◌<◌, length, List, [], ◌∷◌, refl, sym, ap, subst, ◌∙◌, arith, Bool, false, not}
 use Rattle.std.specs.Prelude.{Option, Some, None, filter}
 use Rattle.std.specs.List.{AllByRecursion, list_any}
-use Rattle.std.specs.List.Sorted.{IsStrictlySortedBy}
 use Rattle.std.specs.Map.{keys_of, lookup, remove_entry, set_value, values_of}
 use Rattle.std.specs.BTreeMap.{is_at, insert_entry}
 use Rattle.std.specs.Ordering.{nat_cmp}
@@ -12,12 +11,13 @@ use Rattle.std.proofs.lemmas.Map.Keys.{sorted_head, sorted_tail}
 use Rattle.std.proofs.lemmas.Map.Lookups.{exact_unsigned}
 use Rattle.sk_resp.specs.Spelling.{Bytes}
 use Rattle.sk_seats.specs.declared.phase.Phase.{Phase}
-use Rattle.sk_seats.specs.declared.phase.End.{End}
-use Rattle.sk_seats.specs.declared.phase.Phase.TheVariants.{Plain, Held, Put, Settled}
-use Rattle.sk_seats.specs.Phases.{Phases, has, is_plain, or_plain, phase_in, some_has, turned}
-use Rattle.sk_seats.specs.declared.turn.Turn.{Turn}
+use Rattle.sk_payload.specs.Head.{names}
+use Rattle.sk_seats.specs.declared.phase.Phase.TheVariants.{Plain, Joined}
+use Rattle.sk_seats.specs.declared.work.Stage.{Stage}
+use Rattle.sk_seats.specs.declared.work.Work.{Work}
+use Rattle.sk_seats.specs.Phases.{Phases, has, is_plain, or_plain, phase_in, some_has, staging, turned, with_works, works_of}
 use Rattle.sk_seats.specs.Order.{InOrder}
-use Rattle.sk_seats.specs.Turn.{after}
+use Rattle.sk_seats.specs.Works.{staged}
 
 -- all stand behind the seat
 abbrev AreBehind : ℕ → Phases → Type 0
@@ -65,10 +65,7 @@ pub among_values : (jid : Bytes) (phases : Phases) → list_any (has jid) (value
 among_values jid [] = refl
 among_values jid (p ∷ phases) = grind (arith, among_values jid phases)
 
--- ## Turns
-
-never_plain : (turn : Turn) (phase : Phase) → is_plain phase ≡ false → is_plain (after turn phase) ≡ false
-never_plain turn phase e = grind (arith, e)
+-- ## Other works in a seat's hands
 
 inserted : (seat : ℕ) (phase : Phase) (phases : Phases) → is_plain phase ≡ false → turned seat phase phases ≡ insert_entry nat_cmp phases seat phase
 inserted seat phase phases e = grind (arith, e)
@@ -79,12 +76,21 @@ found phases seat kept = by_found (lookup (is_at (nat_cmp seat)) phases) kept wh
   by_found None kept = absurd (cc kept)
   by_found (Some phase) kept = refl
 
--- the seat's entry after a turn
-pub turned_after : (seat : ℕ) (phases : Phases) (turn : Turn) → InOrder phases → is_plain (phase_in phases seat) ≡ false
-    → set_value (is_at (nat_cmp seat)) phases (after turn (phase_in phases seat)) ≡ turned seat (after turn (phase_in phases seat)) phases
-turned_after seat phases turn ordered kept =
-    let next : Phase = after turn (phase_in phases seat) in
-    written seat phases (phase_in phases seat) next ordered (found phases seat kept) ∙ sym (inserted seat next phases (never_plain turn (phase_in phases seat) kept))
+stays_joined : (works : List Work) (phase : Phase) → is_plain (with_works works phase) ≡ is_plain phase
+stays_joined works Plain = refl
+stays_joined works (Joined ident before) = refl
+
+-- a Plain seat has no works
+pub has_works : (phase : Phase) (at : ℕ) → at < length (works_of phase) → is_plain phase ≡ false
+has_works Plain at within = absurd (omega (arith, within))
+has_works (Joined ident works) at within = refl
+
+-- the seat's entry with other works
+pub worked : (seat : ℕ) (phases : Phases) (works : List Work) → InOrder phases → is_plain (phase_in phases seat) ≡ false
+    → set_value (is_at (nat_cmp seat)) phases (with_works works (phase_in phases seat)) ≡ turned seat (with_works works (phase_in phases seat)) phases
+worked seat phases works ordered kept =
+    let next : Phase = with_works works (phase_in phases seat) in
+    written seat phases (phase_in phases seat) next ordered (found phases seat kept) ∙ sym (inserted seat next phases (stays_joined works (phase_in phases seat) ∙ kept))
 
 -- ## The same hands
 
@@ -96,10 +102,18 @@ any_set jid seat (p ∷ phases) old next found same = grind (arith, found, same,
 pub hands_stay : (jid : Bytes) (seat : ℕ) (phases : Phases) (old next : Phase) → InOrder phases → lookup (is_at (nat_cmp seat)) phases ≡ Some old → has jid next ≡ has jid old → some_has jid (insert_entry nat_cmp phases seat next) ≡ some_has jid phases
 hands_stay jid seat phases old next ordered found same = ap (some_has jid) (sym (written seat phases old next ordered found)) ∙ any_set jid seat phases old next found same
 
--- a worker's seat that has put its job back still has the old payload
-pub put_stays : (jid : Bytes) (seat : ℕ) (phases : Phases) (ident held : Bytes) → InOrder phases → phase_in phases seat ≡ Held ident held → some_has jid (turned seat (Put ident held) phases) ≡ some_has jid phases
-put_stays jid seat phases ident held ordered e = hands_stay jid seat phases (phase_in phases seat) (Put ident held) ordered (found phases seat (ap is_plain e)) (sym (ap (has jid) e))
+staged_jobs : (jid : Bytes) (test : Work → Bool) (stage : Stage) (works : List Work) → list_any (λ work. names work.payload jid) (staged test stage works) ≡ list_any (λ work. names work.payload jid) works
+staged_jobs jid test stage [] = refl
+staged_jobs jid test stage (work ∷ works) = grind (arith, staged_jobs jid test stage works)
 
--- and so has one that is done with it
-pub settled_stays : (jid : Bytes) (seat : ℕ) (phases : Phases) (ident held : Bytes) (end : End) → InOrder phases → phase_in phases seat ≡ Held ident held → some_has jid (turned seat (Settled ident held end) phases) ≡ some_has jid phases
-settled_stays jid seat phases ident held end ordered e = hands_stay jid seat phases (phase_in phases seat) (Settled ident held end) ordered (found phases seat (ap is_plain e)) (sym (ap (has jid) e))
+same_jobs : (jid : Bytes) (test : Work → Bool) (stage : Stage) (phase : Phase) → has jid (staging test stage phase) ≡ has jid phase
+same_jobs jid test stage Plain = refl
+same_jobs jid test stage (Joined ident works) = staged_jobs jid test stage works
+
+-- a work of a seat comes to another stage
+pub stage_stays : (jid : Bytes) (seat : ℕ) (phases : Phases) (test : Work → Bool) (stage : Stage) → InOrder phases → is_plain (phase_in phases seat) ≡ false
+    → some_has jid (turned seat (staging test stage (phase_in phases seat)) phases) ≡ some_has jid phases
+stage_stays jid seat phases test stage ordered kept =
+    let old : Phase = phase_in phases seat in
+    ap (some_has jid) (inserted seat (staging test stage old) phases (stays_joined (staged test stage (works_of old)) old ∙ kept))
+    ∙ hands_stay jid seat phases old (staging test stage old) ordered (found phases seat kept) (same_jobs jid test stage old)

@@ -1,5 +1,5 @@
 pub mod Held
 pub mod Order
 pub mod Seats
-pub mod Turn
 pub mod Phases
+pub mod Works

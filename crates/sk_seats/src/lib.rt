@@ -1,11 +1,13 @@
-//! What the seats are doing, and how a worker's seat goes from one phase to the next.
+//! What the seats are doing, and the jobs in a worker's hands.
 #![tactic(auto)]
 
 mod phase;
 mod seats;
-mod turn;
+mod work;
+mod works;
 
-pub use phase::{End, Phase};
+pub use phase::Phase;
 pub use seats::Seats;
 pub use std::alloc::AllocError as Memory;
-pub use turn::Turn;
+pub use work::{End, Stage, Work};
+pub use works::Works;

@@ -1,27 +1,52 @@
-// What a seat is doing.
+// What a seat is doing, and what becomes of the jobs in its hands.
+ghost use Rattle.std.specs.Prelude.{◌≡◌, ◌<◌, Bool, Some, length};
+ghost use Rattle.std.specs.List.{position};
+ghost use Rattle.sk_seats.specs.Phases.{holding, releasing, staging, works_of};
+ghost use Rattle.sk_seats.specs.Works.{most_works};
+ghost use Rattle.sk_seats.specs.declared.work.Work.{Work};
+
+use crate::work::Stage;
+use crate::works::Works;
 use sk_payload::Payload;
-use sk_resp::Word;
+use sk_resp::Text;
 
-/// How a worker is done with a job.
-#[derive(Clone, Copy, Debug, PartialEq, Eq)]
-pub enum End {
-    /// The job has run, and returned.
-    Returned,
-    /// The job was given up.
-    Discarded,
-}
-
-/// What a seat is doing. A seat is one connection: a client's, or that of one thread of a worker process, whose identity it names then.
+/// What a seat is doing. A seat is one connection: a client's, or that of one thread of a worker process.
 #[derive(Drop)]
 pub enum Phase {
     /// No worker's seat.
     Plain,
-    /// A worker's, without a job.
-    Idle(Word),
-    /// It holds this job, of which a row went to its process's private list.
-    Held(Word, Payload),
-    /// The job has failed, and went to the set of retries or to the dead set. Its row in the private list is still to be released.
-    Put(Word, Payload),
-    /// It is done with the job. Its row in the private list is still to be released.
-    Settled(Word, Payload, End),
+    /// A worker's, of the process of this identity, with these jobs in its hands.
+    Joined(Text, Works),
+}
+
+impl Phase {
+    /// A worker's seat has fetched a job. Takes no memory.
+    pub(crate) fn hold(&mut self, payload: Payload)
+        requires { length (works_of self.old) < most_works }
+        ensures { self.new ≡ holding payload self.old }
+    {
+        if let Phase::Joined(_, works) = self {
+            works.hold(payload);
+        }
+    }
+
+    /// A work in the seat's hands, the first that passes some test, is at this stage from now on. Takes no memory.
+    pub(crate) fn stage(&mut self, at: usize, stage: Stage)
+        requires { at < length (works_of self.old) }
+        ensures { (test : Work → Bool) → position test (works_of self.old) ≡ Some at → self.new ≡ staging test stage self.old }
+    {
+        if let Phase::Joined(_, works) = self {
+            works.stage(at, stage);
+        }
+    }
+
+    /// The seat lets go of a work, the first that passes some test. Takes no memory.
+    pub(crate) fn release(&mut self, at: usize)
+        requires { at < length (works_of self.old) }
+        ensures { (test : Work → Bool) → position test (works_of self.old) ≡ Some at → self.new ≡ releasing test self.old }
+    {
+        if let Phase::Joined(_, works) = self {
+            works.release(at);
+        }
+    }
 }

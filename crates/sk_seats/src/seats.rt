@@ -1,24 +1,27 @@
-// What the seats are doing. A worker's seat is kept with its phase, by its number; every other seat is Plain. A seat that is kept turns to
-// another phase without memory.
-ghost use Rattle.std.specs.Prelude.{◌≡◌, [], OnErr, OnOk, false};
+// What the seats are doing. A worker's seat is kept with its phase, by its number; every other seat is Plain. The jobs in a seat's hands change
+// without memory.
+ghost use Rattle.std.specs.Prelude.{◌≡◌, ◌<◌, [], Bool, OnErr, OnOk, Some, false, length};
 ghost use Rattle.sk_payload.specs.Head.{names};
-ghost use Rattle.sk_seats.specs.Phases.{has, is_plain, phase_in, turned};
+ghost use Rattle.sk_seats.specs.Phases.{has, holding, is_plain, phase_in, releasing, staging, turned, works_of};
 ghost use Rattle.sk_seats.specs.Held.{held_by};
 ghost use Rattle.sk_seats.specs.Order.{InOrder};
-ghost use Rattle.sk_seats.specs.Turn.{after};
+ghost use Rattle.sk_seats.specs.Works.{most_works};
+ghost use Rattle.std.specs.List.{position};
+ghost use Rattle.sk_seats.specs.declared.work.Work.{Work};
 
 use crate::phase::Phase;
-use crate::turn::Turn;
+use crate::work::Stage;
+use crate::works::Works;
 use sk_payload::Payload;
-use sk_resp::{Memory, Text, Word};
+use sk_resp::{Memory, Text};
 use std::alloc::Global;
 use std::collections::BTreeMap;
 use std::marker::Model;
-use std::mem;
 
 /// The phases of the seats. Contracts see the seats that aren't Plain, each with its phase, in the order of their numbers.
 #[derive(Drop)]
 pub struct Seats {
+    alloc: Global,
     phases: BTreeMap<u32, Phase>,
     plain: Phase,
 }
@@ -41,6 +44,7 @@ impl Seats {
         ensures { result ≡ [] }
     {
         Seats {
+            alloc,
             phases: BTreeMap::new(alloc),
             plain: Phase::Plain,
         }
@@ -73,28 +77,52 @@ impl Seats {
         false
     }
 
-    /// The seat is one of this process.
-    pub fn join(&mut self, seat: u32, ident: Word) -> Result<(), Memory>
-        ensures ok { OnOk result (self.new ≡ turned seat (Phase.Idle ident) self.old) }
+    /// The seat is one of this process, without a job.
+    pub fn join(&mut self, seat: u32, ident: Text) -> Result<(), Memory>
+        ensures ok { OnOk result (self.new ≡ turned seat (Phase.Joined ident []) self.old) }
         ensures err { OnErr result (self.new ≡ self.old) }
     {
-        let before = self.phases.insert(seat, Phase::Idle(ident))?;
+        let works = Works::new(self.alloc)?;
+        let before = self.phases.insert(seat, Phase::Joined(ident, works))?;
         let_go(before);
         Ok(())
     }
 
-    /// A worker's seat takes this turn. Takes no memory.
-    pub fn turn(&mut self, seat: u32, turn: Turn)
-        requires { is_plain (phase_in self.old seat) ≡ false }
-        ensures { self.new ≡ turned seat (after turn (phase_in self.old seat)) self.old }
+    /// A worker's seat has fetched a job. Takes no memory.
+    pub fn hold(&mut self, seat: u32, payload: Payload)
+        requires joined { is_plain (phase_in self.old seat) ≡ false }
+        requires room { length (works_of (phase_in self.old seat)) < most_works }
+        ensures { self.new ≡ turned seat (holding payload (phase_in self.old seat)) self.old }
     {
         match self.phases.get_mut(&seat) {
-            Some(phase) => *phase = turn.from(mem::replace(phase, Phase::Plain)),
+            Some(phase) => phase.hold(payload),
             None => unreachable!(),
         }
     }
 
-    /// The seat is Plain from now on. Takes no memory.
+    /// A work in a seat's hands, the first that passes some test, is at this stage from now on. Takes no memory.
+    pub fn stage(&mut self, seat: u32, at: usize, stage: Stage)
+        requires { at < length (works_of (phase_in self.old seat)) }
+        ensures { (test : Work → Bool) → position test (works_of (phase_in self.old seat)) ≡ Some at → self.new ≡ turned seat (staging test stage (phase_in self.old seat)) self.old }
+    {
+        match self.phases.get_mut(&seat) {
+            Some(phase) => phase.stage(at, stage),
+            None => unreachable!(),
+        }
+    }
+
+    /// A seat lets go of a work, the first that passes some test. Takes no memory.
+    pub fn release(&mut self, seat: u32, at: usize)
+        requires { at < length (works_of (phase_in self.old seat)) }
+        ensures { (test : Work → Bool) → position test (works_of (phase_in self.old seat)) ≡ Some at → self.new ≡ turned seat (releasing test (phase_in self.old seat)) self.old }
+    {
+        match self.phases.get_mut(&seat) {
+            Some(phase) => phase.release(at),
+            None => unreachable!(),
+        }
+    }
+
+    /// The seat is Plain from now on, and lets go of all works in its hands. Takes no memory.
     #[tactic(auto, using(crate::proofs::Seating::dropped))]
     pub fn cut(&mut self, seat: u32)
         ensures { self.new ≡ turned seat Phase.Plain self.old }
@@ -121,8 +149,7 @@ fn has(phase: &Phase, jid: &Text) -> bool
     ensures { result ≡ has jid.now phase.now }
 {
     match phase {
-        Phase::Plain | Phase::Idle(_) => false,
-        Phase::Held(_, payload) | Phase::Put(_, payload) => names(payload, jid),
-        Phase::Settled(_, payload, _) => names(payload, jid),
+        Phase::Plain => false,
+        Phase::Joined(_, works) => works.list().iter().any(|work| names(&work.payload, jid)),
     }
 }

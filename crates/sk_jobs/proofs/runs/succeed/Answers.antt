@@ -5,7 +5,7 @@ use Rattle.sk_model.specs.Change.{Counts, Turns}
 use Rattle.sk_model.specs.Outcome.{Comes}
 use Rattle.sk_seats.specs.Phases.{phase_in, turned}
 use Rattle.sk_model.specs.Told.{and_tell}
-use Rattle.sk_seats.specs.declared.phase.End.TheVariants.{Returned}
+use Rattle.sk_seats.specs.declared.work.End.TheVariants.{Returned}
 use Rattle.sk_seats.specs.declared.phase.Phase.TheVariants.{Settled}
 use Rattle.sk_seats.specs.Turn.{after}
 use Rattle.sk_seats.specs.declared.turn.Turn.TheVariants.{Settle}

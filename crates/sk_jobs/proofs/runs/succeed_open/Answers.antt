@@ -3,7 +3,7 @@ use Rattle.sk_batch.specs.declared.event.Event.TheVariants as event
 use Rattle.sk_counters.specs.Counters.{processed}
 use Rattle.sk_model.specs.Change.{Counts, Turns}
 use Rattle.sk_seats.specs.Phases.{turned}
-use Rattle.sk_seats.specs.declared.phase.End.TheVariants.{Returned}
+use Rattle.sk_seats.specs.declared.work.End.TheVariants.{Returned}
 use Rattle.sk_seats.specs.declared.phase.Phase.TheVariants.{Settled}
 use Rattle.sk_model.proofs.Coming.{if_ok}
 use Rattle.sk_jobs.specs.Stocked.{at}

@@ -4,7 +4,7 @@ use Rattle.sk_resp.specs.Spelling.{Bytes}
 use Rattle.sk_resp.specs.declared.reply.Reply.{Reply}
 use Rattle.sk_model.specs.Outcome.{Comes, Outcome}
 use Rattle.sk_zset.specs.Pair.{Pair}
-use Rattle.sk_seats.specs.declared.phase.End.{End}
+use Rattle.sk_seats.specs.declared.work.End.{End}
 use Rattle.sk_seats.specs.declared.phase.Phase.{Phase}
 use Rattle.sk_seats.specs.declared.phase.Phase.TheVariants.{Held, Put, Settled}
 use Rattle.sk_seats.specs.Phases.{phase_in}
