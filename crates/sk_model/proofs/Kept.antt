@@ -15,9 +15,9 @@ use Rattle.sk_seats.specs.declared.phase.Phase.{Phase}
 use Rattle.sk_seats.specs.declared.phase.Phase.TheVariants.{Plain, Idle, Held, Put, Settled}
 use Rattle.sk_model.specs.World.{World, phase_of}
 use Rattle.sk_seats.specs.Phases.{phase_in, has}
-use Rattle.sk_lives.specs.declared.ending.Ending.{Ending}
-use Rattle.sk_lives.specs.declared.ending.Ending.TheVariants.{Muddled}
-use Rattle.sk_lives.specs.declared.origin.Origin.{Origin}
+use Rattle.sk_places.specs.declared.ending.Ending.{Ending}
+use Rattle.sk_places.specs.declared.ending.Ending.TheVariants.{Muddled}
+use Rattle.sk_places.specs.declared.origin.Origin.{Origin}
 use Rattle.sk_model.specs.Live.{fresh}
 use Rattle.sk_model.specs.Change.{Add, Carry, Merge, PutBack, Free, Moves, Turns, ending_of, carried, freed, moved, changed}
 use Rattle.sk_model.specs.Life.{Life, Unborn, Live, Ended, IsKept, is_newer, outranks, ended, freed_life, life_after}
