@@ -16,7 +16,7 @@ use Rattle.sk_batch.specs.declared.batch.Batch.{Batch}
 use Rattle.sk_batch.specs.declared.batch_fault.BatchFault.{BatchFault}
 use Rattle.sk_batch.specs.declared.batch_fault.BatchFault.TheVariants.{Full}
 use Rattle.sk_batch.specs.declared.firing.Firing.{Firing}
-use Rattle.sk_lives.specs.declared.origin.Origin.TheVariants.{Inner, Outside}
+use Rattle.sk_places.specs.declared.origin.Origin.TheVariants.{Inner, Outside}
 use Rattle.sk_places.specs.Placed.{Placed}
 use Rattle.sk_batch.proofs.Refusals.{batch_kept, bid_kept}
 use Rattle.sk_undo.specs.Steps.{Steps, edited}

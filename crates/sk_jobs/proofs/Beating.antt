@@ -13,7 +13,7 @@ use Rattle.sk_batch.specs.declared.firing.Firing.{Firing}
 use Rattle.sk_batch.specs.declared.event.Event.{Event}
 use Rattle.sk_batch.specs.declared.event.Event.TheVariants.{Died}
 use Rattle.sk_batch.specs.Told.{fires_of}
-use Rattle.sk_lives.specs.declared.origin.Origin.TheVariants.{Inner}
+use Rattle.sk_places.specs.declared.origin.Origin.TheVariants.{Inner}
 use Rattle.sk_places.specs.declared.row.Place.TheVariants.{Set}
 use Rattle.sk_places.specs.declared.row.Row.{Row}
 use Rattle.sk_places.specs.Rows.{row_of, rows_at}

@@ -6,7 +6,7 @@ use Rattle.sk_resp.specs.Spelling.{Bytes}
 use Rattle.sk_cmd.specs.declared.argument.Scored.TheVariants.{Dead}
 use Rattle.sk_cmd.specs.declared.argument.Side.TheVariants.{Left}
 use Rattle.sk_batch.specs.declared.event.Event.TheVariants.{Died}
-use Rattle.sk_lives.specs.declared.ending.Ending.TheVariants.{Trimmed}
+use Rattle.sk_places.specs.declared.ending.Ending.TheVariants.{Trimmed}
 use Rattle.sk_places.specs.declared.row.Place.{Place}
 use Rattle.sk_places.specs.declared.row.Place.TheVariants.{Set}
 use Rattle.sk_places.specs.declared.row.Row.{Row}

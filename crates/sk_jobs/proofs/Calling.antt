@@ -3,7 +3,7 @@ use Rattle.std.proofs.Common.{◌≡◌, List, [], ◌∷◌, ◌++◌, refl, sy
 use Rattle.std.specs.Prelude.{Bool, Option, Some, None, Result, Ok, Err, IfOk, OnOk}
 use Rattle.sk_undo.specs.Steps.{Steps, edited}
 use Rattle.sk_cmd.specs.declared.argument.Side.{Side}
-use Rattle.sk_lives.specs.declared.origin.Origin.{Origin}
+use Rattle.sk_places.specs.declared.origin.Origin.{Origin}
 use Rattle.sk_places.specs.declared.row.Place.{Place}
 use Rattle.sk_places.specs.declared.row.Place.TheVariants.{Queue}
 use Rattle.sk_places.specs.declared.row.Row.{Row}
@@ -15,7 +15,7 @@ use Rattle.sk_batch.specs.Told.{fires_of, mark_of}
 use Rattle.sk_batch.specs.declared.event.Event.{Event}
 use Rattle.sk_batch.specs.declared.firing.Firing.{Firing}
 use Rattle.sk_batch.specs.declared.member.Member.{Member}
-use Rattle.sk_lives.specs.declared.origin.Origin.TheVariants.{Inner}
+use Rattle.sk_places.specs.declared.origin.Origin.TheVariants.{Inner}
 use Rattle.sk_payload.specs.Head.{head}
 use Rattle.sk_payload.specs.declared.head.Head.{Head}
 use Rattle.sk_model.specs.Change.{after_fire, perform}

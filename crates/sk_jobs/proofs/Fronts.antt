@@ -16,7 +16,7 @@ use Rattle.sk_places.specs.declared.row.Place.{Place}
 use Rattle.sk_places.specs.declared.row.Row.{Row}
 use Rattle.sk_places.specs.Rows.{first_row, row_at_end, insert_after, is_at, is_same, pair_of, place_cmp, put_row, row_of, rows_at, take_row}
 use Rattle.sk_zset.specs.Pair.{Pair}
-use Rattle.sk_lives.specs.declared.ending.Ending.TheVariants.{Trimmed}
+use Rattle.sk_places.specs.declared.ending.Ending.TheVariants.{Trimmed}
 use Rattle.sk_places.specs.Placed.{Placed, ended_if, ended_row, ended_rows}
 use Rattle.sk_places.specs.Scores.{HasRange}
 use Rattle.sk_model.specs.World.{World}

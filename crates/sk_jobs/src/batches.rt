@@ -2,12 +2,11 @@
 // batch and its jobs come in one step, whole or not at all.
 ghost use Rattle.std.specs.Prelude.{◌≡◌, ◌&&◌, ℕ, IfOk, OnErr, OnOk, None, cond, not};
 ghost use Rattle.std.specs.Result.{result_err};
-ghost use Rattle.sk_payload.specs.Head.{head as head_of};
+ghost use Rattle.sk_payload.specs.Head.{head as head_of, jid_of};
 ghost use Rattle.sk_payload.specs.Member.{is_name};
 ghost use Rattle.sk_batch.specs.Events.{joined, made, made_fires};
 ghost use Rattle.sk_batch.specs.Faults.{add_fault, bid_fault, breaks, is_full as has_most, jids_fault, make_fault};
 ghost use Rattle.sk_batch.specs.declared.batch_fault.BatchFault.TheVariants as fault;
-ghost use Rattle.sk_lives.specs.Lives.{jid_of};
 ghost use Rattle.sk_model.specs.Batches.{all_may_join, are_callbacks, batch_add, batch_of, batch_push, batch_stat, fault_say, is_callback, jids_of, join, make, may_call, may_join, or_none, push_jobs, unless};
 ghost use Rattle.sk_model.specs.Change.{perform};
 ghost use Rattle.sk_model.specs.Outcome.{Comes, Outcome, refuses};
@@ -23,10 +22,9 @@ ghost use Rattle.sk_jobs.specs.Stocked.{IsClosed, KeepsStep, at};
 use crate::calls::{call_all, push_job};
 use crate::stock::Stock;
 use sk_batch::{Batch, BatchFault, Batches, Callbacks, Firing};
-use sk_lives::Origin;
 use sk_model::{Limits, bytes_of, is_full};
 use sk_payload::{Payload, payloads_of};
-use sk_places::Places;
+use sk_places::{Origin, Places};
 use sk_resp::{Memory, Refusal, Replies, Reply, Say, Word, Words};
 use sk_seats::Seats;
 use sk_value::{as_reply, counted, one_if, refused};

@@ -4,7 +4,7 @@ ghost use Rattle.std.specs.Ordering.{is_eq};
 ghost use Rattle.sk_base.specs.Score.{last_moment};
 ghost use Rattle.sk_cmd.specs.declared.argument.Side.TheVariants.{Left};
 ghost use Rattle.sk_cmd.specs.declared.argument.Scored.TheVariants.{Dead};
-ghost use Rattle.sk_lives.specs.declared.ending.Ending.TheVariants.{Trimmed};
+ghost use Rattle.sk_places.specs.declared.ending.Ending.TheVariants.{Trimmed};
 ghost use Rattle.sk_places.specs.Placed.{ended_row, ended_rows};
 ghost use Rattle.sk_places.specs.Rows.{place_cmp, row_of, rows_at};
 ghost use Rattle.sk_places.specs.declared.row.Place.{Place};

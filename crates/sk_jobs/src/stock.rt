@@ -1,7 +1,7 @@
 // What scripts change, with one step over all of it.
 ghost use Rattle.std.specs.Prelude.{◌≡◌, [], IfOk, IfErr, Ok, OnErr, OnOk};
 ghost use Rattle.sk_undo.specs.Steps.{closed};
-ghost use Rattle.sk_lives.specs.Lives.{no_lives};
+ghost use Rattle.sk_places.specs.Lives.{no_lives};
 ghost use Rattle.sk_leases.specs.Leased.{nothing};
 ghost use Rattle.sk_model.specs.World.{no_batches};
 ghost use Rattle.sk_places.specs.Placed.{placed};

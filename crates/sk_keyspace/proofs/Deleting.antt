@@ -11,7 +11,7 @@ use Rattle.sk_value.specs.Keys.{Keys}
 use Rattle.sk_places.specs.declared.row.Place.TheVariants.{Queue, Set}
 use Rattle.sk_places.specs.declared.row.Row.{Row}
 use Rattle.sk_places.specs.Rows.{rows_at}
-use Rattle.sk_lives.specs.declared.ending.Ending.TheVariants.{Deleted}
+use Rattle.sk_places.specs.declared.ending.Ending.TheVariants.{Deleted}
 use Rattle.sk_places.specs.Placed.{Placed, ended_row, ended_rows, without_name}
 use Rattle.sk_key.specs.declared.key_class.KeyClass.TheVariants as class
 use Rattle.sk_model.specs.World.{World}

@@ -10,6 +10,7 @@ use Rattle.std.specs.Option.{is_some}
 use Rattle.sk_cmd.specs.declared.argument.Side.{Side}
 use Rattle.sk_cmd.specs.declared.argument.Side.TheVariants.{Left}
 use Rattle.sk_cmd.specs.declared.argument.Scored.{Scored}
+use Rattle.sk_payload.specs.Head.{jid_of}
 use Rattle.sk_places.specs.declared.row.Place.TheVariants.{Set}
 use Rattle.sk_model.specs.Sets.{add, add_as, add_each, add_one, remove_all}
 use Rattle.sk_payload.specs.Member.{is_name}
@@ -19,12 +20,12 @@ use Rattle.sk_places.specs.declared.row.Place.{Place}
 use Rattle.sk_places.specs.declared.row.Row.{Row}
 use Rattle.sk_places.specs.Rows.{copies_of, end_taken, is_fresh, number_taken, pair_of, row_at, row_at_end, row_in, row_of, rows_at, stands_in}
 use Rattle.sk_zset.specs.Pair.{Pair}
-use Rattle.sk_lives.specs.Lives.{born, count_job, jid_of}
-use Rattle.sk_lives.specs.Totals.{count_push}
-use Rattle.sk_lives.specs.declared.ending.Ending.TheVariants.{Deleted}
-use Rattle.sk_lives.specs.declared.origin.Origin.{Origin}
-use Rattle.sk_lives.specs.declared.origin.Origin.TheVariants.{Outside}
-use Rattle.sk_lives.specs.declared.totals.Totals.{Totals}
+use Rattle.sk_places.specs.Lives.{born, count_job}
+use Rattle.sk_places.specs.Totals.{count_push}
+use Rattle.sk_places.specs.declared.ending.Ending.TheVariants.{Deleted}
+use Rattle.sk_places.specs.declared.origin.Origin.{Origin}
+use Rattle.sk_places.specs.declared.origin.Origin.TheVariants.{Outside}
+use Rattle.sk_places.specs.declared.totals.Totals.{Totals}
 use Rattle.sk_places.specs.Placed.{Placed, added, ended_copies, ended_row, ended_rows, moved_if, pushed_to, with_name}
 use Rattle.sk_seats.specs.Phases.{Phases, some_has}
 use Rattle.sk_seats.specs.Held.{held_by, is_held}

@@ -43,7 +43,7 @@ use Rattle.sk_batch.specs.declared.batch_fault.BatchFault.TheVariants.{Full}
 use Rattle.sk_batch.specs.declared.batch_stat.BatchStat.{BatchStat}
 use Rattle.sk_batch.specs.declared.event.Event.TheVariants.{Returned, Reported}
 use Rattle.sk_batch.specs.declared.firing.Firing.{Firing}
-use Rattle.sk_lives.specs.declared.origin.Origin.TheVariants.{Outside}
+use Rattle.sk_places.specs.declared.origin.Origin.TheVariants.{Outside}
 use Rattle.sk_key.specs.declared.key_class.KeyClass.{KeyClass}
 use Rattle.sk_key.specs.declared.key_class.KeyClass.TheVariants as class
 use Rattle.sk_seats.specs.declared.work.End.TheVariants as end

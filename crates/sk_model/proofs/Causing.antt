@@ -15,7 +15,7 @@ use Rattle.sk_batch.specs.Batched.{Batched}
 use Rattle.sk_batch.specs.declared.event.Event.{Event as Told}
 use Rattle.sk_batch.specs.declared.event.Event.TheVariants.{Returned, Reported, Died}
 use Rattle.sk_batch.specs.declared.firing.Firing.{Firing}
-use Rattle.sk_lives.specs.declared.origin.Origin.TheVariants.{Outside, Inner}
+use Rattle.sk_places.specs.declared.origin.Origin.TheVariants.{Outside, Inner}
 use Rattle.sk_model.specs.World.{World}
 use Rattle.sk_model.specs.Change.{Add, Carry, Take, Trim, Merge, PutBack, Free, Fire, Change, Moves, Passes, Names, Unnames, Keeps, Turns, Beats, Counts, Recovers, Forgets, Makes, Joins, Tells, changed, perform}
 use Rattle.sk_model.specs.Told.{call, fire_all, push_to, tell_in, tell_of}

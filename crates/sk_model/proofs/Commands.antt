@@ -25,7 +25,7 @@ use Rattle.sk_places.specs.declared.row.Place.TheVariants.{Queue, Set}
 use Rattle.sk_places.specs.declared.row.Row.{Row}
 use Rattle.sk_places.specs.Rows.{is_at, rows_at, row_at, row_at_end}
 use Rattle.sk_seats.specs.Phases.{is_plain as is_plain_seat}
-use Rattle.sk_lives.specs.declared.origin.Origin.TheVariants.{Outside}
+use Rattle.sk_places.specs.declared.origin.Origin.TheVariants.{Outside}
 use Rattle.sk_model.specs.World.{World, phase_of}
 use Rattle.sk_model.specs.Change.{Add, Take, Moves, Passes, Names, Unnames, Keeps, changed, perform}
 use Rattle.sk_key.specs.Class.{class_of, queue_of, is_plain, is_queue}

@@ -14,10 +14,10 @@ use Rattle.sk_batch.specs.declared.batch.Fired.{Fired}
 use Rattle.sk_batch.specs.declared.firing.Firing.{Firing}
 use Rattle.sk_batch.specs.declared.firing.Kind.{Kind}
 use Rattle.sk_batch.specs.declared.firing.Kind.TheVariants.{Complete, Success, Death}
-use Rattle.sk_lives.specs.declared.origin.Origin.{Origin}
-use Rattle.sk_lives.specs.declared.origin.Origin.TheVariants.{Inner}
+use Rattle.sk_places.specs.declared.origin.Origin.{Origin}
+use Rattle.sk_places.specs.declared.origin.Origin.TheVariants.{Inner}
 use Rattle.sk_model.specs.World.{World}
-use Rattle.sk_lives.specs.Lives.{one_if}
+use Rattle.sk_places.specs.Lives.{one_if}
 use Rattle.sk_model.specs.Change.{Fire, Makes, Joins, Tells, Change, Moves, after_fire, changed, perform}
 use Rattle.sk_model.specs.Told.{push_to, push_job, call, fire_all}
 use Rattle.sk_model.specs.Once.{same_kind, times, times_in}

@@ -3,7 +3,7 @@ use Rattle.std.proofs.Common.{◌≡◌, ℕ, List, [], ◌∷◌, refl, sym, ap
 use Rattle.sk_resp.specs.Spelling.{Bytes}
 use Rattle.sk_model.specs.declared.limits.Limits.{Limits}
 use Rattle.sk_model.specs.World.{World, first}
-use Rattle.sk_lives.specs.Lives.{one_if}
+use Rattle.sk_places.specs.Lives.{one_if}
 use Rattle.sk_model.specs.Event.{Step, Run, after}
 use Rattle.sk_model.specs.Once.{is_whole, buries, SuccessOnceFrom, BatchOnce, AllSettled, SettledStaysFrom, SettledStays, CompleteOnceFrom, CompleteOnce, DeathOnceFrom, DeathOnce, CallsFollowFrom, CallbacksFollow}
 use Rattle.sk_model.proofs.Marked.{Sane}

@@ -12,9 +12,9 @@ use Rattle.sk_batch.specs.declared.firing.Kind.TheVariants.{Death}
 use Rattle.sk_seats.specs.declared.phase.Phase.{Phase}
 use Rattle.sk_model.specs.World.{World, phase_of}
 use Rattle.sk_model.specs.Change.{Add, Carry, Take, Trim, PutBack, Free, Change, Moves, Passes, Names, Unnames, Keeps, Turns, Beats, Counts, Recovers, Forgets, changed, perform}
-use Rattle.sk_lives.specs.Lives.{one_if}
+use Rattle.sk_places.specs.Lives.{one_if}
 use Rattle.sk_model.specs.Once.{CallsFollow, times, buries, is_dead_set}
-use Rattle.sk_lives.specs.declared.origin.Origin.{Origin}
+use Rattle.sk_places.specs.declared.origin.Origin.{Origin}
 use Rattle.sk_model.proofs.Kept.{Ready}
 use Rattle.sk_model.proofs.Marked.{Sane}
 pub use Rattle.sk_model.proofs.Fired.{perform-append}

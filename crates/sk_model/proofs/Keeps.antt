@@ -16,8 +16,8 @@ use Rattle.sk_model.specs.World.{World, phase_of}
 use Rattle.sk_model.specs.Change.{Add, Carry, Take, Trim, Merge, PutBack, Free, Change, Moves, Passes, Names, Unnames, Keeps, Turns, Beats, Counts, Recovers, Forgets, Fire, Makes, Joins, Tells, carried, moved, changed, perform}
 use Rattle.sk_model.specs.Laws.{copies, pushed, taken}
 use Rattle.sk_model.specs.Life.{Life, Live, IsKept, IsSound, Knows, life_after, life_through}
-use Rattle.sk_lives.specs.declared.ending.Ending.TheVariants.{Deleted, Trimmed}
-use Rattle.sk_lives.specs.declared.origin.Origin.{Origin}
+use Rattle.sk_places.specs.declared.ending.Ending.TheVariants.{Deleted, Trimmed}
+use Rattle.sk_places.specs.declared.origin.Origin.{Origin}
 use Rattle.sk_model.proofs.Standing.{some}
 use Rattle.sk_model.proofs.Sound.{sound_change, known_change}
 use Rattle.sk_model.proofs.Copies.{copies-put_row, copies-take_row, copies-freed}

@@ -20,9 +20,9 @@ use Rattle.sk_seats.specs.declared.work.Work.{Work}
 use Rattle.sk_model.specs.World.{World, phase_of}
 use Rattle.sk_seats.specs.Phases.{phase_in, has, works_of}
 use Rattle.sk_seats.specs.Works.{first, is_done_as}
-use Rattle.sk_lives.specs.declared.ending.Ending.{Ending}
-use Rattle.sk_lives.specs.declared.ending.Ending.TheVariants.{Muddled}
-use Rattle.sk_lives.specs.declared.origin.Origin.{Origin}
+use Rattle.sk_places.specs.declared.ending.Ending.{Ending}
+use Rattle.sk_places.specs.declared.ending.Ending.TheVariants.{Muddled}
+use Rattle.sk_places.specs.declared.origin.Origin.{Origin}
 use Rattle.sk_model.specs.Live.{fresh}
 use Rattle.sk_model.specs.Change.{Add, Carry, Merge, PutBack, Free, Moves, Turns, ending_of, carried, freed, freed_at, freed_work, moved, changed}
 use Rattle.sk_model.specs.Life.{Life, Unborn, Live, Ended, IsKept, IsOutranked, is_newer, outranks, ended, freed_life, life_at, life_of_work, life_after}

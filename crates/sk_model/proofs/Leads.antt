@@ -6,7 +6,7 @@ use Rattle.sk_batch.specs.Open.{is_settled}
 use Rattle.sk_batch.specs.declared.firing.Kind.{Kind}
 use Rattle.sk_batch.specs.declared.firing.Kind.TheVariants.{Complete, Success}
 use Rattle.sk_batch.specs.declared.member.Mark.TheVariants.{Returned}
-use Rattle.sk_lives.specs.Lives.{one_if}
+use Rattle.sk_places.specs.Lives.{one_if}
 use Rattle.sk_model.specs.Once.{settles, is_whole}
 use Rattle.sk_model.proofs.Marked.{Sane, marked_nowhere}
 use Rattle.sk_model.proofs.Fired.{was_fired}

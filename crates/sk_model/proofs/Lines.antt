@@ -6,7 +6,7 @@ use Rattle.sk_batch.specs.Batched.{BatchEntry, has_bid, is_there}
 use Rattle.sk_batch.specs.Fires.{retagged}
 use Rattle.sk_batch.specs.Lines.{line, line_above, is_under}
 use Rattle.sk_batch.specs.declared.batch.Fired.{Fired}
-use Rattle.sk_lives.specs.Lives.{one_if}
+use Rattle.sk_places.specs.Lives.{one_if}
 use Rattle.sk_model.proofs.Texts.{bytes_tell}
 
 abbrev pub ParentThere : List BatchEntry → Option Bytes → Type 0

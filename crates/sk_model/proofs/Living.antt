@@ -8,7 +8,7 @@ use Rattle.std.proofs.lemmas.Map.Text.{is_eq-slice_cmp}
 use Rattle.sk_resp.specs.Spelling.{Bytes}
 use Rattle.sk_resp.specs.WordOrder.{text_cmp}
 use Rattle.sk_model.specs.Life.{is_distinct}
-use Rattle.sk_lives.specs.Lives.{without_jid}
+use Rattle.sk_places.specs.Lives.{without_jid}
 use Rattle.sk_model.proofs.Texts.{bytes_tell}
 
 -- a list of jobs has this one

@@ -17,9 +17,9 @@ use Rattle.sk_batch.specs.declared.firing.Firing.{Firing}
 use Rattle.sk_batch.specs.declared.firing.Kind.{Kind}
 use Rattle.sk_batch.specs.declared.firing.Kind.TheVariants.{Complete, Success, Death}
 use Rattle.sk_batch.specs.declared.member.Mark.TheVariants.{Reported, Returned}
-use Rattle.sk_lives.specs.declared.origin.Origin.TheVariants.{Outside}
+use Rattle.sk_places.specs.declared.origin.Origin.TheVariants.{Outside}
 use Rattle.sk_model.specs.World.{World}
-use Rattle.sk_lives.specs.Lives.{one_if}
+use Rattle.sk_places.specs.Lives.{one_if}
 use Rattle.sk_model.specs.Change.{Makes, Joins, Change, with_batch, changed, perform}
 use Rattle.sk_model.specs.Outcome.{Outcome}
 use Rattle.sk_model.specs.Room.{is_too_much}

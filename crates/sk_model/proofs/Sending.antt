@@ -22,7 +22,7 @@ use Rattle.sk_places.specs.declared.row.Place.{Place}
 use Rattle.sk_places.specs.declared.row.Place.TheVariants.{Queue, Private, Set}
 use Rattle.sk_places.specs.declared.row.Row.{Row}
 use Rattle.sk_places.specs.Rows.{pair_of, place_cmp, stands_before, is_at, is_same, rows_at, row_of, row_in, take_row, first_row}
-use Rattle.sk_lives.specs.declared.origin.Origin.TheVariants.{Outside}
+use Rattle.sk_places.specs.declared.origin.Origin.TheVariants.{Outside}
 use Rattle.sk_model.specs.World.{World}
 use Rattle.sk_model.specs.Change.{Carry, Take, Trim, Merge, Change, Moves, carried, changed, perform}
 use Rattle.sk_model.specs.Outcome.{Outcome}

@@ -5,7 +5,7 @@ use Rattle.std.specs.Str.{bytes_eq}
 use Rattle.std.specs.BTreeSet.{insert_key}
 use Rattle.sk_resp.specs.Spelling.{Bytes}
 use Rattle.sk_resp.specs.WordOrder.{text_cmp}
-use Rattle.sk_payload.specs.Head.{head, names}
+use Rattle.sk_payload.specs.Head.{head, names, jid_of}
 use Rattle.sk_payload.specs.declared.head.Head.{Head}
 use Rattle.sk_seats.specs.declared.phase.Phase.{Phase}
 use Rattle.sk_seats.specs.declared.phase.Phase.TheVariants.{Plain, Joined}
@@ -13,15 +13,15 @@ use Rattle.sk_seats.specs.declared.work.Stage.{Stage}
 use Rattle.sk_seats.specs.declared.work.Stage.TheVariants.{Held, Put, Settled}
 use Rattle.sk_seats.specs.declared.work.Work.{Work}
 use Rattle.sk_seats.specs.Works.{first, is_done_as}
-use Rattle.sk_lives.specs.declared.ending.Ending.{Ending}
-use Rattle.sk_lives.specs.declared.ending.Ending.TheVariants.{Returned, Discarded, Deleted, Trimmed, Muddled}
-use Rattle.sk_lives.specs.declared.origin.Origin.{Origin}
-use Rattle.sk_lives.specs.declared.origin.Origin.TheVariants.{Outside, Inner}
-use Rattle.sk_lives.specs.declared.totals.Totals.{Totals}
-use Rattle.sk_lives.specs.Totals.{accounted, pushes_in, count_push, count_end}
+use Rattle.sk_places.specs.declared.ending.Ending.{Ending}
+use Rattle.sk_places.specs.declared.ending.Ending.TheVariants.{Returned, Discarded, Deleted, Trimmed, Muddled}
+use Rattle.sk_places.specs.declared.origin.Origin.{Origin}
+use Rattle.sk_places.specs.declared.origin.Origin.TheVariants.{Outside, Inner}
+use Rattle.sk_places.specs.declared.totals.Totals.{Totals}
+use Rattle.sk_places.specs.Totals.{accounted, pushes_in, count_push, count_end}
 use Rattle.sk_model.specs.World.{World, phase_of}
 use Rattle.sk_model.specs.Live.{fresh, is_live, born, count_job, with_end}
-use Rattle.sk_lives.specs.Lives.{jid_of, without_jid, one_if, over, was_live}
+use Rattle.sk_places.specs.Lives.{without_jid, one_if, over, was_live}
 use Rattle.sk_model.specs.Change.{Move, Add, Carry, Take, Trim, Merge, PutBack, Free, Change, Moves, Passes, Names, Unnames, Keeps, Turns, Beats, Counts, Recovers, Forgets, Fire, Makes, Joins, Tells, ending_of, freed, freed_at, freed_work, moved, changed}
 use Rattle.sk_model.specs.Life.{Life, Unborn, Live, Ended, IsKept, IsSound, Knows, Balanced, is_distinct, ended, freed_life, life_at, life_of_work, life_after}
 use Rattle.sk_model.proofs.Texts.{bytes_tell}

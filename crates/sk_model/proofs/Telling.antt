@@ -14,7 +14,7 @@ use Rattle.sk_batch.specs.declared.event.Event.TheVariants as event
 use Rattle.sk_batch.specs.declared.firing.Firing.{Firing}
 use Rattle.sk_batch.specs.declared.firing.Kind.TheVariants.{Complete, Success}
 use Rattle.sk_batch.specs.declared.member.Mark.TheVariants.{Reported, Returned}
-use Rattle.sk_lives.specs.Lives.{one_if}
+use Rattle.sk_places.specs.Lives.{one_if}
 use Rattle.sk_model.proofs.Lines.{in_list, line_once, line_there}
 use Rattle.sk_model.proofs.Marked.{Alike, Sane, home_there, marked_alike, marked_elsewhere, marked_on, sane_marked, settled_reported}
 use Rattle.sk_model.proofs.Fired.{Agrees, Known, alike_fired, sane_fired, any-append, any_fires, any_others, count-append, count_fires, count_named, count_others, fired_after, line_known, named, no_death}

@@ -24,10 +24,10 @@ use Rattle.sk_batch.specs.declared.firing.Kind.TheVariants.{Complete, Success, D
 use Rattle.sk_batch.specs.declared.member.Mark.{Mark}
 use Rattle.sk_batch.specs.declared.member.Mark.TheVariants.{Reported, Returned}
 use Rattle.sk_batch.proofs.Places.{retagged_none}
-use Rattle.sk_lives.specs.declared.origin.Origin.{Origin}
-use Rattle.sk_lives.specs.declared.origin.Origin.TheVariants.{Inner}
+use Rattle.sk_places.specs.declared.origin.Origin.{Origin}
+use Rattle.sk_places.specs.declared.origin.Origin.TheVariants.{Inner}
 use Rattle.sk_model.specs.World.{World}
-use Rattle.sk_lives.specs.Lives.{one_if}
+use Rattle.sk_places.specs.Lives.{one_if}
 use Rattle.sk_model.specs.Change.{Fire, Tells, Change, Moves, changed, perform}
 use Rattle.sk_places.specs.Rows.{copies_of}
 use Rattle.sk_model.specs.Told.{push_to, push_job, call, fire_all, tell_in, tell_of, tell}

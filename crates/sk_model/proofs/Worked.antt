@@ -31,7 +31,7 @@ use Rattle.sk_model.specs.Outcome.{Outcome}
 use Rattle.sk_model.specs.Step.{outcome}
 use Rattle.sk_model.specs.Life.{Life, Unborn, Live, Ended, life_through}
 use Rattle.sk_model.specs.Live.{stands}
-use Rattle.sk_lives.specs.declared.ending.Ending.TheVariants.{Muddled, Deleted}
+use Rattle.sk_places.specs.declared.ending.Ending.TheVariants.{Muddled, Deleted}
 
 limits : Limits
 limits = record { rows = 10; bytes = 1000; batches = 1 }

@@ -29,7 +29,7 @@ use Rattle.sk_model.specs.Change.{perform}
 use Rattle.sk_key.specs.Class.{class_of}
 use Rattle.sk_model.specs.Outcome.{Outcome}
 use Rattle.sk_model.specs.Step.{outcome, cut}
-use Rattle.sk_lives.specs.declared.ending.Ending.TheVariants.{Returned, Discarded, Deleted, Muddled}
+use Rattle.sk_places.specs.declared.ending.Ending.TheVariants.{Returned, Discarded, Deleted, Muddled}
 use Rattle.sk_model.specs.Life.{Life, Unborn, Live, Ended, life_through}
 
 -- What comes to a store.

@@ -9,7 +9,7 @@ use Rattle.sk_resp.specs.declared.reply.Reply.TheVariants as reply
 use Rattle.sk_resp.specs.declared.refusal.Refusal.TheVariants as refusal
 use Rattle.sk_resp.specs.declared.say.Say.{Say}
 use Rattle.sk_resp.specs.declared.say.Say.TheVariants as say
-use Rattle.sk_payload.specs.Head.{head}
+use Rattle.sk_payload.specs.Head.{head, jid_of}
 use Rattle.sk_payload.specs.Member.{is_name}
 use Rattle.sk_payload.specs.declared.head.Head.{Head}
 use Rattle.sk_value.specs.Answer.{counted}
@@ -22,9 +22,8 @@ use Rattle.sk_batch.specs.declared.batch_fault.BatchFault.TheVariants as fault
 use Rattle.sk_batch.specs.declared.batch_stat.BatchStat.{BatchStat}
 use Rattle.sk_batch.specs.declared.callbacks.Callbacks.{Callbacks}
 use Rattle.sk_batch.specs.declared.firing.Firing.{Firing}
-use Rattle.sk_lives.specs.declared.origin.Origin.TheVariants.{Outside}
+use Rattle.sk_places.specs.declared.origin.Origin.TheVariants.{Outside}
 use Rattle.sk_model.specs.World.{World}
-use Rattle.sk_lives.specs.Lives.{jid_of}
 use Rattle.sk_model.specs.Change.{Change, Makes, Joins}
 use Rattle.sk_model.specs.Outcome.{Outcome, tells, refuses}
 use Rattle.sk_model.specs.Room.{is_too_much}

@@ -12,7 +12,7 @@ use Rattle.sk_payload.specs.Head.{head}
 use Rattle.sk_payload.specs.declared.head.Head.{Head}
 use Rattle.sk_value.specs.Action.{action_of}
 use Rattle.sk_batch.specs.declared.event.Event.TheVariants.{Returned}
-use Rattle.sk_lives.specs.declared.origin.Origin.TheVariants.{Inner}
+use Rattle.sk_places.specs.declared.origin.Origin.TheVariants.{Inner}
 use Rattle.sk_model.specs.declared.limits.Limits.{Limits}
 use Rattle.sk_seats.specs.declared.phase.Phase.TheVariants.{Plain}
 use Rattle.sk_seats.specs.Phases.{works_of}

@@ -5,6 +5,7 @@ use Rattle.sk_resp.specs.Spelling.{Bytes}
 use Rattle.sk_cmd.specs.declared.argument.Side.{Side}
 use Rattle.sk_cmd.specs.declared.argument.Side.TheVariants.{Left}
 use Rattle.sk_value.specs.Keys.{Keys, purged}
+use Rattle.sk_payload.specs.Head.{jid_of}
 use Rattle.sk_places.specs.declared.row.Place.{Place}
 use Rattle.sk_places.specs.declared.row.Row.{Row}
 use Rattle.sk_places.specs.declared.row.Place.TheVariants.{Private}
@@ -13,12 +14,11 @@ pub use Rattle.sk_places.specs.Placed.{carried, named, with_name, without_name}
 use Rattle.sk_model.specs.World.{World, phase_of}
 use Rattle.sk_seats.specs.Phases.{turned}
 use Rattle.sk_counters.specs.Counters.{counted_at}
-use Rattle.sk_lives.specs.declared.ending.Ending.{Ending}
-use Rattle.sk_lives.specs.declared.ending.Ending.TheVariants.{Returned, Discarded, Deleted, Trimmed}
-use Rattle.sk_lives.specs.declared.origin.Origin.{Origin}
-use Rattle.sk_lives.specs.Totals.{count_push}
+use Rattle.sk_places.specs.declared.ending.Ending.{Ending}
+use Rattle.sk_places.specs.declared.ending.Ending.TheVariants.{Returned, Discarded, Deleted, Trimmed}
+use Rattle.sk_places.specs.declared.origin.Origin.{Origin}
+use Rattle.sk_places.specs.Totals.{count_push}
 use Rattle.sk_model.specs.Live.{born, count_job, with_end}
-use Rattle.sk_lives.specs.Lives.{jid_of}
 use Rattle.sk_seats.specs.declared.work.End.{End}
 use Rattle.sk_seats.specs.declared.work.End.TheVariants as end
 use Rattle.sk_batch.specs.Batched.{Batched, has_bid}

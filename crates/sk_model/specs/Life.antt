@@ -13,10 +13,10 @@ use Rattle.sk_seats.specs.declared.work.Stage.TheVariants.{Held, Put, Settled}
 use Rattle.sk_seats.specs.declared.work.Work.{Work}
 use Rattle.sk_seats.specs.Phases.{works_of}
 use Rattle.sk_seats.specs.Works.{first, is_done_as}
-use Rattle.sk_lives.specs.declared.ending.Ending.{Ending}
-use Rattle.sk_lives.specs.declared.ending.Ending.TheVariants.{Muddled, Deleted, Trimmed}
-use Rattle.sk_lives.specs.declared.totals.Totals.{Totals}
-use Rattle.sk_lives.specs.Totals.{accounted, pushes_in}
+use Rattle.sk_places.specs.declared.ending.Ending.{Ending}
+use Rattle.sk_places.specs.declared.ending.Ending.TheVariants.{Muddled, Deleted, Trimmed}
+use Rattle.sk_places.specs.declared.totals.Totals.{Totals}
+use Rattle.sk_places.specs.Totals.{accounted, pushes_in}
 use Rattle.sk_model.specs.World.{World, phase_of}
 use Rattle.sk_model.specs.Live.{stands, fresh, is_live}
 use Rattle.sk_model.specs.Change.{Add, Carry, Take, Trim, Merge, PutBack, Free, Change, Moves, Passes, Names, Unnames, Keeps, Turns, Beats, Counts, Recovers, Forgets, Fire, Makes, Joins, Tells, ending_of, changed}

@@ -14,7 +14,7 @@ use Rattle.sk_batch.specs.declared.firing.Kind.{Kind}
 use Rattle.sk_batch.specs.declared.firing.Kind.TheVariants.{Complete, Success, Death}
 use Rattle.sk_model.specs.declared.limits.Limits.{Limits}
 use Rattle.sk_model.specs.World.{World, first}
-use Rattle.sk_lives.specs.Lives.{one_if}
+use Rattle.sk_places.specs.Lives.{one_if}
 use Rattle.sk_model.specs.Change.{Carry, PutBack, Fire, Change, Moves, changed}
 use Rattle.sk_model.specs.Told.{call}
 use Rattle.sk_model.specs.Event.{Run, Step, after}

@@ -11,7 +11,7 @@ use Rattle.sk_value.specs.Sets.{with_members}
 use Rattle.sk_places.specs.declared.row.Place.{Place}
 use Rattle.sk_places.specs.declared.row.Row.{Row}
 use Rattle.sk_places.specs.Rows.{copies_of, end_taken, number_taken, rows_at, row_at, row_at_end}
-use Rattle.sk_lives.specs.declared.origin.Origin.TheVariants.{Outside}
+use Rattle.sk_places.specs.declared.origin.Origin.TheVariants.{Outside}
 use Rattle.sk_model.specs.World.{World}
 use Rattle.sk_model.specs.Change.{Change, Moves, Add, Carry, Take, Names, perform}
 use Rattle.sk_model.specs.Outcome.{Outcome, says, refuses}

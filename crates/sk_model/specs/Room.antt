@@ -4,7 +4,7 @@ use Rattle.std.specs.Prelude.{nat_lt}
 use Rattle.std.specs.List.{sum}
 use Rattle.sk_resp.specs.Spelling.{Bytes}
 use Rattle.sk_resp.specs.declared.refusal.Refusal.TheVariants.{Full}
-use Rattle.sk_lives.specs.Totals.{pushes_in}
+use Rattle.sk_places.specs.Totals.{pushes_in}
 use Rattle.sk_places.specs.Placed.{Placed}
 use Rattle.sk_seats.specs.Phases.{Phases}
 use Rattle.sk_model.specs.declared.limits.Limits.{Limits}

@@ -14,7 +14,7 @@ use Rattle.sk_value.specs.declared.edit.Edit.TheVariants as edit
 use Rattle.sk_places.specs.declared.row.Place.TheVariants.{Set}
 use Rattle.sk_places.specs.declared.row.Row.{Row}
 use Rattle.sk_places.specs.Rows.{rows_at, row_in, row_of, pair_of}
-use Rattle.sk_lives.specs.declared.origin.Origin.TheVariants.{Outside}
+use Rattle.sk_places.specs.declared.origin.Origin.TheVariants.{Outside}
 use Rattle.sk_model.specs.World.{World}
 use Rattle.sk_model.specs.Change.{Change, Moves, Add, Carry, PutBack, changed, perform}
 use Rattle.sk_model.specs.Outcome.{Outcome, refuses}

@@ -13,8 +13,8 @@ use Rattle.sk_batch.specs.declared.event.Event.{Event}
 use Rattle.sk_batch.specs.declared.firing.Firing.{Firing}
 use Rattle.sk_batch.specs.declared.firing.Kind.{Kind}
 use Rattle.sk_batch.specs.declared.firing.Kind.TheVariants.{Complete, Success, Death}
-use Rattle.sk_lives.specs.declared.origin.Origin.{Origin}
-use Rattle.sk_lives.specs.declared.origin.Origin.TheVariants.{Inner}
+use Rattle.sk_places.specs.declared.origin.Origin.{Origin}
+use Rattle.sk_places.specs.declared.origin.Origin.TheVariants.{Inner}
 use Rattle.sk_model.specs.World.{World}
 use Rattle.sk_model.specs.Change.{Change, Moves, Add, Fire, Tells, perform}
 use Rattle.sk_model.specs.Outcome.{Outcome}

@@ -5,8 +5,8 @@ use Rattle.sk_value.specs.Keys.{Keys}
 use Rattle.sk_model.specs.declared.limits.Limits.{Limits}
 use Rattle.sk_places.specs.declared.row.Row.{Row}
 use Rattle.sk_counters.specs.Counters.{Counters}
-use Rattle.sk_lives.specs.declared.totals.Totals.{Totals}
-use Rattle.sk_lives.specs.Totals.{no_totals}
+use Rattle.sk_places.specs.declared.totals.Totals.{Totals}
+use Rattle.sk_places.specs.Totals.{no_totals}
 use Rattle.sk_seats.specs.Phases.{Phases, phase_in}
 use Rattle.sk_leases.specs.Leased.{Leased, nothing}
 use Rattle.sk_batch.specs.Batched.{Batched}

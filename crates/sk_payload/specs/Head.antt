@@ -45,3 +45,7 @@ head text = option_and_then head_of_value (value text)
 -- whether the text has a head with this jid
 abbrev pub names : Bytes → Bytes → Bool
 names text jid = unwrap_or (option_map (λ h. bytes_eq h.jid jid) (head text)) false
+
+-- the job that the text names
+abbrev pub jid_of : Bytes → Option Bytes
+jid_of text = option_map (λ h. h.jid) (head text)

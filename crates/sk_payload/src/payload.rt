@@ -2,7 +2,7 @@
 ghost use Rattle.std.specs.Prelude.{◌≡◌, ◌↔◌, ◌<◌, [], Some, None, Err, true, IfOk, IsSomeAnd, option_map};
 ghost use Rattle.sk_payload.specs.Failed.{failed as failed_in, next_head};
 ghost use Rattle.sk_payload.specs.Follows.{follows as texts_follow};
-ghost use Rattle.sk_payload.specs.Head.{head as head_of};
+ghost use Rattle.sk_payload.specs.Head.{jid_of, head as head_of};
 ghost use Rattle.sk_payload.specs.declared.edit_fault.EditFault.TheVariants.{NoHead as no_head, GenLimit as gen_limit};
 
 use crate::Memory;
@@ -11,7 +11,7 @@ use crate::failure::set_failure;
 use crate::head::Head;
 use crate::read::{read_head, read_members};
 use serde_json::Value;
-use sk_resp::Word;
+use sk_resp::{Text, Word};
 use std::alloc::Global;
 use std::marker::Model;
 
@@ -27,7 +27,7 @@ pub struct Payload {
 
 impl Model for Payload {
     ghost use Rattle.std.specs.Prelude.{◌≡◌, List, ℕ, option_map};
-    ghost use Rattle.sk_payload.specs.Head.{head as head_of};
+    ghost use Rattle.sk_payload.specs.Head.{jid_of, head as head_of};
 
     ghost Value = { List ℕ };
 
@@ -75,6 +75,16 @@ impl Payload {
         ensures { option_map (λ head. head.now) result ≡ head_of self.now }
     {
         self.head.as_deref()
+    }
+
+    /// The id of its job, where it has a head.
+    pub fn jid(&self) -> Option<&Text>
+        ensures { option_map (λ jid. jid.now) result ≡ jid_of self.now }
+    {
+        match self.head() {
+            Some(head) => Some(&head.jid),
+            None => None,
+        }
     }
 
     /// An equal payload.

@@ -1,3 +1,4 @@
+pub mod Accounts
 pub mod Entries
 pub mod Gone
 pub mod Idents

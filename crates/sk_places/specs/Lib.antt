@@ -1,11 +1,13 @@
 pub mod Ends
 pub mod Entries
 pub mod Index
+pub mod Lives
 pub mod Names
 pub mod Order
 pub mod Placed
 pub mod Rows
 pub mod Scores
 pub mod Segments
+pub mod Totals
 pub mod Wanted
 pub mod Whole

@@ -4,7 +4,7 @@ ghost use Rattle.std.specs.List.{count_by};
 ghost use Rattle.sk_undo.specs.Balance.{most};
 ghost use Rattle.sk_cmd.specs.declared.argument.Side.TheVariants.{Left};
 ghost use Rattle.sk_zset.specs.Bounds.{is_below};
-ghost use Rattle.sk_lives.specs.Lives.{jid_of};
+ghost use Rattle.sk_payload.specs.Head.{jid_of};
 ghost use Rattle.sk_places.specs.declared.row.Place.TheVariants.{Set};
 ghost use Rattle.sk_places.specs.Order.{is_ordered};
 ghost use Rattle.sk_places.specs.Rows.{is_fresh, is_private, row_at_end, row_of, rows_at};

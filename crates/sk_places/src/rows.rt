@@ -9,7 +9,7 @@ ghost use Rattle.sk_undo.specs.Moves.{moved};
 ghost use Rattle.sk_undo.specs.Rises.{rises};
 ghost use Rattle.sk_undo.specs.Steps.{begun, closed, committed, edited, undone};
 ghost use Rattle.sk_zset.specs.Bounds.{is_above, is_below};
-ghost use Rattle.sk_lives.specs.Lives.{pushed};
+ghost use Rattle.sk_places.specs.Lives.{pushed};
 ghost use Rattle.sk_places.specs.Ends.{ended_of};
 ghost use Rattle.sk_cmd.specs.declared.argument.Scored.TheVariants.{Schedule};
 ghost use Rattle.sk_places.specs.declared.row.Place.TheVariants.{Set};
@@ -19,17 +19,18 @@ ghost use Rattle.sk_places.specs.Rows.{pair_of, place_cmp, put_row, rows_of, sta
 ghost use Rattle.sk_places.specs.Segments.{IsSegment, is_text};
 ghost use Rattle.sk_places.specs.Wanted.{picks};
 
+use crate::by_bytes::ByBytes;
 use crate::copies::{Pairs, Texts};
 use crate::index::{add_job, drop_job, job_of, take_job};
 use crate::row::{Place, Spot};
 use crate::search::{AboveOf, Behind, Beyond, Named, Passed, Reached, ReachedBy};
 use crate::wanted::{Picked, Wanted};
+use crate::{Ending, Lives, Origin};
 use sk_base::{Bound, Score};
 use sk_cmd::{Scored, Side};
-use sk_lives::{Bag, Ending, Lives, Origin};
 use sk_payload::Payload;
 use sk_resp::{Memory, Word};
-use sk_undo::UndoList;
+use sk_undo::{UndoList, UndoMultiset};
 use std::alloc::Global;
 use std::marker::Model;
 
@@ -42,7 +43,7 @@ pub struct Rows {
     bytes: u128,
     // At the begin of an open step.
     bytes_then: u128,
-    index: Bag,
+    index: UndoMultiset<Word>,
 }
 
 impl Model for Rows {
@@ -136,7 +137,7 @@ impl Rows {
             entries: UndoList::new(alloc),
             bytes: 0,
             bytes_then: 0,
-            index: Bag::new(alloc),
+            index: UndoMultiset::new(alloc),
         }
     }
 
@@ -166,7 +167,7 @@ impl Rows {
         ensures is { result ≡ rows_of jid.now self.now.stands }
         ensures small { result ≤ most }
     {
-        self.index.count(jid)
+        self.index.count(&ByBytes { bytes: jid })
     }
 
     /// The row at an index. Logarithmic.
@@ -291,7 +292,7 @@ impl Rows {
     {
         let job = job_of(self.alloc, &payload)?;
         self.entries.reserve(1)?;
-        self.index.reserve()?;
+        self.index.reserve(1)?;
         lives.push(&payload, from, fresh)?;
         self.bytes = raised(&self.entries, self.bytes, payload.text());
         put_in(&mut self.entries, spot, payload, end);
@@ -306,7 +307,7 @@ impl Rows {
     {
         let job = job_of(self.alloc, &payload)?;
         self.entries.reserve(1)?;
-        self.index.reserve()?;
+        self.index.reserve(1)?;
         self.bytes = raised(&self.entries, self.bytes, payload.text());
         put_in(&mut self.entries, spot, payload, end);
         add_job(&mut self.index, job);
@@ -332,7 +333,7 @@ impl Rows {
         ensures err { OnErr result (self.new ≡ self.old) }
     {
         self.entries.reserve(1)?;
-        self.index.reserve()?;
+        self.index.reserve(1)?;
         drop_job(&mut self.index, &self.entries.get(at).1);
         self.bytes = lowered(&self.entries, self.bytes, at);
         self.entries.drop_out(at);
@@ -348,7 +349,7 @@ impl Rows {
         ensures lives_err { OnErr result (lives.new ≡ lives.old) }
     {
         self.entries.reserve(1)?;
-        self.index.reserve()?;
+        self.index.reserve(1)?;
         lives.end_in_step(&self.entries.get(at).1, how)?;
         drop_job(&mut self.index, &self.entries.get(at).1);
         self.bytes = lowered(&self.entries, self.bytes, at);

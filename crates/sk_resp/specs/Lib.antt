@@ -11,4 +11,5 @@ pub mod Reply
 pub mod ReplySize
 pub mod ReplyStream
 pub mod ReplyMachine
+pub mod Laws
 pub mod WordOrder

@@ -298,6 +298,22 @@ abbrev pub given : Option Reply → List Bytes
 given None = []
 given (Some r) = wire r ∷ []
 
+-- what a part of the machine does with what the reader keeps
+abbrev pub done_to : {A : Type 0} → (Bytes → Levels → A → Out) → State → A → Out
+done_to part s byte = part s.line.items (levels s.stack.items) byte
+
+-- the machine made this reply whole, or none, and goes on as the reader does
+abbrev pub LeadsTo : Out → Option Reply → State → Type 0
+LeadsTo out found s = out ≡ gives (given found) (says s)
+
+-- the reader with so many more bytes of the open line
+abbrev pub with_more : Bytes → State → Machine
+with_more bytes s = at s.stage (s.line.items ++ bytes) (levels s.stack.items)
+
+-- how many bytes the reply must still have
+abbrev pub still_needs : State → ℕ
+still_needs s = stage_needs s.stage (length s.line.items) (length (levels s.stack.items))
+
 abbrev pub AreRead : Option Reply → Type 0
 AreRead None = Unit {0}
 AreRead (Some r) = IsRead r

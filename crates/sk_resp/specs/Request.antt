@@ -23,6 +23,10 @@ array words = header (length words) ++ bulks words
 abbrev pub IsWord : Bytes → Type 0
 IsWord word = length word ≤ 2 ^ 20
 
+-- a word, of no more bytes than these
+abbrev pub IsWordWithin : ℕ → Bytes → Type 0
+IsWordWithin most word = IsWord word × (length word ≤ most)
+
 -- at least one word and at most 65,536, of at most 16,777,216 bytes together
 pub record IsCommand (words : Command) : Type 0 where
   pub some : 0 < length words

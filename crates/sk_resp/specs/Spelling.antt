@@ -1,5 +1,5 @@
 -- How RESP2 spells lines, bulk strings and the heads of arrays.
-use Rattle.std.specs.Prelude.{ℕ, List, [], ◌∷◌, ◌++◌, ◌+◌, length}
+use Rattle.std.specs.Prelude.{◌<◌, ◌≤◌, ℕ, List, [], ◌∷◌, ◌++◌, ◌+◌, length}
 use Rattle.std.specs.Fmt.{decimal}
 
 abbrev pub Bytes : Type 0
@@ -47,6 +47,10 @@ opened need word = line (dollar ∷ decimal need) ++ word
 -- a bulk string: the line with its length, and its bytes as a line
 unfoldable pub bulk : Bytes → Bytes
 bulk word = line (dollar ∷ decimal (length word)) ++ line word
+
+-- so many bytes of the input: at least one, and no more than there are
+abbrev pub IsPart : ℕ → Bytes → Type 0
+IsPart n input = (0 < n) × (n ≤ length input)
 
 -- one after another
 abbrev pub joined : List Bytes → Bytes

@@ -1,7 +1,7 @@
 -- Whether a seat has the job of a text.
 use Rattle.std.specs.Prelude.{Option, Some, None, Bool, false}
 use Rattle.sk_resp.specs.Spelling.{Bytes}
-use Rattle.sk_lives.specs.Lives.{jid_of}
+use Rattle.sk_payload.specs.Head.{jid_of}
 use Rattle.sk_seats.specs.Phases.{Phases, some_has}
 
 abbrev pub is_held : Phases → Option Bytes → Bool

@@ -1,10 +1,10 @@
 // The reader of replies. It keeps the part of a reply that has come, and takes the stream in any pieces.
 ghost use Rattle.std.specs.Prelude.{◌≡◌, ◌≢◌, ◌+◌, ◌^◌, ◌<◌, ◌≤◌, ◌++◌, ◌∷◌, [], ℕ, List, Some, None, IfOk, OnOk, IfErr, length, take, get_or, map};
-ghost use Rattle.sk_resp.specs.Spelling.{Bytes};
+ghost use Rattle.sk_resp.specs.Spelling.{Bytes, IsPart};
 ghost use Rattle.sk_resp.specs.Reply.{wire};
 ghost use Rattle.sk_resp.specs.ReplyStream.{ReadsReplies, StopsReplies, AddsReplies};
 ghost use Rattle.sk_resp.specs.ReplyMachine;
-ghost use Rattle.sk_resp.specs.ReplyMachine.{go, go_within, run_within, gives, fails, levels, says, seen, given, owed, stage_needs, IsOpen, IsOpenWithin, IsSized, IsHeard, AreRead, Made};
+ghost use Rattle.sk_resp.specs.ReplyMachine.{go, go_within, run_within, gives, fails, levels, says, seen, given, owed, stage_needs, IsOpen, IsOpenWithin, IsSized, IsHeard, LeadsTo, AreRead, Made};
 ghost use Rattle.sk_resp.specs.declared.reply.Reply.{Reply};
 ghost use Rattle.sk_resp.specs.declared.reply.fault.ReplyFault.{ReplyFault};
 ghost use Rattle.sk_resp.specs.declared.reply.fault.ReplyFault.TheVariants.{Memory};
@@ -76,7 +76,7 @@ impl State {
         requires within { IsOpenWithin (says self.old) }
         requires sized { IsSized self.old }
         requires some { 0 < length input.now }
-        ensures ok { IfOk result (λ r. (0 < r.0) × (r.0 ≤ length input.now) × (run_within (says self.old) (take r.0 input.now) ≡ gives (given r.1) (says self.new))) }
+        ensures ok { IfOk result (λ r. IsPart r.0 input.now × LeadsTo (run_within (says self.old) (take r.0 input.now)) r.1 self.new) }
         ensures sized { IfOk result (λ _. IsSized self.new) }
         ensures read { IfOk result (λ r. AreRead r.1) }
         ensures fault { IfErr result (λ e. e ≢ Memory → go_within (says self.old) (get_or input.now 0 0) ≡ fails) }

@@ -3,7 +3,7 @@
 ghost use Rattle.std.specs.Prelude.{◌≡◌, ◌≢◌, ◌+◌, ◌*◌, ◌^◌, ◌<◌, ◌≤◌, [], ◌∷◌, Some, None, IfOk, IfErr};
 ghost use Rattle.sk_resp.specs.Reply.{wire};
 ghost use Rattle.sk_resp.specs.ReplyMachine;
-ghost use Rattle.sk_resp.specs.ReplyMachine.{signs, minus_digit, digits, digits_end, gives, fails, levels, says, given, owed, behind, number_text, IsNumber, IsCounted, Made};
+ghost use Rattle.sk_resp.specs.ReplyMachine.{signs, minus_digit, digits, digits_end, done_to, gives, fails, levels, says, given, owed, behind, number_text, LeadsTo, IsNumber, IsCounted, Made};
 ghost use Rattle.sk_resp.specs.declared.reply.Reply.TheVariants as reply;
 ghost use Rattle.sk_resp.specs.declared.reply.fault.ReplyFault.TheVariants.{Memory};
 ghost use Rattle.sk_resp.specs.declared.reply.state.Kind.TheVariants as kind;
@@ -45,9 +45,9 @@ impl State {
     /// Takes the first byte of a number.
     pub fn take_sign(&mut self, kind: Kind, byte: u8) -> Result<Option<Reply>, ReplyFault>
         requires { self.old.size ≤ 2 ^ 32 }
-        ensures ok { IfOk result (λ found. signs kind self.old.line.items (levels self.old.stack.items) byte ≡ gives (given found) (says self.new)) }
+        ensures ok { IfOk result (λ found. LeadsTo (done_to (signs kind) self.old byte) found self.new) }
         ensures made { IfOk result (Made self.old self.new) }
-        ensures fault { IfErr result (λ e. e ≢ Memory → (signs kind self.old.line.items (levels self.old.stack.items) byte ≡ fails)) }
+        ensures fault { IfErr result (λ e. e ≢ Memory → done_to (signs kind) self.old byte ≡ fails) }
     {
         if byte == b'-' {
             self.stage = Stage::Minus(kind);
@@ -66,9 +66,9 @@ impl State {
     /// Takes the first digit behind a `-`.
     pub fn take_minus(&mut self, kind: Kind, byte: u8) -> Result<Option<Reply>, ReplyFault>
         requires { self.old.size ≤ 2 ^ 32 }
-        ensures ok { IfOk result (λ found. minus_digit kind self.old.line.items (levels self.old.stack.items) (ReplyMachine.digit_of byte) ≡ gives (given found) (says self.new)) }
+        ensures ok { IfOk result (λ found. LeadsTo (done_to (minus_digit kind) self.old (ReplyMachine.digit_of byte)) found self.new) }
         ensures made { IfOk result (Made self.old self.new) }
-        ensures fault { IfErr result (λ e. e ≢ Memory → (minus_digit kind self.old.line.items (levels self.old.stack.items) (ReplyMachine.digit_of byte) ≡ fails)) }
+        ensures fault { IfErr result (λ e. e ≢ Memory → done_to (minus_digit kind) self.old (ReplyMachine.digit_of byte) ≡ fails) }
     {
         let Some(digit) = digit_of(byte) else {
             return Err(ReplyFault::Unreadable);
@@ -92,9 +92,9 @@ impl State {
         byte: u8,
     ) -> Result<Option<Reply>, ReplyFault>
         requires { self.old.size ≤ 2 ^ 32 }
-        ensures ok { IfOk result (λ found. digits kind negative n self.old.line.items (levels self.old.stack.items) byte ≡ gives (given found) (says self.new)) }
+        ensures ok { IfOk result (λ found. LeadsTo (done_to (digits kind negative n) self.old byte) found self.new) }
         ensures made { IfOk result (Made self.old self.new) }
-        ensures fault { IfErr result (λ e. e ≢ Memory → (digits kind negative n self.old.line.items (levels self.old.stack.items) byte ≡ fails)) }
+        ensures fault { IfErr result (λ e. e ≢ Memory → done_to (digits kind negative n) self.old byte ≡ fails) }
     {
         if byte == b'\r' {
             self.stage = Stage::DigitsEnd(kind, negative, n);

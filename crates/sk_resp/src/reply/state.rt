@@ -4,7 +4,7 @@ ghost use Rattle.std.specs.Prelude.{◌≡◌, ◌+◌, ◌*◌, ◌^◌, ◌<�
 ghost use Rattle.sk_resp.specs.Reply.{wire};
 ghost use Rattle.sk_resp.specs.ReplyStream.{IsRead};
 ghost use Rattle.sk_resp.specs.ReplyMachine;
-ghost use Rattle.sk_resp.specs.ReplyMachine.{settled, gives, levels, says, given, owed, stage_needs, IsOpen, IsNumber, Made};
+ghost use Rattle.sk_resp.specs.ReplyMachine.{settled, gives, levels, says, given, owed, stage_needs, still_needs, IsOpen, IsNumber, Made};
 ghost use Rattle.sk_resp.specs.declared.reply.fault.ReplyFault.TheVariants.{Memory};
 
 use super::fault::ReplyFault;
@@ -163,7 +163,7 @@ impl State {
     pub fn fits(&self) -> bool
         requires is_open { IsOpen (says self.now) }
         requires small { self.now.size ≤ 2 ^ 33 }
-        ensures { result ≡ leb (self.now.size + stage_needs self.now.stage (length self.now.line.items) (length (levels self.now.stack.items))) (2 ^ 32) }
+        ensures { result ≡ leb (self.now.size + still_needs self.now) (2 ^ 32) }
     {
         self.size + self.needs() <= LONGEST_REPLY
     }

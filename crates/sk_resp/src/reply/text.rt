@@ -3,7 +3,7 @@ ghost use Rattle.std.specs.Prelude.{◌≡◌, ◌≢◌, ◌+◌, ◌^◌, ◌<
 ghost use Rattle.std.specs.List.{AllByRecursion};
 ghost use Rattle.sk_resp.specs.Spelling.{cr, lf};
 ghost use Rattle.sk_resp.specs.ReplyMachine;
-ghost use Rattle.sk_resp.specs.ReplyMachine.{starts, lines, bodies, go_at, gives, fails, levels, at, says, given, owed, run_within, IsOpenWithin, IsSized, Made};
+ghost use Rattle.sk_resp.specs.ReplyMachine.{starts, lines, bodies, go_at, done_to, gives, fails, levels, says, given, owed, with_more, LeadsTo, run_within, IsOpenWithin, IsSized, Made};
 ghost use Rattle.sk_resp.specs.declared.reply.fault.ReplyFault.TheVariants.{Memory};
 
 use super::fault::ReplyFault;
@@ -39,9 +39,9 @@ impl State {
     /// Takes the mark of a reply.
     pub fn take_mark(&mut self, byte: u8) -> Result<Option<Reply>, ReplyFault>
         requires { self.old.size ≤ 2 ^ 32 }
-        ensures ok { IfOk result (λ found. starts self.old.line.items (levels self.old.stack.items) byte ≡ gives (given found) (says self.new)) }
+        ensures ok { IfOk result (λ found. LeadsTo (done_to starts self.old byte) found self.new) }
         ensures made { IfOk result (Made self.old self.new) }
-        ensures fault { IfErr result (λ e. e ≢ Memory → (starts self.old.line.items (levels self.old.stack.items) byte ≡ fails)) }
+        ensures fault { IfErr result (λ e. e ≢ Memory → done_to starts self.old byte ≡ fails) }
     {
         match byte {
             b'+' => self.stage = Stage::Simple,
@@ -62,9 +62,9 @@ impl State {
         byte: u8,
     ) -> Result<Option<Reply>, ReplyFault>
         requires { self.old.size ≤ 2 ^ 32 }
-        ensures ok { IfOk result (λ found. lines stay end self.old.line.items (levels self.old.stack.items) byte ≡ gives (given found) (says self.new)) }
+        ensures ok { IfOk result (λ found. LeadsTo (done_to (lines stay end) self.old byte) found self.new) }
         ensures made { IfOk result (Made self.old self.new) }
-        ensures fault { IfErr result (λ e. e ≢ Memory → lines stay end self.old.line.items (levels self.old.stack.items) byte ≡ fails) }
+        ensures fault { IfErr result (λ e. e ≢ Memory → done_to (lines stay end) self.old byte ≡ fails) }
     {
         if byte == b'\r' {
             self.stage = end;
@@ -87,7 +87,7 @@ impl State {
         requires sized { IsSized self.now }
         requires some { 0 < length input.now }
         ensures fits { result ≤ length input.now }
-        ensures goes { run_within (says self.now) (take result input.now) ≡ gives [] (at self.now.stage (self.now.line.items ++ take result input.now) (levels self.now.stack.items)) }
+        ensures goes { run_within (says self.now) (take result input.now) ≡ gives [] (with_more (take result input.now) self.now) }
         ensures filled { result ≡ 0 → (need : ℕ) → self.now.stage ≡ Stage.Body need → need ≤ length self.now.line.items }
     {
         match self.stage {
@@ -112,9 +112,9 @@ impl State {
     pub fn take_cr(&mut self, need: usize, byte: u8) -> Result<Option<Reply>, ReplyFault>
         requires filled { need ≤ length self.old.line.items }
         requires small { self.old.size ≤ 2 ^ 32 }
-        ensures ok { IfOk result (λ found. bodies need self.old.line.items (levels self.old.stack.items) byte ≡ gives (given found) (says self.new)) }
+        ensures ok { IfOk result (λ found. LeadsTo (done_to (bodies need) self.old byte) found self.new) }
         ensures made { IfOk result (Made self.old self.new) }
-        ensures fault { IfErr result (λ e. e ≢ Memory → (bodies need self.old.line.items (levels self.old.stack.items) byte ≡ fails)) }
+        ensures fault { IfErr result (λ e. e ≢ Memory → done_to (bodies need) self.old byte ≡ fails) }
     {
         if byte != b'\r' {
             return Err(ReplyFault::Unreadable);
@@ -139,9 +139,9 @@ impl State {
     pub fn end_simple(&mut self, alloc: Global, byte: u8) -> Result<Option<Reply>, ReplyFault>
         requires owed { owed (levels self.old.stack.items) ≤ self.old.size }
         requires small { self.old.size ≤ 2 ^ 32 }
-        ensures ok { IfOk result (λ found. go_at Stage.SimpleEnd self.old.line.items (levels self.old.stack.items) byte ≡ gives (given found) (says self.new)) }
+        ensures ok { IfOk result (λ found. LeadsTo (done_to (go_at Stage.SimpleEnd) self.old byte) found self.new) }
         ensures made { IfOk result (Made self.old self.new) }
-        ensures fault { IfErr result (λ e. e ≢ Memory → go_at Stage.SimpleEnd self.old.line.items (levels self.old.stack.items) byte ≡ fails) }
+        ensures fault { IfErr result (λ e. e ≢ Memory → done_to (go_at Stage.SimpleEnd) self.old byte ≡ fails) }
     {
         match self.end_text(alloc, byte) {
             Ok(text) => self.settle(Reply::Simple(text)),
@@ -153,9 +153,9 @@ impl State {
     pub fn end_error(&mut self, alloc: Global, byte: u8) -> Result<Option<Reply>, ReplyFault>
         requires owed { owed (levels self.old.stack.items) ≤ self.old.size }
         requires small { self.old.size ≤ 2 ^ 32 }
-        ensures ok { IfOk result (λ found. go_at Stage.ErrorEnd self.old.line.items (levels self.old.stack.items) byte ≡ gives (given found) (says self.new)) }
+        ensures ok { IfOk result (λ found. LeadsTo (done_to (go_at Stage.ErrorEnd) self.old byte) found self.new) }
         ensures made { IfOk result (Made self.old self.new) }
-        ensures fault { IfErr result (λ e. e ≢ Memory → go_at Stage.ErrorEnd self.old.line.items (levels self.old.stack.items) byte ≡ fails) }
+        ensures fault { IfErr result (λ e. e ≢ Memory → done_to (go_at Stage.ErrorEnd) self.old byte ≡ fails) }
     {
         match self.end_text(alloc, byte) {
             Ok(text) => self.settle(Reply::Error(text)),
@@ -167,9 +167,9 @@ impl State {
     pub fn end_bulk(&mut self, alloc: Global, byte: u8) -> Result<Option<Reply>, ReplyFault>
         requires owed { owed (levels self.old.stack.items) ≤ self.old.size }
         requires small { self.old.size ≤ 2 ^ 32 }
-        ensures ok { IfOk result (λ found. go_at Stage.BodyEnd self.old.line.items (levels self.old.stack.items) byte ≡ gives (given found) (says self.new)) }
+        ensures ok { IfOk result (λ found. LeadsTo (done_to (go_at Stage.BodyEnd) self.old byte) found self.new) }
         ensures made { IfOk result (Made self.old self.new) }
-        ensures fault { IfErr result (λ e. e ≢ Memory → go_at Stage.BodyEnd self.old.line.items (levels self.old.stack.items) byte ≡ fails) }
+        ensures fault { IfErr result (λ e. e ≢ Memory → done_to (go_at Stage.BodyEnd) self.old byte ≡ fails) }
     {
         match self.end_text(alloc, byte) {
             Ok(bytes) => self.settle(Reply::Bulk(bytes)),

@@ -2,8 +2,8 @@
 // stand in the input together; the plain byte decides wherever anything is unlike the usual form.
 ghost use Rattle.std.specs.Prelude;
 ghost use Rattle.std.specs.Prelude.{◌≡◌, ◌+◌, ◌^◌, ◌<◌, ◌≤◌, ◌++◌, ◌∷◌, [], IfOk, IfErr, IfSome, length, take};
-ghost use Rattle.sk_resp.specs.Spelling.{header, bulk};
-ghost use Rattle.sk_resp.specs.Request.{bulks, IsWord, IsWanting};
+ghost use Rattle.sk_resp.specs.Spelling.{header, bulk, IsPart};
+ghost use Rattle.sk_resp.specs.Request.{bulks, IsWord, IsWordWithin, IsWanting};
 ghost use Rattle.sk_resp.specs.Reading.{seen, seen_at, IsOpen, IsOpenAt, Took, Fails, given};
 
 use super::number_line::{count_number, line_number, number_front};
@@ -166,7 +166,7 @@ impl State {
     ) -> Result<(usize, Option<Words>), WireFault>
         requires is_open { IsOpenAt Stage.Mark self.old }
         requires some { 0 < Prelude.length input.now }
-        ensures ok { IfOk result (λ r. (0 < r.0) × (r.0 ≤ Prelude.length input.now) × Took (seen_at Stage.Mark self.old ++ take r.0 input.now) (given r.1) self.new) }
+        ensures ok { IfOk result (λ r. IsPart r.0 input.now × Took (seen_at Stage.Mark self.old ++ take r.0 input.now) (given r.1) self.new) }
         ensures fault { IfErr result (Fails (seen_at Stage.Mark self.old ++ take 1 input.now)) }
     {
         let front = bulk_front(alloc, LONGEST_COMMAND - self.total, input)?;
@@ -189,7 +189,7 @@ impl State {
         input: &[u8],
     ) -> Result<(usize, Option<Words>), WireFault>
         requires some { 0 < Prelude.length input.now }
-        ensures ok { IfOk result (λ r. (0 < r.0) × (r.0 ≤ Prelude.length input.now) × Took (seen_at Stage.Start self.old ++ take r.0 input.now) (given r.1) self.new) }
+        ensures ok { IfOk result (λ r. IsPart r.0 input.now × Took (seen_at Stage.Start self.old ++ take r.0 input.now) (given r.1) self.new) }
         ensures fault { IfErr result (Fails (seen_at Stage.Start self.old ++ take 1 input.now)) }
     {
         if let Some((taken, n)) = number_front(b'*', input) {
@@ -220,7 +220,7 @@ impl State {
 
 // A whole bulk string at the front of the input, of no more bytes than that: how many bytes of the input it is, and its word.
 fn bulk_front(alloc: Global, most: usize, input: &[u8]) -> Result<Option<(usize, Word)>, Memory>
-    ensures { IfOk result (λ found. IfSome found (λ r. (0 < r.0) × (r.0 ≤ Prelude.length input.now) × IsWord r.1 × (Prelude.length r.1 ≤ most) × (take r.0 input.now ≡ bulk r.1))) }
+    ensures { IfOk result (λ found. IfSome found (λ r. IsPart r.0 input.now × IsWordWithin most r.1 × (take r.0 input.now ≡ bulk r.1))) }
 {
     let Some((at, n)) = number_front(b'$', input) else {
         return Ok(None);

@@ -1,6 +1,7 @@
 // The reader of requests. It keeps the part of an item that has come, and takes the stream in any pieces.
 ghost use Rattle.std.specs.Prelude.{◌≡◌, ◌≢◌, ◌<◌, ◌≤◌, ◌++◌, ◌∷◌, [], ◌↔◌, ℕ, List, Some, None, IfOk, OnOk, IfErr, IsTrue, length, take};
 ghost use Rattle.sk_resp.specs.Request.{Command};
+ghost use Rattle.sk_resp.specs.Spelling.{IsPart};
 ghost use Rattle.sk_resp.specs.Stream.{Opens, Reads, Stops};
 ghost use Rattle.sk_resp.specs.Reading.{seen, IsOpen, Took, Fails, given};
 
@@ -36,7 +37,7 @@ impl State {
     ) -> Result<(usize, Option<Words>), WireFault>
         requires is_open { IsOpen self.old }
         requires some { 0 < length input.now }
-        ensures ok { IfOk result (λ r. (0 < r.0) × (r.0 ≤ length input.now) × Took (seen self.old ++ take r.0 input.now) (given r.1) self.new) }
+        ensures ok { IfOk result (λ r. IsPart r.0 input.now × Took (seen self.old ++ take r.0 input.now) (given r.1) self.new) }
         ensures fault { IfErr result (Fails (seen self.old ++ take 1 input.now)) }
     {
         match self.stage {

@@ -1,7 +1,7 @@
 // The lines behind `*` and `$`: a number in its one spelling, and CR. The LF is not among the bytes.
 ghost use Rattle.std.specs.Prelude.{◌≡◌, ◌+◌, ◌<◌, ◌≤◌, ◌^◌, ◌++◌, ◌∷◌, [], ℕ, ℤ, List, length, take, IfSome, MatchOption};
 ghost use Rattle.std.specs.Fmt.{decimal, signed_decimal};
-ghost use Rattle.sk_resp.specs.Spelling.{cr, lf, minus};
+ghost use Rattle.sk_resp.specs.Spelling.{cr, lf, line, minus};
 ghost use Rattle.sk_resp.specs.Request.{IsCountLine, IsSkipped};
 
 use crate::number::{canonical, negative};
@@ -63,7 +63,7 @@ pub fn count_number(line: &[u8]) -> Option<usize>
 
 /// A mark, a number and CRLF at the front of the input, where they are all there: how many bytes they are, and the number.
 pub fn number_front(mark: u8, input: &[u8]) -> Option<(usize, usize)>
-    ensures { IfSome result (λ r. (r.0 ≤ length input.now) × (r.1 < 10 ^ 19) × (take r.0 input.now ≡ mark ∷ (decimal r.1 ++ cr ∷ lf ∷ []))) }
+    ensures { IfSome result (λ r. (r.0 ≤ length input.now) × (r.1 < 10 ^ 19) × (take r.0 input.now ≡ line (mark ∷ decimal r.1))) }
 {
     if input.is_empty() {
         return None;

@@ -1,6 +1,6 @@
 use Rattle.std.proofs.Common.{◌≡◌, ◌∙◌, List, ap, map, refl, sym}
 use Rattle.sk_cmd.specs.declared.argument.Scored.TheVariants.{Dead}
-use Rattle.sk_lives.specs.declared.ending.Ending.TheVariants.{Trimmed}
+use Rattle.sk_places.specs.declared.ending.Ending.TheVariants.{Trimmed}
 use Rattle.sk_places.specs.Placed.{ended_rows}
 use Rattle.sk_places.specs.declared.row.Place.TheVariants.{Set}
 use Rattle.sk_places.specs.declared.row.Row.{Row}

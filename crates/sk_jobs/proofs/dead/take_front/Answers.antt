@@ -1,6 +1,6 @@
 use Rattle.std.proofs.Common.{◌≡◌, ◌≤◌, ◌-◌, ◌++◌, ◌∙◌, suc, ap, append_assoc, arith, length, map, take}
 use Rattle.sk_places.specs.Placed.{ended_rows}
-use Rattle.sk_lives.specs.declared.ending.Ending.TheVariants.{Trimmed}
+use Rattle.sk_places.specs.declared.ending.Ending.TheVariants.{Trimmed}
 use Rattle.sk_places.specs.Rows.{rows_at}
 use Rattle.sk_places.specs.declared.row.Row.{Row}
 use Rattle.sk_jobs.proofs.Fronts.{one_gone}

@@ -1,6 +1,6 @@
 use Rattle.std.proofs.Common.{◌≡◌, ◌≤◌, ◌++◌, length, map, take}
 use Rattle.sk_places.specs.Placed.{ended_rows}
-use Rattle.sk_lives.specs.declared.ending.Ending.TheVariants.{Trimmed}
+use Rattle.sk_places.specs.declared.ending.Ending.TheVariants.{Trimmed}
 use Rattle.sk_places.specs.Rows.{rows_at}
 use Rattle.sk_places.specs.declared.row.Row.{Row}
 use Rattle.sk_jobs.proofs.dead.take_front.Given as goal

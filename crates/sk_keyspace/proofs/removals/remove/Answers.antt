@@ -1,7 +1,7 @@
 use Rattle.std.proofs.Common.{◌≡◌, ◌∙◌, ap, of_z, rules, subst, sym, to_z, w64}
 use Rattle.sk_resp.specs.declared.reply.Reply.{Reply}
 use Rattle.sk_places.specs.declared.row.Place.TheVariants.{Queue}
-use Rattle.sk_lives.specs.declared.ending.Ending.TheVariants.{Deleted}
+use Rattle.sk_places.specs.declared.ending.Ending.TheVariants.{Deleted}
 use Rattle.sk_places.specs.Placed.{ended_copies}
 use Rattle.sk_places.specs.Rows.{copies_of, end_taken, number_taken, row_at}
 use Rattle.sk_model.specs.Outcome.{Comes}

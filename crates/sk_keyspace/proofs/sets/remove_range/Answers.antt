@@ -4,7 +4,7 @@ use Rattle.sk_value.specs.Lists.{end_index, first_index, range_of}
 use Rattle.sk_value.specs.declared.edit.Edit.TheVariants as edit
 use Rattle.sk_places.specs.declared.row.Place.TheVariants.{Set}
 use Rattle.sk_places.specs.declared.row.Row.{Row}
-use Rattle.sk_lives.specs.declared.ending.Ending.TheVariants.{Deleted}
+use Rattle.sk_places.specs.declared.ending.Ending.TheVariants.{Deleted}
 use Rattle.sk_places.specs.Placed.{ended_rows}
 use Rattle.sk_places.specs.Rows.{rows_at}
 use Rattle.sk_model.specs.Outcome.{Comes}

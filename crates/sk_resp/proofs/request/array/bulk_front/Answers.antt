@@ -13,9 +13,7 @@ returns c =
     let size : length rest ≡ length input - at = ap length behind ∙ length-drop at input in
     let items : c.new.result ≡ take n rest = c.new.ensures ∙ c.in_ok-extend_from_slice.ensures.items ∙ ap (λ z. z ++ take n rest) c.new-bytes.ensures.items in
     let whole = bulk_at input rest c.new.result at n c.in-Some.ensures.2 behind (omega arith) c.if-rest-n-ne13.false c.if-rest-n-ne10.false items in (
-      omega arith,
-      omega (arith, c.in-Some.ensures.0, size),
-      omega (arith, whole.0),
-      omega (arith, whole.0),
+      (omega arith, omega (arith, c.in-Some.ensures.0, size)),
+      (omega (arith, whole.0), omega (arith, whole.0)),
       whole.1,
     )

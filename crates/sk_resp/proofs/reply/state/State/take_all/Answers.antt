@@ -42,10 +42,10 @@ loop-at-preserved-in-None c =
     let n = says c.take_some.new.self in
     let ok = c.in_ok-taken.ensures.ok in
     let e : run_within (says l.self) (take taken (drop l.at piece)) ≡ gives [] n =
-    ap (λ z. run_within (says l.self) (take taken z)) (sym (rest_is piece l.at)) ∙ ok.2 ∙ ap (λ f. gives (given f) n) c.in-None.is in
+    ap (λ z. run_within (says l.self) (take taken z)) (sym (rest_is piece l.at)) ∙ ok.1 ∙ ap (λ f. gives (given f) n) c.in-None.is in
     record {
       heard = (reached_next (says l.self) n (take taken (drop l.at piece)) [] l.invariant.heard.0 e, c.in_ok-taken.ensures.sized);
-      within = omega (arith, ok.1, l.invariant.within, length-take-le (length piece - l.at) (drop l.at piece), length-drop l.at piece);
+      within = omega (arith, ok.0.1, l.invariant.within, length-take-le (length piece - l.at) (drop l.at piece), length-drop l.at piece);
       so_far = (
         so_far.0,
         so_far.1,
@@ -63,11 +63,11 @@ loop-at-preserved c =
     let n = says c.take_some.new.self in
     let ok = c.in_ok-taken.ensures.ok in
     let e : run_within (says l.self) (take taken (drop l.at piece)) ≡ gives (wire reply ∷ []) n =
-    ap (λ z. run_within (says l.self) (take taken z)) (sym (rest_is piece l.at)) ∙ ok.2 ∙ ap (λ f. gives (given f) n) c.in-Some.is in
+    ap (λ z. run_within (says l.self) (take taken z)) (sym (rest_is piece l.at)) ∙ ok.1 ∙ ap (λ f. gives (given f) n) c.in-Some.is in
     let read : IsRead reply = subst AreRead c.in-Some.is c.in_ok-taken.ensures.read in
     record {
       heard = (reached_next (says l.self) n (take taken (drop l.at piece)) (wire reply ∷ []) l.invariant.heard.0 e, c.in_ok-taken.ensures.sized);
-      within = omega (arith, ok.1, l.invariant.within, length-take-le (length piece - l.at) (drop l.at piece), length-drop l.at piece);
+      within = omega (arith, ok.0.1, l.invariant.within, length-take-le (length piece - l.at) (drop l.at piece), length-drop l.at piece);
       so_far = (
         so_far.0 ++ reply ∷ [],
         record {

@@ -44,10 +44,10 @@ loop-at-preserved-in-None c =
     let so_far = l.invariant.so_far in
     let ok = c.in_ok-taken.ensures.ok in
     let text = seen l.self ++ take c.in_ok-taken.taken (take (length piece - l.at) (drop l.at piece)) in
-    let took : Took text [] c.take_some.new.self = subst (λ f. Took text (given f) c.take_some.new.self) c.in-None.is ok.2 in
+    let took : Took text [] c.take_some.new.self = subst (λ f. Took text (given f) c.take_some.new.self) c.in-None.is ok.1 in
     record {
       is_open = took_open text [] c.take_some.new.self took;
-      within = omega (arith, ok.1, l.invariant.within, length-take-le (length piece - l.at) (drop l.at piece), length-drop l.at piece);
+      within = omega (arith, ok.0.1, l.invariant.within, length-take-le (length piece - l.at) (drop l.at piece), length-drop l.at piece);
       so_far = (
         so_far.0,
         so_far.1,
@@ -64,10 +64,10 @@ loop-at-preserved c =
     let ok = c.in_ok-taken.ensures.ok in
     let text = seen l.self ++ take c.in_ok-taken.taken (take (length piece - l.at) (drop l.at piece)) in
     let words = c.in-Some.words in
-    let took : Took text (words ∷ []) c.take_some.new.self = subst (λ f. Took text (given f) c.take_some.new.self) c.in-Some.is ok.2 in
+    let took : Took text (words ∷ []) c.take_some.new.self = subst (λ f. Took text (given f) c.take_some.new.self) c.in-Some.is ok.1 in
     record {
       is_open = took_open text (words ∷ []) c.take_some.new.self took;
-      within = omega (arith, ok.1, l.invariant.within, length-take-le (length piece - l.at) (drop l.at piece), length-drop l.at piece);
+      within = omega (arith, ok.0.1, l.invariant.within, length-take-le (length piece - l.at) (drop l.at piece), length-drop l.at piece);
       so_far = (
         so_far.0 ++ words ∷ [],
         c.in_ok-push-in-Some.ensures.items ∙ ap (λ z. z ++ words ∷ []) so_far.1 ∙ append_assoc c.args.out.now.items so_far.0 (words ∷ []),

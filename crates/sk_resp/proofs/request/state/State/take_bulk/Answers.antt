@@ -12,14 +12,12 @@ returns-in-Ok-clause-ok c =
     let front = header s.count ++ bulks s.words.items in
     let found = rw c.in-Some.is at c.in_ok-front.ensures in (
       found.0,
-      found.1,
-      subst (λ t. Took t (given c.in-Ok.found) c.add_word.new.self) (ap (λ z. front ++ z) (sym found.4) ∙ ap (λ z. z ++ take c.in-Some.taken c.args.input.now) (sym (append-nil front))) c.in-Ok.ensures.ok,
+      subst (λ t. Took t (given c.in-Ok.found) c.add_word.new.self) (ap (λ z. front ++ z) (sym found.2) ∙ ap (λ z. z ++ take c.in-Some.taken c.args.input.now) (sym (append-nil front))) c.in-Ok.ensures.ok,
     )
 
 pub returns-in-Ok-take_mark-clause-ok : goal.returns-in-Ok-take_mark-clause-ok
 returns-in-Ok-take_mark-clause-ok c = (
-  omega arith,
-  omega (arith, c.requires.some),
+  (omega arith, omega (arith, c.requires.some)),
   subst (λ z. Took (seen_at Mark c.args.self.now ++ z) (given c.in-Ok-take_mark.found) c.take_mark.new.self) (sym (first_byte c.args.input.now c.requires.some)) c.in-Ok-take_mark.ensures.ok,
 )
 

@@ -9,15 +9,13 @@ pub returns-then-n-le-MOST_WORDS-clause-ok : goal.returns-then-n-le-MOST_WORDS-c
 returns-then-n-le-MOST_WORDS-clause-ok c =
     let n = c.in-Some.n in
     let input = c.args.input.now in (
-      some_taken c.in-Some.taken input 42 (decimal n ++ 13 ∷ 10 ∷ []) c.in-Some.ensures.2,
-      c.in-Some.ensures.0,
+      (some_taken c.in-Some.taken input 42 (decimal n ++ 13 ∷ 10 ∷ []) c.in-Some.ensures.2, c.in-Some.ensures.0),
       goes c.open_array.ensures.is_open (c.open_array.ensures.seen ∙ header-spelt n ∙ sym c.in-Some.ensures.2) refl,
     )
 
 pub returns-in-Ok-clause-ok : goal.returns-in-Ok-clause-ok
 returns-in-Ok-clause-ok c = (
-  omega arith,
-  omega (arith, c.requires.some),
+  (omega arith, omega (arith, c.requires.some)),
   subst (λ z. Took z (given c.in-Ok.found) c.take_start.new.self) (sym (first_byte c.args.input.now c.requires.some)) c.in-Ok.ensures.ok,
 )
 

@@ -1,5 +1,0 @@
-pub mod Bag
-pub mod Lives
-pub mod Totals
-pub mod WordSet
-pub mod Words

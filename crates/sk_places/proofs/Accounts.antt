@@ -1,0 +1,86 @@
+-- What a push and an end leave of the count of the rows that were pushed.
+use Rattle.std.proofs.Common.{◌≡◌, ℕ, suc, ◌+◌, ◌<◌, ◌≤◌, Bool, true, false, List, [], ◌∷◌, length, Option, Some, None, refl, arith, subst}
+use Rattle.sk_resp.specs.Spelling.{Bytes}
+use Rattle.sk_places.specs.Lives.{IsAccounted, Lived, born, count_job, is_among, job_pushed, lived, one_if, over, was_live, without_jid}
+use Rattle.sk_places.specs.declared.ending.Ending.{Ending}
+use Rattle.sk_places.specs.declared.ending.Ending.TheVariants.{Returned, Discarded, Deleted, Trimmed, Muddled}
+use Rattle.sk_places.specs.declared.origin.Origin.{Origin}
+use Rattle.sk_places.specs.declared.origin.Origin.TheVariants.{Outside, Inner}
+use Rattle.sk_places.specs.declared.totals.Totals.{Totals}
+use Rattle.sk_places.specs.Totals.{accounted, count_end, count_push, last_push, pushes_in}
+use Rattle.sk_resp.specs.WordOrder.{text_cmp}
+use Rattle.std.specs.BTreeSet.{insert_key}
+
+length_with : (word : Bytes) (words : List Bytes) → length (insert_key text_cmp words word) ≤ suc (length words)
+length_with word [] = omega arith
+length_with word (first ∷ words) = grind (arith, length_with word words)
+
+length_without : (word : Bytes) (words : List Bytes) → length (without_jid word words) + one_if (is_among word words) ≡ length words
+length_without word [] = refl
+length_without word (first ∷ words) = grind (arith, length_without word words)
+
+-- ## Totals
+
+pushes_more : (from : Origin) (t : Totals) → pushes_in (count_push from t) ≡ suc (pushes_in t)
+pushes_more Outside t = omega arith
+pushes_more Inner t = omega arith
+
+accounted_same : (from : Origin) (t : Totals) (live : ℕ) → accounted (count_push from t) live ≡ accounted t live
+accounted_same Outside t live = refl
+accounted_same Inner t live = refl
+
+pushes_same : (how : Ending) (n : ℕ) (t : Totals) → pushes_in (count_end how n t) ≡ pushes_in t
+pushes_same Returned n t = refl
+pushes_same Discarded n t = refl
+pushes_same Deleted n t = refl
+pushes_same Trimmed n t = refl
+pushes_same Muddled n t = refl
+
+accounted_more : (how : Ending) (n : ℕ) (t : Totals) (live : ℕ) → accounted (count_end how n t) live ≡ accounted t live + n
+accounted_more Returned n t live = omega arith
+accounted_more Discarded n t live = omega arith
+accounted_more Deleted n t live = omega arith
+accounted_more Trimmed n t live = omega arith
+accounted_more Muddled n t live = omega arith
+
+-- ## A push and an end
+
+job_within : (fresh : Bool) (job : Option Bytes) (live : List Bytes) (t : Totals) → accounted (count_job (λ jid. fresh) job live t) (length (born (λ jid. fresh) job live)) ≤ suc (accounted t (length live))
+job_within fresh None live t = omega arith
+job_within true (Some jid) live t = let l = length_with jid live in omega (arith, l)
+job_within false (Some jid) live t = let l = length_without jid live in omega (arith, l)
+
+job_pushes : (fresh : Bool) (job : Option Bytes) (live : List Bytes) (t : Totals) → pushes_in (count_job (λ jid. fresh) job live t) ≡ pushes_in t
+job_pushes fresh None live t = refl
+job_pushes true (Some jid) live t = refl
+job_pushes false (Some jid) live t = refl
+
+pub pushed_accounted : (from : Origin) (fresh : Bool) (job : Option Bytes) (l : Lived) → IsAccounted l → pushes_in l.totals < last_push → IsAccounted (job_pushed from fresh job l)
+pushed_accounted from fresh job l a h =
+    let t : Totals = count_push from l.totals in
+    let p = job_pushes fresh job l.live t in
+    let m = pushes_more from l.totals in
+    let s = accounted_same from l.totals (length l.live) in
+    let w = job_within fresh job l.live t in
+    record { within = omega (arith, p, m, s, w, a.within); few = omega (arith, p, m, h) }
+
+over_length : (job : Option Bytes) (live : List Bytes) → length (over job live) + one_if (was_live job live) ≡ length live
+over_length None live = omega arith
+over_length (Some jid) live = length_without jid live
+
+pub ended_accounted : (how : Ending) (job : Option Bytes) (l : Lived) → IsAccounted l → IsAccounted (lived (over job l.live) (count_end how (one_if (was_live job l.live)) l.totals))
+ended_accounted how job l a =
+    let n : ℕ = one_if (was_live job l.live) in
+    let live : ℕ = length (over job l.live) in
+    let p = pushes_same how n l.totals in
+    let m = accounted_more how n l.totals live in
+    let o = over_length job l.live in
+    record { within = omega (arith, p, m, o, a.within); few = omega (arith, p, a.few) }
+
+-- a job that is live
+pub live_accounted : (how : Ending) (jid : Bytes) (l : Lived) → is_among jid l.live ≡ true → IsAccounted l → IsAccounted (lived (without_jid jid l.live) (count_end how 1 l.totals))
+live_accounted how jid l live a = subst (λ b. IsAccounted (lived (without_jid jid l.live) (count_end how (one_if b) l.totals))) live (ended_accounted how (Some jid) l a)
+
+-- one that isn't
+pub dead_accounted : (jid : Bytes) (l : Lived) → IsAccounted l → IsAccounted (lived (without_jid jid l.live) l.totals)
+dead_accounted jid l a = let o = length_without jid l.live in record { within = omega (arith, o, a.within); few = a.few }
