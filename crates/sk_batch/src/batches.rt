@@ -67,7 +67,7 @@ impl Batches {
         self.most <= self.batches.len() as u64
     }
 
-    /// The numbers of a batch, where it was made: none is above 2^62. Takes no memory.
+    /// The numbers of a batch, where it was made: none is above 2^60. Takes no memory.
     pub fn stat(&self, bid: &[u8]) -> Option<BatchStat>
         ensures is { result ≡ stat bid.now self.now.stands }
         ensures small { IfSome result IsSmall }

@@ -34,7 +34,7 @@ use sk_undo::{UndoList, UndoMultiset};
 use std::alloc::Global;
 use std::marker::Model;
 
-/// At most 2^62 rows in the order of places, each set by score and then by the texts' bytes. Contracts see the list of the rows: what stands now,
+/// At most 2^60 rows in the order of places, each set by score and then by the texts' bytes. Contracts see the list of the rows: what stands now,
 /// and what stood at the begin of an open step.
 #[derive(Drop)]
 pub struct Rows {

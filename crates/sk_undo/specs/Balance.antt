@@ -3,7 +3,7 @@ use Rattle.std.specs.Prelude.{ℕ, ◌+◌, ◌*◌, ◌≤◌, ◌^◌}
 
 -- the most items that a sequence may have
 abbrev pub most : ℕ
-most = 2 ^ 62
+most = 2 ^ 60
 
 -- No side has more than three times the places of the other, where a side of n items has n + 1 places. An edit may leave a slack of three
 -- until the two are joined again.

@@ -10,7 +10,7 @@ use std::alloc::Global;
 use std::marker::Model;
 use std::mem;
 
-/// A list of at most 2^62 items. Contracts see the list.
+/// A list of at most 2^60 items. Contracts see the list.
 #[cycle(sequence)]
 #[derive(Drop)]
 pub struct Sequence<T> {

@@ -15,9 +15,9 @@ use std::alloc::Global;
 use std::marker::Model;
 
 // The most entries that a list may have.
-const MOST: usize = 1 << 62;
+const MOST: usize = 1 << 60;
 
-/// A list of at most 2^62 entries, each a tag, which may change, and an item. Contracts see what stands, what stood at the begin of an open step,
+/// A list of at most 2^60 entries, each a tag, which may change, and an item. Contracts see what stands, what stood at the begin of an open step,
 /// and how many further edits can't fail.
 #[derive(Drop)]
 pub struct UndoList<K, T> {

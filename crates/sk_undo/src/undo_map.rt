@@ -13,7 +13,7 @@ use crate::{Memory, Query, UndoList};
 use std::alloc::Global;
 use std::marker::Model;
 
-/// A map of at most 2^62 entries in the order of their keys. Contracts see the list of entries that stands, the one that stood at the begin of an open
+/// A map of at most 2^60 entries in the order of their keys. Contracts see the list of entries that stands, the one that stood at the begin of an open
 /// step, and how many further edits can't fail. What is looked up is a key, or any other `Query`: then the first entry whose key matches is meant.
 #[derive(Drop)]
 pub struct UndoMap<K: Ord, V> {

@@ -13,7 +13,7 @@ use crate::{Memory, Query, UndoList};
 use std::alloc::Global;
 use std::marker::Model;
 
-/// At most 2^62 keys in order, each as often as it was put in. Contracts see the list of keys that stands, the one that stood at the begin of an open
+/// At most 2^60 keys in order, each as often as it was put in. Contracts see the list of keys that stands, the one that stood at the begin of an open
 /// step, and how many further edits can't fail.
 #[derive(Drop)]
 pub struct UndoMultiset<K: Ord> {

@@ -13,7 +13,7 @@ use crate::{Memory, Query, UndoMap};
 use std::alloc::Global;
 use std::marker::Model;
 
-/// A set of at most 2^62 keys in order. Contracts see the list of keys that stands, the one that stood at the begin of an open step, and how many
+/// A set of at most 2^60 keys in order. Contracts see the list of keys that stands, the one that stood at the begin of an open step, and how many
 /// further edits can't fail. What is looked up is a key, or any other `Query`: then the first key that matches is meant.
 #[derive(Drop)]
 pub struct UndoSet<K: Ord> {
