@@ -11,7 +11,7 @@ ghost use Rattle.sk_places.specs.Entries.{shifted};
 ghost use Rattle.sk_places.specs.Order.{bytes_of, is_ordered};
 ghost use Rattle.sk_places.specs.Placed.{added, ended_copies, ended_if, ended_job, ended_rows, moved_if, named, placed, pushed_to, with_name, without_if, without_name, without_row};
 ghost use Rattle.sk_lives.specs.Lives.{no_lives};
-ghost use Rattle.sk_lives.specs.Totals.{last_push, pushes_in};
+ghost use Rattle.sk_lives.specs.Totals.{IsCountable, last_outside, last_push, pushes_in};
 ghost use Rattle.sk_lives.specs.declared.ending.Ending.TheVariants.{Deleted, Trimmed};
 ghost use Rattle.sk_places.specs.declared.row.Place.TheVariants.{Set};
 ghost use Rattle.sk_zset.specs.Bounds.{is_below, is_between};
@@ -161,6 +161,7 @@ impl Places {
     pub fn push_count(&self) -> u64
         ensures is { result ≡ pushes_in self.now.stands.lives.totals }
         ensures small { result ≤ last_push }
+        ensures outside { self.now.stands.lives.totals.outside ≤ last_outside }
     {
         self.lives.push_count()
     }
@@ -253,8 +254,8 @@ impl Places {
     }
 
     /// A row is pushed to an end of its place, which in a set is where its score and its text have it. A queue's name comes to `queues`. The row's
-    /// job lives from now on, where it is fresh: no row names it, and it isn't held in a worker's hands. There is no memory for more than 2^63
-    /// pushes.
+    /// job lives from now on, where it is fresh: no row names it, and it isn't held in a worker's hands. Clients push no more than 2^62 rows, and
+    /// with the store's own there are no more than 2^63.
     pub fn push(
         &mut self,
         place: Place,
@@ -264,6 +265,7 @@ impl Places {
         from: Origin,
         held: bool,
     ) -> Result<(), Memory>
+        requires { IsCountable from self.old.stands.lives.totals }
         ensures ok { OnOk result (self.new ≡ edited (pushed_to from held end (record { place = place; score = score; text = payload }) self.old.stands) self.old) }
         ensures err { OnErr result (self.new ≡ self.old) }
     {
