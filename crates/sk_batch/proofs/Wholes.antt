@@ -1,14 +1,15 @@
 -- An edit of the two lists is an edit of the whole.
-use Rattle.std.proofs.Common.{◌≡◌, ℕ, List, Result, Ok, Err, OnOk, refl, ap, ap₂, ◌∙◌}
+use Rattle.std.proofs.Common.{◌≡◌, ◌+◌, ℕ, List, [], ◌∷◌, Bool, true, false, cond, Result, Ok, Err, OnOk, length, refl, ap, ap₂, ◌∙◌, arith}
 use Rattle.sk_resp.specs.Spelling.{Bytes}
 use Rattle.sk_undo.specs.Steps.{Steps, both, edited}
-use Rattle.sk_batch.specs.Batched.{Batched, BatchEntry, MemberEntry, is_job}
+use Rattle.sk_batch.specs.Batched.{Batched, BatchEntry, MemberEntry, has_bid, is_job}
 use Rattle.sk_batch.specs.Events.{fired, marked}
-use Rattle.sk_batch.specs.Fires.{after_fires, retagged}
+use Rattle.sk_batch.specs.Fires.{after_fires, retagged, with_kind}
 use Rattle.sk_batch.specs.Open.{with_mark}
 use Rattle.sk_batch.specs.Others.{of_lists}
 use Rattle.sk_batch.specs.Told.{fires_of, mark_of}
 use Rattle.sk_batch.specs.declared.event.Event.{Event}
+use Rattle.sk_batch.specs.declared.firing.Firing.{Firing}
 use Rattle.sk_batch.specs.declared.event.Event.TheVariants as event
 
 abbrev pub whole : ℕ → Steps (List BatchEntry) → Steps (List MemberEntry) → Steps Batched
@@ -25,3 +26,14 @@ told_whole (Ok x) e bid jid most bs bs' ms ms' v is b m = ap₂ (whole most) b m
   same event.Returned = refl
   same event.Died = refl
 told_whole (Err x) e bid jid most bs bs' ms ms' v is b m = tt
+
+-- ## How many batches there are
+
+length_retagged : {K T : Type 0} (test : K × T → Bool) (f : K → K) (es : List (K × T)) → length (retagged test f es) ≡ length es
+length_retagged test f [] = refl
+length_retagged test f (e ∷ es) = grind (arith, length_retagged test f es)
+
+-- as many as before, whatever is fired of them
+pub length_fired : (fs : List Firing) (bs : List BatchEntry) → length (after_fires fs bs) ≡ length bs
+length_fired [] bs = refl
+length_fired (f ∷ fs) bs = length_fired fs _ ∙ length_retagged (has_bid f.bid) (with_kind f.kind) bs

@@ -1,7 +1,7 @@
 -- What a push and an end leave of the count of the rows that were pushed.
 use Rattle.std.proofs.Common.{◌≡◌, ℕ, suc, ◌+◌, ◌<◌, ◌≤◌, Bool, true, false, List, [], ◌∷◌, length, Option, Some, None, refl, arith, subst}
 use Rattle.sk_resp.specs.Spelling.{Bytes}
-use Rattle.sk_lives.specs.Lives.{IsAccounted, Lived, born, count_job, is_among, job_pushed, lived, one_if, over, was_live}
+use Rattle.sk_lives.specs.Lives.{IsAccounted, Lived, born, count_job, is_among, jid_of, job_pushed, lived, one_if, over, pushed, was_live}
 use Rattle.sk_lives.specs.declared.ending.Ending.{Ending}
 use Rattle.sk_lives.specs.declared.ending.Ending.TheVariants.{Returned, Discarded, Deleted, Trimmed, Muddled}
 use Rattle.sk_lives.specs.declared.origin.Origin.{Origin}
@@ -75,6 +75,13 @@ end_outside Deleted n t = refl
 end_outside Trimmed n t = refl
 end_outside Muddled n t = refl
 
+pub end_inner : (how : Ending) (n : ℕ) (t : Totals) → (count_end how n t).inner ≡ t.inner
+end_inner Returned n t = refl
+end_inner Discarded n t = refl
+end_inner Deleted n t = refl
+end_inner Trimmed n t = refl
+end_inner Muddled n t = refl
+
 pub pushed_accounted : (from : Origin) (fresh : Bool) (job : Option Bytes) (l : Lived) → IsAccounted l → IsCountable from l.totals → IsAccounted (job_pushed from fresh job l)
 pushed_accounted from fresh job l a h =
     let t : Totals = count_push from l.totals in
@@ -86,6 +93,14 @@ pushed_accounted from fresh job l a h =
     let o = push_outside from l.totals h a.outside in
     let j = job_outside fresh job l.live t in
     record { within = omega (arith, p, m, s, w, a.within); few = omega (arith, p, m, f); outside = omega (arith, o, j) }
+
+-- a push is one more, whatever is fresh
+any_pushes : (fresh : Bytes → Bool) (job : Option Bytes) (live : List Bytes) (t : Totals) → pushes_in (count_job fresh job live t) ≡ pushes_in t
+any_pushes fresh None live t = refl
+any_pushes fresh (Some jid) live t = grind arith
+
+pub pushed_count : (from : Origin) (fresh : Bytes → Bool) (text : Bytes) (l : Lived) → pushes_in (pushed from fresh text l).totals ≡ suc (pushes_in l.totals)
+pushed_count from fresh text l = let p = any_pushes fresh (jid_of text) l.live (count_push from l.totals) in let m = pushes_more from l.totals in omega (arith, p, m)
 
 over_length : (job : Option Bytes) (live : List Bytes) → length (over job live) + one_if (was_live job live) ≡ length live
 over_length None live = omega arith

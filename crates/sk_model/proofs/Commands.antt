@@ -55,7 +55,7 @@ use Rattle.sk_model.proofs.Good.{Good, Lawful, lawful_passes, good_nothing, good
 pub push_good : (w : World) (end : Side) (place : Place) (texts : List Bytes) → Good w (pushes end place texts)
 push_good w end place [] = good_nothing w
 push_good w end place (text ∷ texts) = let one = Moves (Add (row_at place text) end Outside) in
-    then_others w one (pushes end place texts) (good_add w (row_at place text) end Outside) (push_good (changed w one) end place texts)
+    then_others w one (pushes end place texts) (good_add w (row_at place text) end) (push_good (changed w one) end place texts)
 
 pub takes_good : (w : World) (n : ℕ) (row : Row) (end : Side) → n ≤ copies_of row w.rows → Good w (takes n row end)
 takes_good w zero row end most = good_nothing w

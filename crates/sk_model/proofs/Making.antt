@@ -1,5 +1,5 @@
 -- A batch is made, or gets jobs. The laws hold over it.
-use Rattle.std.proofs.Common.{◌≡◌, List, [], ◌∷◌, ◌++◌, refl, sym, ap, subst, ◌∙◌, inl, arith, Bool, true, false, cond, not, ◌&&◌, ◌||◌}
+use Rattle.std.proofs.Common.{◌≡◌, List, [], ◌∷◌, ◌++◌, length, refl, sym, ap, subst, ◌∙◌, inl, arith, Bool, true, false, cond, not, ◌&&◌, ◌||◌}
 use Rattle.std.specs.Prelude.{Option, Some, None}
 use Rattle.std.specs.List.{list_any}
 use Rattle.std.specs.Str.{bytes_eq}
@@ -31,6 +31,7 @@ use Rattle.sk_model.proofs.Marked.{Alike, ParentTakes, Sane, Takes, marked_alike
 use Rattle.sk_model.proofs.Fired.{alike_fired, all_quiet, count_named, fire_all_batches, fire_all_times, fired_after, fired_there, job_quiet, named, perform-append, quiet-append, quiet_batches, quiet_times, sane_fired, times-append, was_fired}
 use Rattle.sk_model.proofs.Leads.{Leads, was_completed, leads_same}
 use Rattle.sk_model.proofs.Calls.{AllCalled, calls-append, calls_fired, calls_quiet}
+use Rattle.sk_model.proofs.Covering.{covers_fired, few_append, fires_few, none_dies_once, quiet_calls}
 use Rattle.sk_model.proofs.Keeps.{KeepsJobs, keeps_nothing, keeps_append, keeps_others, keeps_makes, keeps_joins}
 use Rattle.sk_model.proofs.Good.{Lawful, good_nothing, buries-append, has_died}
 use Rattle.sk_model.proofs.Told.{fires_bury, fires_keep, job_buries, job_keeps}
@@ -157,7 +158,7 @@ joined_leads s x jids takes = record {
 
 pub jobs_quiet : (texts : List Bytes) → all_quiet (push_jobs texts) ≡ true
 jobs_quiet [] = refl
-jobs_quiet (text ∷ texts) = quiet-append (push_job Outside text) (push_jobs texts) (job_quiet Outside text) (jobs_quiet texts)
+jobs_quiet (text ∷ texts) = quiet-append (push_job Outside text) (push_jobs texts) (job_quiet text) (jobs_quiet texts)
 
 jobs_bury : (b : Bytes) (w : World) (texts : List Bytes) → buries b w (push_jobs texts) ≡ false
 jobs_bury b w [] = refl
@@ -226,6 +227,8 @@ make_lawful w batch texts new takes =
         died = λ s b. let is = ap (λ (t : Batched). has_died t b) end in let same = died_is w.batches batch jids new takes b in let no = rest_buries w c texts firings b in grind (arith, is, same, no);
       };
       calls = λ s. ((push_jobs texts ++ fire_all firings, refl), rest_calls w c texts firings (made_called w.batches batch jids new takes));
+      covers = covers_fired w _ (changed w c).batches firings end (made_leads w.batches batch jids new takes) refl (λ kind b h. grind (arith, h))
+          (λ b sane. none_dies_once w.batches (changed w c).batches firings b (no_deaths w.batches batch jids new takes b).0) (few_append (push_jobs texts) (fire_all firings) (length firings) (quiet_calls (push_jobs texts) (jobs_quiet texts)) (fires_few firings));
     }
 
 join_lawful : (w : World) (bid : Bytes) (texts : List Bytes) → Takes w.batches bid → Lawful w (join bid texts).changes
@@ -241,6 +244,8 @@ join_lawful w bid texts takes =
         died = λ s b. let is = ap (λ (t : Batched). has_died t b) end in let no = jobs_bury b (changed w c) texts in grind (arith, is, no);
       };
       calls = λ s. ((push_jobs texts, refl), calls_quiet (changed w c) (push_jobs texts) (jobs_quiet texts));
+      covers = covers_fired w _ (changed w c).batches [] end (joined_leads w.batches bid (jids_of texts) takes) refl (λ kind b h. h)
+          (λ b sane. none_dies_once w.batches (changed w c).batches [] b refl) (omega (arith, quiet_calls (push_jobs texts) (jobs_quiet texts)));
     }
 
 -- ## The commands

@@ -40,6 +40,7 @@ use Rattle.sk_model.proofs.Leads.{Leads, StaysWhole, leads_own, leads_same}
 use Rattle.sk_model.proofs.Telling.{fires_are, leads, stays_whole, told_fires}
 use Rattle.sk_model.proofs.Calls.{AllCalled, all_called-append, calls_fired, death_called, line_own, own_called}
 use Rattle.sk_model.proofs.Keeps.{KeepsJobs, keeps_nothing, keeps_append, keeps_others, keeps_add, keeps_fire, keeps_tells}
+use Rattle.sk_model.proofs.Covering.{Covers, DiesOnce, covers_fired, fires_few, none_dies_once}
 use Rattle.sk_model.proofs.Good.{Good, buries-append, good_nothing, has_died}
 
 -- ## A job that is no member
@@ -239,6 +240,10 @@ module _ (e : Event) (w : World) (bid jid : Bytes) where
   told_died : (b : Bytes) → has_died (perform w (tell_in e w jid (Some bid)).changes).batches b ≡ has_died w.batches b || (is_there b w.batches.batches && list_any (named Death b) fs)
   told_died b = ap (λ (t : Batched). has_died t b) told_batches ∙ fired_after Death b fs w.batches.batches
 
+  -- what is pushed is covered by what is fired
+  told_covers : ((b : Bytes) → Sane w.batches → DiesOnce w.batches w.batches fs b) → Covers w (tell_in e w jid (Some bid)).changes
+  told_covers dies = covers_fired w (tell_in e w jid (Some bid)).changes (marked (mark_of e) bid jid w.batches) fs told_batches (leads_told e bid jid w.batches) refl (λ kind b h. h) dies (fires_few fs)
+
 -- what is told but for a burying
 module _ (e : Event) (alive : e ≡ event.Died → ⊥) where
   tell_in_good : (w : World) (jid : Bytes) (o : Option Bytes) → Good w (tell_in e w jid o).changes
@@ -252,6 +257,7 @@ module _ (e : Event) (alive : e ≡ event.Died → ⊥) where
         died = λ s b. let none = none_dies e bid jid w.batches b alive in let is = told_died e w bid jid b in let no = told_buries e w bid jid b in grind (arith, none.1, is, no);
       };
       calls = told_calls e w bid jid;
+      covers = told_covers e w bid jid (λ b sane. none_dies_once w.batches w.batches _ b (none_dies e bid jid w.batches b alive).0);
     };
     stays = told_stays e w bid jid;
   }
@@ -270,11 +276,12 @@ pub record TellsDeath (w : World) (changes : List Change) (dies : Bytes → Bool
   pub stays : StaysWhole w.batches (perform w changes).batches
   pub buries_none : (b : Bytes) → buries b w changes ≡ false
   pub calls : Sane w.batches → CallsFollow w changes
+  pub covers : Covers w changes
   pub once : Sane w.batches → (b : Bytes) → times Death b changes ≡ one_if (dies b && not (has_died w.batches b))
   pub died : Sane w.batches → (b : Bytes) → has_died (perform w changes).batches b ≡ has_died w.batches b || dies b
 
 nothing_dies : (w : World) → TellsDeath w [] (λ b. false)
-nothing_dies w = record { keeps = keeps_nothing w; leads = (good_nothing w).lawful.leads; stays = λ b h. h; buries_none = λ b. refl; calls = λ s. tt; once = λ s b. refl; died = λ s b. grind arith }
+nothing_dies w = record { keeps = keeps_nothing w; leads = (good_nothing w).lawful.leads; stays = λ b h. h; buries_none = λ b. refl; calls = λ s. tt; covers = λ c. c; once = λ s b. refl; died = λ s b. grind arith }
 
 in_dies : (w : World) (jid : Bytes) (o : Option Bytes) → TellsDeath w (tell_in event.Died w jid o).changes (λ b. names_batch b w.batches jid o)
 in_dies w jid None = nothing_dies w
@@ -284,6 +291,10 @@ in_dies w jid (Some bid) = record {
   stays = told_stays event.Died w bid jid;
   buries_none = told_buries event.Died w bid jid;
   calls = told_calls event.Died w bid jid;
+  covers = told_covers event.Died w bid jid (λ b sane.
+      let one = member_dies bid jid w.batches b sane in
+      let there = home_there w.batches.batches w.batches.members bid jid sane.homes in
+      (grind (arith, one.0), λ some. grind (arith, bytes_tell, one.0, some, there)));
   once = λ s b. told_times event.Died w bid jid Death b ∙ (member_dies bid jid w.batches b s).0;
   died = λ s b.
       let one = member_dies bid jid w.batches b s in
