@@ -58,6 +58,7 @@ impl Batches {
         ensures is { result ≡ length self.now.stands.batches }
         ensures few { result < 2 ^ 32 }
     {
+        let _most = self.most; // for its range
         self.batches.len() as u64
     }
 
