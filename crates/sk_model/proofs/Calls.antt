@@ -44,7 +44,7 @@ calls_quiet w (change ∷ changes) q = let f = first_quiet change changes q in
 -- nothing follows a callback
 push_follows : (w : World) (text : Bytes) (found : Option Head) → CallsFollow w (push_to Inner text found)
 push_follows w text None = tt
-push_follows w text (Some h) = ((push_to Inner text (Some h), refl), tt)
+push_follows w text (Some h) = (([], refl), tt)
 
 calls_call : (w : World) (o : Option Bytes) → CallsFollow w (call o)
 calls_call w None = tt

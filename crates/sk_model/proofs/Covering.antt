@@ -49,7 +49,7 @@ callbacks [] = 0
 callbacks (change ∷ changes) = callbacks_in change + callbacks changes
 
 pub callbacks-append : (one more : List Change) → callbacks (one ++ more) ≡ callbacks one + callbacks more
-callbacks-append [] more = refl
+callbacks-append [] more = omega arith
 callbacks-append (change ∷ one) more = omega (arith, callbacks-append one more)
 
 end_inner : (how : Ending) (n : ℕ) (t : Totals) → (count_end how n t).inner ≡ t.inner
@@ -77,33 +77,33 @@ free_inner w (Put ident held) = refl
 free_inner w (Settled ident held end) = end_inner (ending_of end) (one_if (was_live (jid_of held) w.live)) w.tally
 
 move_inner : (w : World) (move : Move) → (moved w move).tally.inner ≡ callbacks_in (Moves move) + w.tally.inner
-move_inner w (Add row end Outside) = push_inner w (jid_of row.text) Outside
+move_inner w (Add row end Outside) = omega (arith, push_inner w (jid_of row.text) Outside)
 move_inner w (Add row end Inner) = omega (arith, push_inner w (jid_of row.text) Inner)
-move_inner w (Free seat) = free_inner w (phase_of w seat)
-move_inner w (Take row from) = refl
-move_inner w (Trim row) = refl
-move_inner w (Carry row from to score end) = refl
-move_inner w (Merge row) = refl
-move_inner w (PutBack row) = refl
-move_inner w (Fire bid kind) = refl
+move_inner w (Free seat) = omega (arith, free_inner w (phase_of w seat))
+move_inner w (Take row from) = omega (arith, end_inner Deleted (one_if (was_live (jid_of row.text) w.live)) w.tally)
+move_inner w (Trim row) = omega (arith, end_inner Trimmed (one_if (was_live (jid_of row.text) w.live)) w.tally)
+move_inner w (Carry row from to score end) = omega arith
+move_inner w (Merge row) = omega arith
+move_inner w (PutBack row) = omega arith
+move_inner w (Fire bid kind) = omega arith
 
 change_inner : (w : World) (change : Change) → (changed w change).tally.inner ≡ callbacks_in change + w.tally.inner
 change_inner w (Moves move) = move_inner w move
-change_inner w (Passes now) = refl
-change_inner w (Names queue) = refl
-change_inner w (Unnames queue) = refl
-change_inner w (Keeps keys) = refl
-change_inner w (Turns seat phase) = refl
-change_inner w (Beats ident) = refl
-change_inner w (Counts name) = refl
-change_inner w (Recovers jid) = refl
-change_inner w (Forgets jid) = refl
-change_inner w (Makes batch jids) = refl
-change_inner w (Joins bid jids) = refl
-change_inner w (Tells event bid jid) = refl
+change_inner w (Passes now) = omega arith
+change_inner w (Names queue) = omega arith
+change_inner w (Unnames queue) = omega arith
+change_inner w (Keeps keys) = omega arith
+change_inner w (Turns seat phase) = omega arith
+change_inner w (Beats ident) = omega arith
+change_inner w (Counts name) = omega arith
+change_inner w (Recovers jid) = omega arith
+change_inner w (Forgets jid) = omega arith
+change_inner w (Makes batch jids) = omega arith
+change_inner w (Joins bid jids) = omega arith
+change_inner w (Tells event bid jid) = omega arith
 
 pub through_inner : (w : World) (changes : List Change) → (perform w changes).tally.inner ≡ callbacks changes + w.tally.inner
-through_inner w [] = refl
+through_inner w [] = omega arith
 through_inner w (change ∷ changes) = omega (arith, through_inner (changed w change) changes, change_inner w change)
 
 quiet_call : (change : Change) → is_quiet change ≡ true → callbacks_in change ≡ 0
@@ -148,10 +148,10 @@ kinds_more Death f new = grind (arith, new)
 
 count_one : (kind : Kind) (b : Bytes) (bs : List BatchEntry) → is_there b bs ≡ true → was_fired kind b bs ≡ false → fired_count (retagged (has_bid b) (with_kind kind) bs) ≡ fired_count bs + 1
 count_one kind b [] there new = absurd (cc there)
-count_one kind b (e ∷ es) there new = cases (has_bid b e) refl where
-  cases : (own : Bool) → has_bid b e ≡ own → fired_count (retagged (has_bid b) (with_kind kind) (e ∷ es)) ≡ fired_count (e ∷ es) + 1
-  cases true own = let more = kinds_more kind e.0 in grind (arith, own, new, more)
-  cases false own = let rest = count_one kind b es in grind (arith, own, there, new, rest)
+count_one kind b (e ∷ es) there new = cases (has_bid b e) refl (count_one kind b es) where
+  cases : (own : Bool) → has_bid b e ≡ own → (is_there b es ≡ true → was_fired kind b es ≡ false → fired_count (retagged (has_bid b) (with_kind kind) es) ≡ fired_count es + 1) → fired_count (retagged (has_bid b) (with_kind kind) (e ∷ es)) ≡ fired_count (e ∷ es) + 1
+  cases true own rest = let more = kinds_more kind e.0 in grind (arith, own, new, more)
+  cases false own rest = grind (arith, own, there, new, rest)
 
 -- all of these batches are there, and each kind is fired once
 abbrev pub AllThere : List BatchEntry → List Firing → Type 0
