@@ -55,7 +55,8 @@ impl Batches {
 
     /// How many batches there are.
     pub fn len(&self) -> u64
-        ensures { result ≡ length self.now.stands.batches }
+        ensures is { result ≡ length self.now.stands.batches }
+        ensures few { result ≤ 2 ^ 60 }
     {
         self.batches.len() as u64
     }
