@@ -1,4 +1,4 @@
-use Rattle.std.proofs.Common.{◌<◌, ◌^◌, length, ◌≡◌, ◌∙◌, ap, arith, refl}
+use Rattle.std.proofs.Common.{◌≤◌, ◌^◌, length, ◌≡◌, ◌∙◌, ap, arith, refl}
 use Rattle.sk_value.specs.Answer.{texts}
 use Rattle.sk_undo.specs.Steps.{edited}
 use Rattle.sk_batch.specs.Events.{made, made_fires}

@@ -1,4 +1,4 @@
-use Rattle.std.proofs.Common.{◌<◌, ◌^◌, length, Some, ap, arith, refl}
+use Rattle.std.proofs.Common.{◌≤◌, ◌^◌, length, Some, ap, arith, refl}
 use Rattle.sk_jobs.specs.Stocked.{at}
 use Rattle.sk_jobs.proofs.Calling.{if_both, told_is}
 use Rattle.sk_jobs.proofs.Covering.{on_if, told_covered, told_fits}
