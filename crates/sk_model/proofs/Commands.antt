@@ -223,7 +223,7 @@ step_covered w seat now c o (inl e) s = subst (λ (u : Outcome). IsCovered (perf
 step_covered w seat now c o (inr (may, e)) s = subst (λ (u : Outcome). IsCovered (perform w u.changes).tally.inner (perform w u.changes).batches) (sym e) ((good_passes w now).lawful.covers s)
 
 pub cut_covered : (w : World) (seat : ℕ) → Covers w (cut seat).changes
-cut_covered w seat s = (good_turn w seat Plain tt).lawful.covers s
+cut_covered w seat s = (good_turn w seat Plain (λ jid all. tt)).lawful.covers s
 
 -- ## Events
 

@@ -21,10 +21,14 @@ use Rattle.sk_places.specs.declared.totals.Totals.{Totals}
 use Rattle.sk_places.specs.Lives.{one_if, was_live}
 use Rattle.sk_places.specs.Totals.{count_end, count_push}
 use Rattle.sk_seats.specs.declared.phase.Phase.{Phase}
-use Rattle.sk_seats.specs.declared.phase.Phase.TheVariants.{Plain, Idle, Held, Put, Settled}
+use Rattle.sk_seats.specs.declared.phase.Phase.TheVariants.{Plain, Joined}
+use Rattle.sk_seats.specs.declared.work.Stage.{Stage}
+use Rattle.sk_seats.specs.declared.work.Stage.TheVariants.{Held, Put, Settled}
+use Rattle.sk_seats.specs.declared.work.Work.{Work}
+use Rattle.sk_seats.specs.Works.{first, is_done_as}
 use Rattle.sk_model.specs.World.{World, phase_of}
 use Rattle.sk_model.specs.Live.{count_job, fresh}
-use Rattle.sk_model.specs.Change.{Add, Carry, Take, Trim, Merge, PutBack, Free, Fire, Move, Change, Moves, Passes, Names, Unnames, Keeps, Turns, Beats, Counts, Recovers, Forgets, Makes, Joins, Tells, changed, ending_of, freed, moved, perform}
+use Rattle.sk_model.specs.Change.{Add, Carry, Take, Trim, Merge, PutBack, Free, Fire, Move, Change, Moves, Passes, Names, Unnames, Keeps, Turns, Beats, Counts, Recovers, Forgets, Makes, Joins, Tells, changed, ending_of, freed, freed_at, freed_work, moved, perform}
 use Rattle.sk_model.specs.Covered.{IsCovered, fired_count, has_kind, kinds_fired, was_fired}
 use Rattle.sk_model.specs.Once.{same_kind, settles}
 use Rattle.sk_model.specs.Told.{call, fire_all, push_to}
@@ -69,17 +73,23 @@ job_inner w (Some jid) t = by_fresh (fresh w jid) refl where
 push_inner : (w : World) (o : Option Bytes) (from : Origin) → (count_job w o (count_push from w.tally)).inner ≡ (count_push from w.tally).inner
 push_inner w o from = job_inner w o (count_push from w.tally)
 
-free_inner : (w : World) (phase : Phase) → (freed w phase).tally.inner ≡ w.tally.inner
-free_inner w Plain = refl
-free_inner w (Idle ident) = refl
-free_inner w (Held ident held) = refl
-free_inner w (Put ident held) = refl
-free_inner w (Settled ident held end) = end_inner (ending_of end) (one_if (was_live (jid_of held) w.live)) w.tally
+at_inner : (w : World) (stage : Stage) (ident held : Bytes) → (freed_at stage ident held w).tally.inner ≡ w.tally.inner
+at_inner w Held ident held = refl
+at_inner w Put ident held = refl
+at_inner w (Settled end) ident held = end_inner (ending_of end) (one_if (was_live (jid_of held) w.live)) w.tally
+
+work_inner : (w : World) (ident : Bytes) (work : Option Work) → (freed_work ident w work).tally.inner ≡ w.tally.inner
+work_inner w ident None = refl
+work_inner w ident (Some work) = at_inner w work.stage ident work.payload
+
+free_inner : (w : World) (text : Bytes) (phase : Phase) → (freed text w phase).tally.inner ≡ w.tally.inner
+free_inner w text Plain = refl
+free_inner w text (Joined ident works) = work_inner w ident (first (is_done_as text) works)
 
 move_inner : (w : World) (move : Move) → (moved w move).tally.inner ≡ callbacks_in (Moves move) + w.tally.inner
 move_inner w (Add row end Outside) = omega (arith, push_inner w (jid_of row.text) Outside)
 move_inner w (Add row end Inner) = omega (arith, push_inner w (jid_of row.text) Inner)
-move_inner w (Free seat) = omega (arith, free_inner w (phase_of w seat))
+move_inner w (Free seat text) = omega (arith, free_inner w text (phase_of w seat))
 move_inner w (Take row from) = omega (arith, end_inner Deleted (one_if (was_live (jid_of row.text) w.live)) w.tally)
 move_inner w (Trim row) = omega (arith, end_inner Trimmed (one_if (was_live (jid_of row.text) w.live)) w.tally)
 move_inner w (Carry row from to score end) = omega arith
