@@ -4,7 +4,7 @@ use Rattle.serde_json.specs.Data.{Data}
 use Rattle.serde_json.specs.Find.{get, as_bool}
 use Rattle.sk_resp.specs.Spelling.{Bytes}
 use Rattle.sk_payload.specs.Json.{value, is_whole, is_short}
-use Rattle.sk_payload.specs.Member.{required, optional, name_of, count_of, args_of, retry_of, generation_of, until_of, lock_of}
+use Rattle.sk_payload.specs.Member.{required, optional, name_of, seconds_of, moment_of, args_of, retry_of, generation_of, first_failed_of, until_of, lock_of}
 use Rattle.sk_payload.specs.declared.head.Head.{Head}
 use Rattle.sk_payload.specs.declared.head.Retry.TheVariants.{Default}
 use Rattle.sk_payload.specs.declared.head.Until.TheVariants.{Success}
@@ -27,12 +27,14 @@ head_of_object d =
     given (optional Default retry_of (get (codes "retry") d)) (λ retry.
     given (optional 0 generation_of (get (codes "retry_count") d)) (λ gen.
     given (optional true as_bool (get (codes "dead") d)) (λ dead.
-    -- milliseconds since 1970, up to the end of the year 9999
-    given (optional 0 (count_of 0 253402300799999) (get (codes "created_at") d)) (λ created.
+    given (optional 0 moment_of (get (codes "created_at") d)) (λ created.
     -- its lock, in seconds
-    given (optional None (λ n. option_map Some (count_of 1 1000000000 n)) (get (codes "unique_for") d)) (λ seconds.
+    given (optional None (λ n. option_map Some (seconds_of n)) (get (codes "unique_for") d)) (λ seconds.
     given (optional Success until_of (get (codes "unique_until") d)) (λ until.
-    Some (record { jid = jid; class = class; queue = queue; args = args; retry = retry; gen_ = gen; bid = bid; lock = lock_of seconds until; dead = dead; created = created }))))))))))))
+    -- for how long it is retried, and since when
+    given (optional None (λ n. option_map Some (seconds_of n)) (get (codes "retry_for") d)) (λ retry_for.
+    given (first_failed_of retry_for (get (codes "failed_at") d)) (λ first_failed.
+    Some (record { jid = jid; class = class; queue = queue; args = args; retry = retry; retry_for = retry_for; gen_ = gen; bid = bid; lock = lock_of seconds until; dead = dead; created = created; first_failed = first_failed }))))))))))))))
 
 -- The head of a value whose numbers are whole and whose text is short.
 unfoldable pub head_of_value : Data → Option Head
