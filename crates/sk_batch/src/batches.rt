@@ -1,6 +1,6 @@
 // Nested batches, as two lists whose edits in an open step can be taken back: the batches, the newest first, and the members of all of them. Each
 // call finds first what is to be done and takes all memory for it; only then does it change anything.
-ghost use Rattle.std.specs.Prelude.{◌≡◌, ◌^◌, ◌≤◌, [], None, Ok, Err, IfErr, IfOk, IfSome, IsSome, MatchOption, OnErr, OnOk, length, option_map};
+ghost use Rattle.std.specs.Prelude.{◌≡◌, ◌<◌, ◌^◌, ◌≤◌, [], None, Ok, Err, IfErr, IfOk, IfSome, IsSome, MatchOption, OnErr, OnOk, length, option_map};
 ghost use Rattle.std.specs.Result.{result_err};
 ghost use Rattle.sk_batch.specs.Events.{died, died_fires, joined, made, made_fires, reported, reported_fires, returned, returned_fires};
 ghost use Rattle.sk_batch.specs.Faults.{add_fault, batch_fault, bid_fault, is_full, jids_fault, make_fault};
@@ -23,7 +23,7 @@ use std::marker::Model;
 /// stood at the begin of an open step.
 #[derive(Drop)]
 pub struct Batches {
-    most: u64,
+    most: u32,
     batches: UndoList<Fired, Batch>,
     members: UndoList<Marks, Member>,
 }
@@ -43,7 +43,7 @@ impl Model for Batches {
 
 impl Batches {
     /// No batches, and at most so many later. Takes no memory.
-    pub fn new(alloc: Global, most: u64) -> Batches
+    pub fn new(alloc: Global, most: u32) -> Batches
         ensures { result ≡ closed (record { most = most; batches = []; members = [] }) }
     {
         Batches {
@@ -55,8 +55,10 @@ impl Batches {
 
     /// How many batches there are.
     pub fn len(&self) -> u64
-        ensures { result ≡ length self.now.stands.batches }
+        ensures is { result ≡ length self.now.stands.batches }
+        ensures few { result < 2 ^ 32 }
     {
+        let _most = self.most; // for its range
         self.batches.len() as u64
     }
 
@@ -64,7 +66,7 @@ impl Batches {
     pub fn is_full(&self) -> bool
         ensures { result ≡ is_full self.now.stands }
     {
-        self.most <= self.batches.len() as u64
+        self.most as usize <= self.batches.len()
     }
 
     /// The numbers of a batch, where it was made: none is above 2^62. Takes no memory.
@@ -122,7 +124,7 @@ impl Batches {
     }
 
     /// Makes a batch with its first jobs, and answers what is fired: where there are none, its complete and its success.
-    #[tactic(auto, using(crate::proofs::Order::ordered_put_all))]
+    #[tactic(auto, using(crate::proofs::Order::ordered_put_all, crate::proofs::Wholes::length_fired))]
     pub fn make(
         &mut self,
         alloc: Global,
@@ -142,7 +144,7 @@ impl Batches {
     }
 
     /// Adds jobs to a batch.
-    #[tactic(auto, using(crate::proofs::Order::ordered_put_all))]
+    #[tactic(auto, using(crate::proofs::Order::ordered_put_all, crate::proofs::Wholes::length_fired))]
     pub fn add(&mut self, alloc: Global, bid: &[u8], jids: Vec<Word>) -> Result<(), BatchFault>
         ensures fault { MatchOption (add_fault bid.now jids.items self.old.stands) (IfErr result (λ e. e ≡ fault.Memory)) (λ f. result ≡ Err f) }
         ensures ok { OnOk result (self.new ≡ edited (joined bid.now jids.items self.old.stands) self.old) }
@@ -156,7 +158,7 @@ impl Batches {
     }
 
     /// A run of a job of the batch has ended badly. Answers what is fired. A job that is no member of this batch leaves all as it is.
-    #[tactic(auto, using(crate::proofs::Order::ordered_retagged))]
+    #[tactic(auto, using(crate::proofs::Order::ordered_retagged, crate::proofs::Wholes::length_fired))]
     pub fn reported(&mut self, alloc: Global, bid: &[u8], jid: &[u8]) -> Result<Vec<Firing>, Memory>
         ensures fires { IfOk result (λ firings. firings.items ≡ reported_fires bid.now jid.now self.old.stands) }
         ensures ok { OnOk result (self.new ≡ edited (reported bid.now jid.now self.old.stands) self.old) }
@@ -174,7 +176,7 @@ impl Batches {
 
     /// A run of a job of the batch has ended well; the job is reported too. Answers what is fired. A job that is no member of this batch
     /// leaves all as it is.
-    #[tactic(auto, using(crate::proofs::Order::ordered_retagged))]
+    #[tactic(auto, using(crate::proofs::Order::ordered_retagged, crate::proofs::Wholes::length_fired))]
     pub fn returned(&mut self, alloc: Global, bid: &[u8], jid: &[u8]) -> Result<Vec<Firing>, Memory>
         ensures fires { IfOk result (λ firings. firings.items ≡ returned_fires bid.now jid.now self.old.stands) }
         ensures ok { OnOk result (self.new ≡ edited (returned bid.now jid.now self.old.stands) self.old) }
@@ -191,7 +193,7 @@ impl Batches {
     }
 
     /// A job of the batch was buried; it is reported too. Answers what is fired. A job that is no member of this batch leaves all as it is.
-    #[tactic(auto, using(crate::proofs::Order::ordered_retagged))]
+    #[tactic(auto, using(crate::proofs::Order::ordered_retagged, crate::proofs::Wholes::length_fired))]
     pub fn died(&mut self, alloc: Global, bid: &[u8], jid: &[u8]) -> Result<Vec<Firing>, Memory>
         ensures fires { IfOk result (λ firings. firings.items ≡ died_fires bid.now jid.now self.old.stands) }
         ensures ok { OnOk result (self.new ≡ edited (died bid.now jid.now self.old.stands) self.old) }

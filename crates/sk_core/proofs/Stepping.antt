@@ -19,16 +19,21 @@ use Rattle.sk_key.specs.declared.key_class.KeyClass.{KeyClass}
 use Rattle.sk_key.specs.declared.key_class.KeyClass.TheVariants as class
 use Rattle.sk_seats.specs.declared.phase.Phase.{Phase}
 use Rattle.sk_seats.specs.declared.phase.Phase.TheVariants.{Plain, Idle, Held, Put, Settled}
-use Rattle.sk_model.specs.Change.{Passes, passed, changed}
+use Rattle.sk_model.specs.Change.{Passes, passed, changed, perform}
 use Rattle.sk_key.specs.Class.{class_of, ident_of, is_private, private_key}
-use Rattle.sk_model.specs.Life.{IsSound}
+use Rattle.sk_model.specs.Covered.{IsCovered}
+use Rattle.sk_model.specs.declared.limits.Limits.{Limits}
 use Rattle.sk_model.specs.Outcome.{Comes, Outcome, tells}
 use Rattle.sk_model.specs.Seats.{is_release, is_workers, releases, works_on}
 use Rattle.sk_model.specs.Step.{Steps, act, at_moment, by_seat, is_script_built, run, script_outcome}
 use Rattle.sk_model.specs.Workers.{work}
-use Rattle.sk_model.specs.World.{World, phase_of}
-use Rattle.sk_model.proofs.Commands.{step_sound}
+use Rattle.sk_model.specs.World.{World, first, phase_of}
+use Rattle.sk_model.specs.Step.{cut}
+use Rattle.sk_model.proofs.Commands.{cut_covered, cut_sound, step_covered, step_sound}
 use Rattle.sk_model.proofs.Coming.{if_ok}
+use Rattle.sk_model.proofs.Covering.{covered_none}
+use Rattle.sk_model.proofs.Runs.{sound_first}
+use Rattle.sk_core.specs.Whole.{KeepsLaws}
 
 -- ## Every action
 
@@ -102,8 +107,15 @@ script_comes w mid new seat now c reply e f comes =
 pub plain_comes : (w mid new : World) (seat now : ℕ) (c : PlainCommand) (reply : Reply) → mid ≡ passed now w → Comes mid (by_seat mid seat (phase_of mid seat) c) reply new → Comes w (at_moment now (by_seat (passed now w) seat (phase_of w seat) c)) reply new
 plain_comes w mid new seat now c reply f comes = at_passed w new now (by_seat (passed now w) seat (phase_of w seat) c) reply (subst (λ m. Comes m (by_seat m seat (phase_of m seat) c) reply new) f comes)
 
--- ## A sound world
+-- ## The laws are kept
 
--- A step leaves a sound world sound.
-pub steps_sound : (w new : World) (seat now : ℕ) (c : Command) (reply : Reply) → (o : Outcome) × Steps w seat now c o × Comes w o reply new → IsSound w → IsSound new
-steps_sound w new seat now c reply (o, is, comes) s = subst IsSound (sym comes.new_is) (step_sound w seat now c o is s)
+pub laws_first : (limits : Limits) → KeepsLaws (first limits)
+laws_first limits = record { sound = sound_first limits; covered = covered_none limits.batches }
+
+-- so they are by every step
+pub steps_keep : (w new : World) (seat now : ℕ) (c : Command) (reply : Reply) → (o : Outcome) × Steps w seat now c o × Comes w o reply new → KeepsLaws w → KeepsLaws new
+steps_keep w new seat now c reply (o, is, comes) k = subst KeepsLaws (sym comes.new_is) (record { sound = step_sound w seat now c o is k.sound; covered = step_covered w seat now c o is k.covered })
+
+-- and by a cut
+pub cut_keeps : (w new : World) (seat : ℕ) → new ≡ perform w (cut seat).changes → KeepsLaws w → KeepsLaws new
+cut_keeps w new seat is k = subst KeepsLaws (sym is) (record { sound = cut_sound w seat k.sound; covered = cut_covered w seat k.covered })

@@ -1,6 +1,8 @@
 -- What the parts of the store hold, as a world.
 use Rattle.std.specs.Prelude.{◌≤◌}
 use Rattle.sk_base.specs.Score.{last_moment}
+use Rattle.sk_model.specs.Covered.{IsCovered}
+use Rattle.sk_model.specs.Life.{IsSound}
 use Rattle.sk_model.specs.World.{World}
 use Rattle.sk_jobs.specs.Stocked.{IsClosed}
 use Rattle.sk_core.specs.declared.parts.Parts.TheInside.{Inside}
@@ -24,3 +26,8 @@ world_in parts = record {
 pub record IsKept (parts : Inside) : Type 0 where
   pub closed : IsClosed parts.stock
   pub early : parts.moment ≤ last_moment
+
+-- Each live job is kept, each pushed row is accounted for, and the callbacks that were pushed are no more than were fired.
+pub record KeepsLaws (w : World) : Type 0 where
+  pub sound : IsSound w
+  pub covered : IsCovered w.tally.inner w.batches

@@ -5,6 +5,7 @@ ghost use Rattle.sk_cmd.specs.ReadOnly.{only_reads};
 ghost use Rattle.sk_cmd.specs.declared.command.PlainCommand.{PlainCommand};
 ghost use Rattle.sk_value.specs.Action.{action_of};
 ghost use Rattle.sk_model.specs.Change.{passed, perform};
+ghost use Rattle.sk_model.specs.Covered.{IsCovered};
 ghost use Rattle.sk_model.specs.Outcome.{Comes, Outcome};
 ghost use Rattle.sk_model.specs.Seats.{releases};
 ghost use Rattle.sk_model.specs.Status.{numbers};
@@ -152,6 +153,7 @@ impl Parts {
 
     // Does what a script does. Where memory runs out nothing has changed.
     fn run(&mut self, seat: u32, script: ScriptCommand) -> Result<Reply, Memory>
+        requires { IsCovered self.old.tally.inner self.old.batches }
         ensures ok { IfOk result (λ reply. Comes self.old (run self.old seat (phase_of self.old seat) script) reply self.new) }
         ensures err { OnErr result (self.new ≡ self.old) }
     {
@@ -220,6 +222,7 @@ impl Parts {
 
     // Does it at a moment, where it is built.
     fn step_script(&mut self, seat: u32, now: u64, script: ScriptCommand) -> Reply
+        requires { IsCovered self.old.tally.inner self.old.batches }
         ensures { (o : Outcome) × ((o ≡ script_outcome self.old seat now script) ⊎ (o ≡ starves now)) × Comes self.old o result self.new }
     {
         if !is_script_built(&script) {
@@ -234,6 +237,7 @@ impl Parts {
 
     /// Does a command that a seat hands in at a moment, in milliseconds since 1970. Where memory runs out time alone has gone on.
     pub fn step(&mut self, seat: u32, now: u64, command: Command) -> Reply
+        requires { IsCovered self.old.tally.inner self.old.batches }
         ensures { (o : Outcome) × Steps self.old seat now command o × Comes self.old o result self.new }
     {
         match command {

@@ -29,14 +29,14 @@ impl Model for Core {
 
     ghost view = { λ core. core.parts };
 
-    ghost use Rattle.sk_model.specs.Life.{IsSound};
+    ghost use Rattle.sk_core.specs.Whole.{KeepsLaws};
 
-    ghost invariant = { λ core. IsSound core.parts };
+    ghost invariant = { λ core. KeepsLaws core.parts };
 }
 
 impl Core {
     /// An empty store with these limits, at moment 0. Takes no memory.
-    #[tactic(auto, using(sk_model::proofs::Runs::sound_first))]
+    #[tactic(auto, using(crate::proofs::Stepping::laws_first))]
     pub fn new(alloc: Global, limits: Limits) -> Core
         ensures { result ≡ first limits }
     {

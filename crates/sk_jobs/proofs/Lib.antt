@@ -3,6 +3,7 @@ pub mod Beating
 pub mod Burying
 pub mod Calling
 pub mod Counting
+pub mod Covering
 pub mod Fronts
 pub mod Passing
 pub mod Rescuing

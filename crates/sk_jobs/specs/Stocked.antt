@@ -2,6 +2,7 @@
 use Rattle.std.specs.Prelude.{◌≡◌, ℕ, None, IsSome}
 use Rattle.sk_undo.specs.Steps.{begun, committed, undone}
 use Rattle.sk_seats.specs.Phases.{Phases}
+use Rattle.sk_model.specs.Covered.{IsCovered}
 use Rattle.sk_model.specs.World.{World}
 use Rattle.sk_jobs.specs.declared.stock.Stock.{Stock}
 
@@ -18,6 +19,10 @@ at w moment s phases = record w {
   counters = s.counters.stands;
   phases = phases;
 }
+
+-- the callbacks that were pushed are no more than were fired of the batches
+abbrev pub AreCovered : Stock → Type 0
+AreCovered s = IsCovered s.places.stands.lives.totals.inner s.batches.stands
 
 -- no step is open
 pub record IsClosed (s : Stock) : Type 0 where

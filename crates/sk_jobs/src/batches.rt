@@ -1,6 +1,6 @@
 // SK.BPUSH bid parent complete success death [payload ..], SK.BADD bid payload .., SK.BSTAT bid: batches of jobs (Sidekiq's wiki, "Batches"). A
 // batch and its jobs come in one step, whole or not at all.
-ghost use Rattle.std.specs.Prelude.{◌≡◌, ◌&&◌, ℕ, IfOk, OnErr, OnOk, None, cond, not};
+ghost use Rattle.std.specs.Prelude.{◌≡◌, ◌&&◌, ℕ, IfOk, OnErr, OnOk, None, cond, false, length, not};
 ghost use Rattle.std.specs.Result.{result_err};
 ghost use Rattle.sk_payload.specs.Head.{head as head_of};
 ghost use Rattle.sk_payload.specs.Member.{is_name};
@@ -12,13 +12,13 @@ ghost use Rattle.sk_model.specs.Batches.{all_may_join, are_callbacks, batch_add,
 ghost use Rattle.sk_model.specs.Change.{perform};
 ghost use Rattle.sk_model.specs.Outcome.{Comes, Outcome, refuses};
 ghost use Rattle.sk_seats.specs.Phases.{Phases};
-ghost use Rattle.sk_model.specs.Room.{is_too_much, with_pushed};
+ghost use Rattle.sk_model.specs.Room.{HasRoom, is_too_much, with_pushed};
 ghost use Rattle.sk_model.specs.World.{World};
 ghost use Rattle.sk_undo.specs.Steps.{edited};
 ghost use Rattle.sk_value.specs.Answer.{counted};
 ghost use Rattle.sk_jobs.specs.Batching.{limited, unless_told};
 ghost use Rattle.sk_jobs.specs.Seated.{with_seats};
-ghost use Rattle.sk_jobs.specs.Stocked.{IsClosed, KeepsStep, at};
+ghost use Rattle.sk_jobs.specs.Stocked.{AreCovered, IsClosed, KeepsStep, at};
 
 use crate::calls::{call_all, push_job};
 use crate::stock::Stock;
@@ -171,7 +171,8 @@ impl Jobs {
 
     // They are more than the store takes.
     fn are_too_much(&self, limits: &Limits, places: &Places) -> bool
-        ensures { (w : World) (phases : Phases) → result ≡ is_too_much (with_pushed w limits.now phases places.now.stands) self.now }
+        ensures is { (w : World) (phases : Phases) → result ≡ is_too_much (with_pushed w limits.now phases places.now.stands) self.now }
+        ensures room { result ≡ false → HasRoom (length self.now) places.now.stands.lives.totals }
     {
         let count = self.payloads.len();
         count > 0 && is_full(limits, places, count, self.bytes)
@@ -294,6 +295,7 @@ fn check_new(batches: &Batches, bid: &[u8], jids: &[Word]) -> Result<(), BatchFa
 fn check_push(limits: &Limits, stock: &Stock, batch: &Batch, jobs: &Jobs) -> Result<(), Say>
     ensures told { (w : World) (moment : ℕ) (phases : Phases) → batch_push (limited limits.now (at w moment stock.now phases)) batch.now jobs.now ≡ unless_told result (make batch.now jobs.now) }
     ensures kept { OnOk result (make_fault batch.now.bid batch.now.parent (jids_of jobs.now) stock.now.batches.stands ≡ None) }
+    ensures room { OnOk result (HasRoom (length jobs.now) stock.now.places.stands.lives.totals) }
 {
     let bid = batch.bid.bytes();
     check(is_bid(bid), Refusal::NoBatch)?;
@@ -307,6 +309,7 @@ fn check_push(limits: &Limits, stock: &Stock, batch: &Batch, jobs: &Jobs) -> Res
 fn check_add(limits: &Limits, stock: &Stock, bid: &[u8], jobs: &Jobs) -> Result<(), Say>
     ensures told { (w : World) (moment : ℕ) (phases : Phases) → batch_add (limited limits.now (at w moment stock.now phases)) bid.now jobs.now ≡ unless_told result (join bid.now jobs.now) }
     ensures kept { OnOk result (add_fault bid.now (jids_of jobs.now) stock.now.batches.stands ≡ None) }
+    ensures room { OnOk result (HasRoom (length jobs.now) stock.now.places.stands.lives.totals) }
 {
     told(stock.batches.check_batch(bid))?;
     check(jobs.may_join(bid), Refusal::BadPayload)?;
@@ -318,6 +321,7 @@ fn check_add(limits: &Limits, stock: &Stock, bid: &[u8], jobs: &Jobs) -> Result<
 
 // The jobs are pushed, one after another, each at the left end of the queue that its head names.
 fn push_jobs(seats: &Seats, places: &mut Places, payloads: Vec<Payload>) -> Result<(), Memory>
+    requires { HasRoom (length payloads.items) places.old.stands.lives.totals }
     ensures ok { OnOk result ((w : World) → with_seats w places.new.stands seats.now ≡ perform (with_seats w places.old.stands seats.now) (push_jobs payloads.items)) }
     ensures step { places.new.stood ≡ places.old.stood }
 {
@@ -367,12 +371,16 @@ fn make_open(
     batch: Batch,
     jobs: Jobs,
 ) -> Result<Reply, Memory>
-    requires { make_fault batch.bid batch.parent (jids_of jobs) stock.old.batches.stands ≡ None }
+    requires clear { make_fault batch.bid batch.parent (jids_of jobs) stock.old.batches.stands ≡ None }
+    requires room { HasRoom (length jobs) stock.old.places.stands.lives.totals }
+    requires covered { AreCovered stock.old }
     ensures ok { IfOk result (λ reply. (w : World) (moment : ℕ) → Comes (at w moment stock.old seats.now) (make batch jobs) reply (at w moment stock.new seats.now)) }
     ensures step { KeepsStep stock.old stock.new }
 {
     let firings = make_batch(alloc, &mut stock.batches, batch, jobs.jids)?;
+    let _batches = stock.batches.len(); // for what it says of their number
     push_jobs(seats, &mut stock.places, jobs.payloads)?;
+    let _pushes = stock.places.push_count(); // and this of the clients' pushes
     let fired = call_all(alloc, seats, &mut stock.places, firings)?;
     as_reply(alloc, fired)
 }
@@ -385,7 +393,8 @@ fn join_open(
     bid: &[u8],
     jobs: Jobs,
 ) -> Result<Reply, Memory>
-    requires { add_fault bid.now (jids_of jobs) stock.old.batches.stands ≡ None }
+    requires clear { add_fault bid.now (jids_of jobs) stock.old.batches.stands ≡ None }
+    requires room { HasRoom (length jobs) stock.old.places.stands.lives.totals }
     ensures ok { IfOk result (λ reply. (w : World) (moment : ℕ) → Comes (at w moment stock.old seats.now) (join bid.now jobs) reply (at w moment stock.new seats.now)) }
     ensures step { KeepsStep stock.old stock.new }
 {
@@ -413,7 +422,8 @@ pub fn push_batch(
     stock: &mut Stock,
     words: BatchWords,
 ) -> Result<Reply, Memory>
-    requires { IsClosed stock.old }
+    requires closed { IsClosed stock.old }
+    requires covered { AreCovered stock.old }
     ensures ok { IfOk result (λ reply. (w : World) (moment : ℕ) → Comes (limited limits.now (at w moment stock.old seats.now)) (batch_push (limited limits.now (at w moment stock.old seats.now)) (batch_of words.bid words.parent words.complete words.success words.death) words.texts) reply (limited limits.now (at w moment stock.new seats.now))) }
     ensures closed { IsClosed stock.new }
     ensures err { OnErr result (stock.new ≡ stock.old) }

@@ -10,7 +10,7 @@ ghost use Rattle.sk_model.specs.Seats.{where_held};
 ghost use Rattle.sk_model.specs.Workers.{bury, bury_text, may_bury};
 ghost use Rattle.sk_model.specs.World.{World};
 ghost use Rattle.sk_jobs.specs.Calls.{Alike};
-ghost use Rattle.sk_jobs.specs.Stocked.{IsClosed, KeepsStep, at};
+ghost use Rattle.sk_jobs.specs.Stocked.{AreCovered, IsClosed, KeepsStep, at};
 
 use crate::calls::member_of;
 use crate::dead::bury_put;
@@ -51,7 +51,8 @@ fn bury_payload(
     stock: &mut Stock,
     payload: Payload,
 ) -> Result<Reply, Memory>
-    requires { moment ≤ last_moment }
+    requires early { moment ≤ last_moment }
+    requires covered { AreCovered stock.old }
     ensures ok { IfOk result (λ reply. (w : World) (phases : Phases) (seat : ℕ) (ident held : Bytes) → Alike (turned seat (Phase.Put ident held) phases) seats.now → Comes (at w moment stock.old phases) (reports (bury_text (at w moment stock.old phases) seat ident held payload)) reply (at w moment stock.new (turned seat (Phase.Put ident held) phases))) }
     ensures step { KeepsStep stock.old stock.new }
 {
@@ -78,6 +79,7 @@ pub fn bury(
 ) -> Result<Reply, Memory>
     requires early { moment ≤ last_moment }
     requires closed { IsClosed stock.old }
+    requires covered { AreCovered stock.old }
     ensures ok { IfOk result (λ reply. (w : World) → Comes (at w moment stock.old seats.old) (bury (at w moment stock.old seats.old) seat (phase_in seats.old seat) text) reply (at w moment stock.new seats.new)) }
     ensures closed { IsClosed stock.new }
     ensures err { OnErr result ((stock.new ≡ stock.old) × (seats.new ≡ seats.old)) }

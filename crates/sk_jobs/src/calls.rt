@@ -1,7 +1,9 @@
 // What batches are told of jobs, and the callbacks that are pushed then (Sidekiq's wiki, "Batches").
-ghost use Rattle.std.specs.Prelude.{◌≡◌, ◌∷◌, ◌++◌, [], ℕ, Bool, IfOk, OnErr, OnOk, Some};
+ghost use Rattle.std.specs.Prelude.{◌≡◌, ◌≤◌, ◌+◌, ◌∷◌, ◌++◌, [], ℕ, Bool, IfOk, OnErr, OnOk, Some, length};
 ghost use Rattle.sk_resp.specs.Spelling.{Bytes};
 ghost use Rattle.sk_undo.specs.Steps.{edited};
+ghost use Rattle.sk_lives.specs.Totals.{IsCountable, last_push, pushes_in};
+ghost use Rattle.sk_lives.specs.declared.origin.Origin.TheVariants.{Inner};
 ghost use Rattle.sk_batch.specs.Events.{fired as marked_fired, marked};
 ghost use Rattle.sk_batch.specs.Told.{fires_of, mark_of};
 ghost use Rattle.sk_model.specs.Change.{perform};
@@ -12,7 +14,7 @@ ghost use Rattle.sk_jobs.specs.Calls.{Alike, IsTold, calls, member_of};
 ghost use Rattle.sk_places.specs.declared.row.Place.{Place};
 ghost use Rattle.sk_jobs.specs.Seated.{with_seats};
 ghost use Rattle.sk_jobs.specs.Sending.{IsAside, rows_in};
-ghost use Rattle.sk_jobs.specs.Stocked.{KeepsStep, at};
+ghost use Rattle.sk_jobs.specs.Stocked.{AreCovered, KeepsStep, at};
 
 use crate::stock::Stock;
 use sk_base::Score;
@@ -32,8 +34,10 @@ pub fn push_job(
     payload: Payload,
     from: Origin,
 ) -> Result<(), Memory>
+    requires { IsCountable from places.old.stands.lives.totals }
     ensures ok { OnOk result ((w : World) (phases : Phases) → Alike phases seats.now → with_seats w places.new.stands phases ≡ perform (with_seats w places.old.stands phases) (push_job from payload)) }
     ensures aside { OnOk result ((test : Place → Bool) → IsAside test → rows_in test places.new.stands.rows ≡ rows_in test places.old.stands.rows) }
+    ensures few { OnOk result (pushes_in places.new.stands.lives.totals ≤ pushes_in places.old.stands.lives.totals + 1) }
     ensures step { places.new.stood ≡ places.old.stood }
 {
     let Some(head) = payload.head() else {
@@ -64,9 +68,11 @@ fn call(
     fired: &mut Vec<Word>,
     firing: Firing,
 ) -> Result<(), Memory>
+    requires { IsCountable Inner places.old.stands.lives.totals }
     ensures ok { OnOk result ((w : World) (phases : Phases) → Alike phases seats.now → with_seats w places.new.stands phases ≡ perform (with_seats w places.old.stands phases) (call firing.payload)) }
     ensures texts { OnOk result (fired.new.items ≡ fired.old.items ++ firing.bid ∷ kind_text firing.kind ∷ []) }
     ensures aside { OnOk result ((test : Place → Bool) → IsAside test → rows_in test places.new.stands.rows ≡ rows_in test places.old.stands.rows) }
+    ensures few { OnOk result (pushes_in places.new.stands.lives.totals ≤ pushes_in places.old.stands.lives.totals + 1) }
     ensures step { places.new.stood ≡ places.old.stood }
 {
     fired.push(firing.bid)?;
@@ -84,6 +90,7 @@ pub fn call_all(
     places: &mut Places,
     firings: Vec<Firing>,
 ) -> Result<Vec<Word>, Memory>
+    requires { pushes_in places.old.stands.lives.totals + length firings.items ≤ last_push }
     ensures ok { OnOk result ((w : World) (phases : Phases) → Alike phases seats.now → with_seats w places.new.stands phases ≡ perform (with_seats w places.old.stands phases) (calls firings.items)) }
     ensures texts { IfOk result (λ fired. fired.items ≡ fired_texts firings.items) }
     ensures aside { OnOk result ((test : Place → Bool) → IsAside test → rows_in test places.new.stands.rows ≡ rows_in test places.old.stands.rows) }
@@ -123,11 +130,15 @@ fn tell_batch(
     event: Event,
     member: &Member,
 ) -> Result<Vec<Word>, Memory>
+    requires { AreCovered stock.old }
     ensures ok { IfOk result (λ fired. (w : World) (moment : ℕ) (phases : Phases) → Alike phases seats.now → IsTold (at w moment stock.old phases) (at w moment stock.new phases) fired.items (tell_in event (at w moment stock.old phases) member.now.jid (Some member.now.bid))) }
     ensures aside { OnOk result ((test : Place → Bool) → IsAside test → rows_in test stock.new.places.stands.rows ≡ rows_in test stock.old.places.stands.rows) }
+    ensures covered { OnOk result (AreCovered stock.new) }
     ensures step { KeepsStep stock.old stock.new }
 {
     let firings = fire(alloc, &mut stock.batches, event, member)?;
+    let _batches = stock.batches.len(); // for what it says of their number
+    let _pushes = stock.places.push_count(); // and this of the clients' pushes
     call_all(alloc, seats, &mut stock.places, firings)
 }
 
@@ -140,8 +151,10 @@ pub fn tell(
     event: Event,
     member: Option<Member>,
 ) -> Result<Vec<Word>, Memory>
+    requires { AreCovered stock.old }
     ensures ok { IfOk result (λ fired. (w : World) (moment : ℕ) (phases : Phases) (text : Bytes) → member ≡ member_of text → Alike phases seats.now → IsTold (at w moment stock.old phases) (at w moment stock.new phases) fired.items (tell event (at w moment stock.old phases) text)) }
     ensures aside { OnOk result ((test : Place → Bool) → IsAside test → rows_in test stock.new.places.stands.rows ≡ rows_in test stock.old.places.stands.rows) }
+    ensures covered { OnOk result (AreCovered stock.new) }
     ensures step { KeepsStep stock.old stock.new }
 {
     match member {

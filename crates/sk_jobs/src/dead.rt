@@ -17,7 +17,7 @@ ghost use Rattle.sk_seats.specs.Phases.{Phases};
 ghost use Rattle.sk_model.specs.World.{World};
 ghost use Rattle.sk_jobs.specs.Calls.{Alike, member_of};
 ghost use Rattle.sk_jobs.specs.Sending.{IsAside, IsSent, rows_in, with_moment};
-ghost use Rattle.sk_jobs.specs.Stocked.{KeepsStep, at};
+ghost use Rattle.sk_jobs.specs.Stocked.{AreCovered, KeepsStep, at};
 
 use crate::calls::tell;
 use crate::report::Report;
@@ -98,6 +98,7 @@ fn put_dead(places: &mut Places, moment: u64, from: &Place, text: &Word) -> Resu
     requires alive { is_eq (place_cmp (Set Dead) from.now) ≡ false }
     ensures ok { OnOk result ((w : World) (row : Row) → row_of text.now (rows_at from.now places.old.stands.rows) ≡ Some row → with_moment w moment places.new.stands ≡ perform (with_moment w moment places.old.stands) (put_dead (with_moment w moment places.old.stands) row)) }
     ensures left { OnOk result ((test : Place → Bool) (row : Row) (more : List Row) → IsAside test → row_of text.now (rows_at from.now places.old.stands.rows) ≡ Some row → rows_in test places.old.stands.rows ≡ row ∷ more → rows_in test places.new.stands.rows ≡ more) }
+    ensures lives { OnOk result (places.new.stands.lives ≡ places.old.stands.lives) }
     ensures step { places.new.stood ≡ places.old.stood }
 {
     let dead = Place::Set(Scored::Dead);
@@ -115,10 +116,12 @@ pub fn bury_put(
     stock: &mut Stock,
     member: Option<Member>,
 ) -> Result<Report, Memory>
-    requires { moment ≤ last_moment }
+    requires early { moment ≤ last_moment }
+    requires covered { AreCovered stock.old }
     ensures ok { IfOk result (λ report. (w v : World) (phases : Phases) (put : List Change) (text : Bytes) → member ≡ member_of text → Alike phases seats.now → at w moment stock.old phases ≡ perform v put → IsSent v (at w moment stock.new phases) report (buried_by v text put)) }
     ensures one { IfOk result (λ report. (report.moved ≡ 0) × (report.buried ≡ 1)) }
     ensures aside { OnOk result ((test : Place → Bool) → IsAside test → rows_in test stock.new.places.stands.rows ≡ rows_in test stock.old.places.stands.rows) }
+    ensures covered { OnOk result (AreCovered stock.new) }
     ensures step { KeepsStep stock.old stock.new }
 {
     let count = surplus_count(&stock.places, moment);
@@ -146,9 +149,11 @@ pub fn bury(
     requires early { moment ≤ last_moment }
     requires alive { is_eq (place_cmp (Set Dead) from.now) ≡ false }
     requires member { member ≡ member_of text.now }
+    requires covered { AreCovered stock.old }
     ensures ok { IfOk result (λ report. (w : World) (phases : Phases) (row : Row) → Alike phases seats.now → row_of text.now (rows_at from.now stock.old.places.stands.rows) ≡ Some row → IsSent (at w moment stock.old phases) (at w moment stock.new phases) report (bury (at w moment stock.old phases) row)) }
     ensures one { IfOk result (λ report. (report.moved ≡ 0) × (report.buried ≡ 1)) }
     ensures left { OnOk result ((test : Place → Bool) (row : Row) (more : List Row) → IsAside test → row_of text.now (rows_at from.now stock.old.places.stands.rows) ≡ Some row → rows_in test stock.old.places.stands.rows ≡ row ∷ more → rows_in test stock.new.places.stands.rows ≡ more) }
+    ensures covered { OnOk result (AreCovered stock.new) }
     ensures step { KeepsStep stock.old stock.new }
 {
     put_dead(&mut stock.places, moment, from, text)?;

@@ -17,7 +17,7 @@ ghost use Rattle.sk_model.specs.World.{World};
 ghost use Rattle.sk_jobs.specs.Calls.{Alike};
 ghost use Rattle.sk_jobs.specs.Rescuing.{IsNext, IsPassed};
 ghost use Rattle.sk_jobs.specs.Sending.{IsAside, IsSent, rows_in};
-ghost use Rattle.sk_jobs.specs.Stocked.{KeepsStep, at};
+ghost use Rattle.sk_jobs.specs.Stocked.{AreCovered, KeepsStep, at};
 
 use crate::calls::member_of;
 use crate::dead::bury;
@@ -45,9 +45,11 @@ fn bury_poison(
 ) -> Result<Report, Memory>
     requires early { moment ≤ last_moment }
     requires alive { is_eq (place_cmp (Set Dead) list.now) ≡ false }
+    requires covered { AreCovered stock.old }
     ensures ok { IfOk result (λ report. (w : World) (phases : Phases) (row : Row) (h : Head) → Alike phases seats.now → row_of payload.now (rows_at list.now stock.old.places.stands.rows) ≡ Some row → head_of row.text ≡ Some h → IsSent (at w moment stock.old phases) (at w moment stock.new phases) report (bury_poison (at w moment stock.old phases) row h.jid)) }
     ensures one { IfOk result (λ report. report.moved + report.buried ≡ 1) }
     ensures left { OnOk result ((test : Place → Bool) (row : Row) (more : List Row) → IsAside test → row_of payload.now (rows_at list.now stock.old.places.stands.rows) ≡ Some row → rows_in test stock.old.places.stands.rows ≡ row ∷ more → rows_in test stock.new.places.stands.rows ≡ more) }
+    ensures covered { OnOk result (AreCovered stock.new) }
     ensures step { KeepsStep stock.old stock.new }
 {
     let member = member_of(alloc, payload)?;
@@ -69,9 +71,11 @@ fn rescue_first(
     requires early { moment ≤ last_moment }
     requires alive { is_eq (place_cmp (Set Dead) list.now) ≡ false }
     requires some { 0 < length (rows_at list.now stock.old.places.stands.rows) }
+    requires covered { AreCovered stock.old }
     ensures ok { IfOk result (λ report. (w : World) (phases : Phases) (row : Row) (more : List Row) → Alike phases seats.now → rows_at list.now stock.old.places.stands.rows ≡ row ∷ more → IsSent (at w moment stock.old phases) (at w moment stock.new phases) report (rescue_row (at w moment stock.old phases) row (head_of row.text))) }
     ensures one { IfOk result (λ report. report.moved + report.buried ≡ 1) }
     ensures left { OnOk result ((test : Place → Bool) (row : Row) (more others : List Row) → IsAside test → rows_at list.now stock.old.places.stands.rows ≡ row ∷ more → rows_in test stock.old.places.stands.rows ≡ row ∷ others → rows_in test stock.new.places.stands.rows ≡ others) }
+    ensures covered { OnOk result (AreCovered stock.new) }
     ensures step { KeepsStep stock.old stock.new }
 {
     let Some((_, payload)) = stock.places.end(list, Side::Left) else {
@@ -100,9 +104,11 @@ fn rescue_list(
     ident: Word,
 ) -> Result<Report, Memory>
     requires early { moment ≤ last_moment }
+    requires covered { AreCovered stock.old }
     ensures ok { IfOk result (λ report. (w : World) (phases : Phases) → Alike phases seats.now → IsSent (at w moment stock.old phases) (at w moment stock.new phases) report (each rescue_row (at w moment stock.old phases) (rows_at (Private ident) stock.old.places.stands.rows))) }
     ensures few { IfOk result (λ report. report.moved + report.buried ≡ length (rows_at (Private ident) stock.old.places.stands.rows)) }
     ensures left { OnOk result ((test : Place → Bool) (others : List Row) → IsAside test → rows_in test stock.old.places.stands.rows ≡ rows_at (Private ident) stock.old.places.stands.rows ++ others → rows_in test stock.new.places.stands.rows ≡ others) }
+    ensures covered { OnOk result (AreCovered stock.new) }
     ensures step { KeepsStep stock.old stock.new }
 {
     let list = Place::Private(ident);
@@ -141,6 +147,7 @@ fn rescue_all(
     stock: &mut Stock,
 ) -> Result<Report, Memory>
     requires early { moment ≤ last_moment }
+    requires covered { AreCovered stock.old }
     ensures ok { IfOk result (λ report. (w : World) (phases : Phases) → Alike phases seats.now → IsSent (at w moment stock.old phases) (at w moment stock.new phases) report (each rescue_row (at w moment stock.old phases) (left_rows (at w moment stock.old phases)))) }
     ensures few { IfOk result (λ report. report.moved + report.buried < 2 ^ 63) }
     ensures step { KeepsStep stock.old stock.new }
@@ -158,6 +165,7 @@ fn rescue_all(
 /// Does what SK.RESCUE does. After want of memory some of it is done.
 pub fn rescue(alloc: Global, moment: u64, seats: &Seats, stock: &mut Stock) -> Result<Reply, Memory>
     requires early { moment ≤ last_moment }
+    requires covered { AreCovered stock.old }
     ensures ok { IfOk result (λ reply. (w : World) (phases : Phases) → Alike phases seats.now → Comes (at w moment stock.old phases) (rescue (at w moment stock.old phases)) reply (at w moment stock.new phases)) }
     ensures step { KeepsStep stock.old stock.new }
 {

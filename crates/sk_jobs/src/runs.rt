@@ -14,7 +14,7 @@ ghost use Rattle.sk_model.specs.Workers.{drop, fail, ok, start};
 ghost use Rattle.sk_model.specs.World.{World};
 ghost use Rattle.sk_jobs.specs.Calls.{Alike, member_of};
 ghost use Rattle.sk_jobs.specs.Seated.{with_seats};
-ghost use Rattle.sk_jobs.specs.Stocked.{IsClosed, KeepsStep, at};
+ghost use Rattle.sk_jobs.specs.Stocked.{AreCovered, IsClosed, KeepsStep, at};
 
 use crate::calls::{member_of, tell};
 use crate::stock::Stock;
@@ -71,7 +71,8 @@ fn fail_open(
     stock: &mut Stock,
     member: Option<Member>,
 ) -> Result<Reply, Memory>
-    requires { moment ≤ last_moment }
+    requires early { moment ≤ last_moment }
+    requires covered { AreCovered stock.old }
     ensures ok { IfOk result (λ reply. (w : World) (text : Bytes) → member ≡ member_of text → Comes (at w moment stock.old seats.now) (and_tell event.Reported (at w moment stock.old seats.now) text (Counts processed ∷ Counts failed ∷ [])) reply (at w moment stock.new seats.now)) }
     ensures step { KeepsStep stock.old stock.new }
 {
@@ -92,6 +93,7 @@ pub fn fail(
 ) -> Result<Reply, Memory>
     requires early { moment ≤ last_moment }
     requires closed { IsClosed stock.old }
+    requires covered { AreCovered stock.old }
     ensures ok { IfOk result (λ reply. (w : World) → Comes (at w moment stock.old seats.now) (fail (at w moment stock.old seats.now) (phase_in seats.now seat) text.now) reply (at w moment stock.new seats.now)) }
     ensures closed { IsClosed stock.new }
     ensures err { OnErr result (stock.new ≡ stock.old) }
@@ -113,7 +115,8 @@ fn succeed_open(
     stock: &mut Stock,
     member: Option<Member>,
 ) -> Result<Reply, Memory>
-    requires { moment ≤ last_moment }
+    requires early { moment ≤ last_moment }
+    requires covered { AreCovered stock.old }
     ensures ok { IfOk result (λ reply. (w : World) (phases : Phases) (seat : ℕ) (ident text : Bytes) → member ≡ member_of text → Alike (turned seat (Phase.Settled ident text End.Returned) phases) seats.now → Comes (at w moment stock.old phases) (and_tell event.Returned (at w moment stock.old phases) text (Turns seat (Phase.Settled ident text End.Returned) ∷ Counts processed ∷ [])) reply (at w moment stock.new (turned seat (Phase.Settled ident text End.Returned) phases))) }
     ensures step { KeepsStep stock.old stock.new }
 {
@@ -133,6 +136,7 @@ pub fn succeed(
 ) -> Result<Reply, Memory>
     requires early { moment ≤ last_moment }
     requires closed { IsClosed stock.old }
+    requires covered { AreCovered stock.old }
     ensures ok { IfOk result (λ reply. (w : World) → Comes (at w moment stock.old seats.old) (ok (at w moment stock.old seats.old) seat (phase_in seats.old seat) text.now) reply (at w moment stock.new seats.new)) }
     ensures closed { IsClosed stock.new }
     ensures err { OnErr result ((stock.new ≡ stock.old) × (seats.new ≡ seats.old)) }

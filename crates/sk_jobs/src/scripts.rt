@@ -15,7 +15,7 @@ ghost use Rattle.sk_model.specs.World.{World};
 ghost use Rattle.sk_jobs.specs.Calls.{Alike};
 ghost use Rattle.sk_jobs.specs.Scripts.{sent};
 ghost use Rattle.sk_jobs.specs.Sending.{with_moment};
-ghost use Rattle.sk_jobs.specs.Stocked.{IsClosed, KeepsStep, at};
+ghost use Rattle.sk_jobs.specs.Stocked.{AreCovered, IsClosed, KeepsStep, at};
 
 use crate::calls::member_of;
 use crate::dead::bury;
@@ -66,6 +66,7 @@ fn send_due(
 ) -> Result<Reply, Memory>
     requires early { moment ≤ last_moment }
     requires alive { is_eq (place_cmp (Set Dead) (Set set)) ≡ false }
+    requires covered { AreCovered stock.old }
     ensures ok { IfOk result (λ reply. (w : World) (phases : Phases) → Alike phases seats.now → Comes (at w moment stock.old phases) (reports (each send (at w moment stock.old phases) (take (nat_abs limit) (filter (λ (row : Row). is_le (int_cmp row.score (moment_score (at w moment stock.old phases)))) (rows_at (Set set) stock.old.places.stands.rows))))) reply (at w moment stock.new phases)) }
     ensures step { KeepsStep stock.old stock.new }
 {
@@ -85,6 +86,7 @@ fn due(
     limit: i64,
 ) -> Result<Reply, Memory>
     requires early { moment ≤ last_moment }
+    requires covered { AreCovered stock.old }
     ensures ok { IfOk result (λ reply. (w : World) (phases : Phases) → Alike phases seats.now → Comes (at w moment stock.old phases) (due (at w moment stock.old phases) set (nat_abs limit)) reply (at w moment stock.new phases)) }
     ensures step { KeepsStep stock.old stock.new }
 {
@@ -106,6 +108,7 @@ fn bury_one(
 ) -> Result<Reply, Memory>
     requires early { moment ≤ last_moment }
     requires alive { is_eq (place_cmp (Set Dead) (Set set)) ≡ false }
+    requires covered { AreCovered stock.old }
     ensures ok { IfOk result (λ reply. (w : World) (phases : Phases) → Alike phases seats.now → Comes (at w moment stock.old phases) (kill_row (at w moment stock.old phases) (row_of text.now (rows_at (Set set) stock.old.places.stands.rows))) reply (at w moment stock.new phases)) }
     ensures step { KeepsStep stock.old stock.new }
 {
@@ -128,6 +131,7 @@ fn kill(
     text: &Word,
 ) -> Result<Reply, Memory>
     requires early { moment ≤ last_moment }
+    requires covered { AreCovered stock.old }
     ensures ok { IfOk result (λ reply. (w : World) (phases : Phases) → Alike phases seats.now → Comes (at w moment stock.old phases) (kill (at w moment stock.old phases) set text.now) reply (at w moment stock.new phases)) }
     ensures step { KeepsStep stock.old stock.new }
 {
@@ -165,6 +169,7 @@ fn send_open(
     script: SetScript,
 ) -> Result<Reply, Memory>
     requires early { moment ≤ last_moment }
+    requires covered { AreCovered stock.old }
     ensures ok { IfOk result (λ reply. (w : World) (phases : Phases) → Alike phases seats.now → Comes (at w moment stock.old phases) (sent (at w moment stock.old phases) script) reply (at w moment stock.new phases)) }
     ensures step { KeepsStep stock.old stock.new }
 {
@@ -186,6 +191,7 @@ fn send_whole(
 ) -> Result<Reply, Memory>
     requires early { moment ≤ last_moment }
     requires closed { IsClosed stock.old }
+    requires covered { AreCovered stock.old }
     ensures ok { IfOk result (λ reply. (w : World) → Comes (at w moment stock.old seats.now) (sent (at w moment stock.old seats.now) script) reply (at w moment stock.new seats.now)) }
     ensures closed { IsClosed stock.new }
     ensures err { OnErr result (stock.new ≡ stock.old) }
@@ -206,6 +212,7 @@ pub fn send(
 ) -> Result<Reply, Memory>
     requires early { moment ≤ last_moment }
     requires closed { IsClosed stock.old }
+    requires covered { AreCovered stock.old }
     ensures ok { IfOk result (λ reply. (w : World) → Comes (at w moment stock.old seats.now) (where_plain (phase_in seats.now seat) (sent (at w moment stock.old seats.now) script)) reply (at w moment stock.new seats.now)) }
     ensures closed { IsClosed stock.new }
     ensures err { OnErr result (stock.new ≡ stock.old) }

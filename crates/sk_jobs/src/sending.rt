@@ -14,7 +14,7 @@ ghost use Rattle.sk_seats.specs.Phases.{Phases};
 ghost use Rattle.sk_model.specs.World.{World};
 ghost use Rattle.sk_jobs.specs.Calls.{Alike};
 ghost use Rattle.sk_jobs.specs.Sending.{IsSent};
-ghost use Rattle.sk_jobs.specs.Stocked.{KeepsStep, at};
+ghost use Rattle.sk_jobs.specs.Stocked.{AreCovered, KeepsStep, at};
 
 use crate::dead::bury;
 use crate::report::Report;
@@ -29,6 +29,7 @@ use std::alloc::Global;
 /// The first job of a place goes to an end of a queue.
 pub fn send_on(places: &mut Places, place: &Place, queue: Text, end: Side) -> Result<(), Memory>
     ensures ok { OnOk result ((row : Row) (more : List Row) → rows_at place.now places.old.stands.rows ≡ row ∷ more → places.new.stands ≡ moved_to Left row (Queue queue) (pos 0) end places.old.stands) }
+    ensures lives { OnOk result (places.new.stands.lives ≡ places.old.stands.lives) }
     ensures step { places.new.stood ≡ places.old.stood }
 {
     let score = Score::of_moment(0);
@@ -47,9 +48,11 @@ fn send_first(
     requires early { moment ≤ last_moment }
     requires alive { is_eq (place_cmp (Set Dead) (Set set)) ≡ false }
     requires some { 0 < length (rows_at (Set set) stock.old.places.stands.rows) }
+    requires covered { AreCovered stock.old }
     ensures ok { IfOk result (λ report. (w : World) (phases : Phases) (row : Row) (more : List Row) → Alike phases seats.now → rows_at (Set set) stock.old.places.stands.rows ≡ row ∷ more → IsSent (at w moment stock.old phases) (at w moment stock.new phases) report (send (at w moment stock.old phases) row (head_of row.text))) }
     ensures left { OnOk result ((row : Row) (more : List Row) → rows_at (Set set) stock.old.places.stands.rows ≡ row ∷ more → rows_at (Set set) stock.new.places.stands.rows ≡ more) }
     ensures one { IfOk result (λ report. report.moved + report.buried ≡ 1) }
+    ensures covered { OnOk result (AreCovered stock.new) }
     ensures step { KeepsStep stock.old stock.new }
 {
     let place = Place::Set(set);
@@ -82,6 +85,7 @@ pub fn send_front(
     requires alive { is_eq (place_cmp (Set Dead) (Set set)) ≡ false }
     requires some { count ≤ length (rows_at (Set set) stock.old.places.stands.rows) }
     requires few { count < 2 ^ 63 }
+    requires covered { AreCovered stock.old }
     ensures ok { IfOk result (λ report. (w : World) (phases : Phases) → Alike phases seats.now → IsSent (at w moment stock.old phases) (at w moment stock.new phases) report (each send (at w moment stock.old phases) (take count (rows_at (Set set) stock.old.places.stands.rows)))) }
     ensures few { IfOk result (λ report. report.moved + report.buried ≡ count) }
     ensures step { KeepsStep stock.old stock.new }

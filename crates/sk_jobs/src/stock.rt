@@ -29,7 +29,7 @@ pub struct Stock {
 
 impl Stock {
     /// Nothing, with at most so many batches later. Takes no memory.
-    pub fn new(alloc: Global, most_batches: u64) -> Stock
+    pub fn new(alloc: Global, most_batches: u32) -> Stock
         ensures { result ≡ record { places = closed (placed [] [] no_lives); leases = closed nothing; batches = closed (no_batches most_batches); counters = closed [] } }
     {
         Stock {

@@ -1,12 +1,12 @@
 // LPUSH key text .., RPUSH key text .. on a queue (Redis, "LPUSH", "RPUSH")
-ghost use Rattle.std.specs.Prelude.{◌≡◌, None, IfOk, OnErr, OnOk};
+ghost use Rattle.std.specs.Prelude.{◌≡◌, None, IfOk, OnErr, OnOk, length};
 ghost use Rattle.sk_undo.specs.Steps.{edited};
 ghost use Rattle.sk_places.specs.declared.row.Place.TheVariants.{Queue};
 ghost use Rattle.sk_model.specs.Outcome.{Comes};
 ghost use Rattle.sk_model.specs.Queues.{push};
 ghost use Rattle.sk_model.specs.World.{World};
 ghost use Rattle.sk_keyspace.specs.Edits.{all_pushed};
-ghost use Rattle.sk_model.specs.Room.{with_pushed};
+ghost use Rattle.sk_model.specs.Room.{HasRoom, with_pushed};
 
 use crate::closing::close;
 use sk_base::Score;
@@ -28,6 +28,7 @@ fn push_each(
     end: Side,
     payloads: Vec<Payload>,
 ) -> Result<(), Memory>
+    requires { HasRoom (length payloads.items) places.old.stands.lives.totals }
     ensures ok { OnOk result (places.new ≡ edited (all_pushed seats.now end (Queue queue.now) payloads.items places.old.stands) places.old) }
     ensures step { places.new.stood ≡ places.old.stood }
 {
@@ -54,7 +55,8 @@ fn push_all(
     end: Side,
     payloads: Vec<Payload>,
 ) -> Result<(), Memory>
-    requires { places.old.stood ≡ None }
+    requires closed { places.old.stood ≡ None }
+    requires room { HasRoom (length payloads.items) places.old.stands.lives.totals }
     ensures ok { OnOk result (places.new ≡ edited (all_pushed seats.now end (Queue queue.now) payloads.items places.old.stands) places.old) }
     ensures err { OnErr result (places.new ≡ places.old) }
 {

@@ -1,5 +1,7 @@
 // The commands that write on a set of jobs: ZADD on `schedule`; ZREM, ZREMRANGEBYRANK and ZREMRANGEBYSCORE on each (Redis, "Sorted sets").
-ghost use Rattle.std.specs.Prelude.{◌≡◌, None, IfOk, OnErr, OnOk};
+ghost use Rattle.std.specs.Prelude.{◌≡◌, ◌≤◌, ◌+◌, None, IfOk, OnErr, OnOk, length};
+ghost use Rattle.sk_lives.specs.Totals.{IsCountable, pushes_in};
+ghost use Rattle.sk_lives.specs.declared.origin.Origin.TheVariants.{Outside};
 ghost use Rattle.sk_model.specs.Change.{changed, perform};
 ghost use Rattle.sk_model.specs.Outcome.{Comes};
 ghost use Rattle.sk_model.specs.Sets.{add, add_each, add_one, add_to, edit_jobs};
@@ -7,7 +9,7 @@ ghost use Rattle.sk_model.specs.World.{World};
 ghost use Rattle.sk_model.specs.declared.limits.Limits.{Limits};
 ghost use Rattle.sk_value.specs.declared.edit.Edit.TheVariants as Edit;
 ghost use Rattle.sk_keyspace.specs.Whole.{with_places};
-ghost use Rattle.sk_model.specs.Room.{with_pushed};
+ghost use Rattle.sk_model.specs.Room.{HasRoom, with_pushed};
 
 use crate::closing::close;
 use crate::plain::managed_key;
@@ -31,7 +33,9 @@ fn add_one(
     score: Score,
     text: Word,
 ) -> Result<(), Memory>
+    requires { IsCountable Outside places.old.stands.lives.totals }
     ensures ok { OnOk result ((w : World) (limits : Limits) → with_pushed w limits seats.now places.new.stands ≡ changed (with_pushed w limits seats.now places.old.stands) (add_one (with_pushed w limits seats.now places.old.stands) set (score, text))) }
+    ensures few { OnOk result (pushes_in places.new.stands.lives.totals ≤ pushes_in places.old.stands.lives.totals + 1) }
     ensures step { places.new.stood ≡ places.old.stood }
 {
     let place = Place::Set(set);
@@ -51,6 +55,7 @@ fn add_each(
     set: Scored,
     pairs: Vec<(Score, Word)>,
 ) -> Result<(), Memory>
+    requires { HasRoom (length pairs.items) places.old.stands.lives.totals }
     ensures ok { OnOk result ((w : World) (limits : Limits) → with_pushed w limits seats.now places.new.stands ≡ perform (with_pushed w limits seats.now places.old.stands) (add_each (with_pushed w limits seats.now places.old.stands) set pairs.items)) }
     ensures step { places.new.stood ≡ places.old.stood }
 {
@@ -68,7 +73,8 @@ fn add_all(
     set: Scored,
     pairs: Vec<(Score, Word)>,
 ) -> Result<(), Memory>
-    requires { places.old.stood ≡ None }
+    requires closed { places.old.stood ≡ None }
+    requires room { HasRoom (length pairs.items) places.old.stands.lives.totals }
     ensures ok { OnOk result ((w : World) (limits : Limits) → with_pushed w limits seats.now places.new.stands ≡ perform (with_pushed w limits seats.now places.old.stands) (add_each (with_pushed w limits seats.now places.old.stands) set pairs.items)) }
     ensures closed { places.new.stood ≡ None }
     ensures err { OnErr result (places.new ≡ places.old) }

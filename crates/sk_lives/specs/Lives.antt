@@ -12,7 +12,7 @@ use Rattle.sk_lives.specs.declared.ending.Ending.{Ending}
 use Rattle.sk_lives.specs.declared.ending.Ending.TheVariants.{Muddled}
 use Rattle.sk_lives.specs.declared.origin.Origin.{Origin}
 use Rattle.sk_lives.specs.declared.totals.Totals.{Totals}
-use Rattle.sk_lives.specs.Totals.{no_totals, pushes_in, count_push, count_end, accounted, last_push}
+use Rattle.sk_lives.specs.Totals.{no_totals, pushes_in, count_push, count_end, accounted, last_outside, last_push}
 
 pub record Lived : Type 0 where
   -- the ids of the jobs that are live, in the order of their bytes
@@ -86,6 +86,7 @@ job_pushed from fresh job l = record { live = born (λ jid. fresh) job l.live; t
 pub record IsAccounted (l : Lived) : Type 0 where
   pub within : accounted l.totals (length l.live) ≤ pushes_in l.totals
   pub few : pushes_in l.totals ≤ last_push
+  pub outside : l.totals.outside ≤ last_outside
 
 -- what stands, and what stood
 pub record AreAccounted (s : Steps Lived) : Type 0 where

@@ -1,5 +1,5 @@
 -- How many rows were ever pushed, and what became of them.
-use Rattle.std.specs.Prelude.{ℕ, ◌+◌, ◌^◌}
+use Rattle.std.specs.Prelude.{ℕ, ◌+◌, ◌<◌, ◌^◌}
 use Rattle.sk_lives.specs.declared.origin.Origin.{Origin}
 use Rattle.sk_lives.specs.declared.origin.Origin.TheVariants.{Outside, Inner}
 use Rattle.sk_lives.specs.declared.ending.Ending.{Ending}
@@ -28,6 +28,18 @@ count_end Muddled n t = record t { muddled = t.muddled + n }
 abbrev pub accounted : Totals → ℕ → ℕ
 accounted t live = t.bare + t.again + live + t.returned + t.discarded + t.deleted + t.trimmed + t.muddled
 
--- no more are ever pushed
+-- clients push no more than these
+abbrev pub last_outside : ℕ
+last_outside = 2 ^ 62
+
+-- and with the store's own there are no more than these
 abbrev pub last_push : ℕ
 last_push = 2 ^ 63
+
+abbrev pub last_of : Origin → ℕ
+last_of Outside = last_outside
+last_of Inner = last_push
+
+-- one more push of this origin can be counted
+abbrev pub IsCountable : Origin → Totals → Type 0
+IsCountable from t = pushes_in t < last_of from

@@ -4,7 +4,7 @@ ghost use Rattle.std.specs.Option.{is_some};
 ghost use Rattle.sk_undo.specs.Balance.{most};
 ghost use Rattle.sk_undo.specs.Steps.{begun, closed, committed, edited, undone};
 ghost use Rattle.sk_lives.specs.Lives.{ended, is_among, jid_of, job_pushed, no_lives, one_if, pushed};
-ghost use Rattle.sk_lives.specs.Totals.{accounted, count_end, last_push, pushes_in};
+ghost use Rattle.sk_lives.specs.Totals.{IsCountable, accounted, count_end, last_outside, last_push, pushes_in};
 ghost use Rattle.sk_lives.specs.Words.{without_word};
 
 use crate::{Ending, Memory, Origin, Totals, WordSet};
@@ -12,9 +12,6 @@ use sk_payload::Payload;
 use sk_resp::Word;
 use std::alloc::Global;
 use std::marker::Model;
-
-// No more rows are ever pushed.
-const LAST_PUSH: u64 = 1 << 63;
 
 /// The jobs that are live, and how many rows were ever pushed and what became of them. Contracts see what stands now, and what stood at the begin of
 /// an open step.
@@ -95,13 +92,14 @@ impl Lives {
     pub fn push_count(&self) -> u64
         ensures is { result ≡ pushes_in self.now.stands.totals }
         ensures small { result ≤ last_push }
+        ensures outside { self.now.stands.totals.outside ≤ last_outside }
     {
         self.totals.pushes()
     }
 
     // A row without a job is pushed.
     fn push_bare(&mut self, from: Origin)
-        requires { pushes_in self.old.stands.totals < last_push }
+        requires { IsCountable from self.old.stands.totals }
         ensures { self.new ≡ edited (job_pushed from false None self.old.stands) self.old }
     {
         self.totals.count_push(from);
@@ -110,7 +108,7 @@ impl Lives {
 
     // A row of a fresh job is pushed.
     fn push_fresh(&mut self, jid: &[u8], from: Origin) -> Result<(), Memory>
-        requires { pushes_in self.old.stands.totals < last_push }
+        requires { IsCountable from self.old.stands.totals }
         ensures ok { OnOk result (self.new ≡ edited (job_pushed from true (Some jid.now) self.old.stands) self.old) }
         ensures err { OnErr result (self.new ≡ self.old) }
     {
@@ -123,7 +121,7 @@ impl Lives {
 
     // A row of a job that isn't fresh is pushed.
     fn push_again(&mut self, jid: &[u8], from: Origin) -> Result<(), Memory>
-        requires { pushes_in self.old.stands.totals < last_push }
+        requires { IsCountable from self.old.stands.totals }
         ensures ok { OnOk result (self.new ≡ edited (job_pushed from false (Some jid.now) self.old.stands) self.old) }
         ensures err { OnErr result (self.new ≡ self.old) }
     {
@@ -134,15 +132,13 @@ impl Lives {
         Ok(())
     }
 
-    /// A row of this payload is pushed. Its job lives from now on where it is fresh, and else is muddled. There is no memory for more than 2^63
-    /// pushes.
+    /// A row of this payload is pushed. Its job lives from now on where it is fresh, and else is muddled. Clients push no more than 2^62 rows, and
+    /// with the store's own there are no more than 2^63.
     pub fn push(&mut self, payload: &Payload, from: Origin, fresh: bool) -> Result<(), Memory>
+        requires { IsCountable from self.old.stands.totals }
         ensures ok { OnOk result (self.new ≡ edited (pushed from (λ jid. fresh) payload.now self.old.stands) self.old) }
         ensures err { OnErr result (self.new ≡ self.old) }
     {
-        if self.push_count() >= LAST_PUSH {
-            return Err(Memory);
-        }
         match jid_of(payload) {
             None => {
                 self.push_bare(from);

@@ -1,6 +1,6 @@
 // How many rows were ever pushed, and what became of them.
 ghost use Rattle.std.specs.Prelude.{◌≡◌, ◌<◌, ◌≤◌};
-ghost use Rattle.sk_lives.specs.Totals.{accounted, count_end, count_push, last_push, no_totals, pushes_in};
+ghost use Rattle.sk_lives.specs.Totals.{IsCountable, accounted, count_end, count_push, last_push, no_totals, pushes_in};
 
 use crate::{Ending, Origin};
 
@@ -55,7 +55,7 @@ impl Totals {
 
     /// A row is pushed.
     pub(crate) fn count_push(&mut self, from: Origin)
-        requires { pushes_in self.old < last_push }
+        requires { IsCountable from self.old }
         ensures { self.new ≡ count_push from self.old }
     {
         match from {

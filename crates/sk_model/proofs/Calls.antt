@@ -2,6 +2,9 @@
 use Rattle.std.proofs.Common.{◌≡◌, List, [], ◌∷◌, ◌++◌, refl, sym, ap, subst, ◌∙◌, arith, Bool, true, false, cond, Option, Some, None, map}
 use Rattle.std.specs.Prelude.{filter}
 use Rattle.sk_resp.specs.Spelling.{Bytes}
+use Rattle.sk_payload.specs.Head.{head}
+use Rattle.sk_payload.specs.declared.head.Head.{Head}
+use Rattle.sk_lives.specs.declared.origin.Origin.TheVariants.{Inner}
 use Rattle.sk_batch.specs.Batched.{Batched, BatchEntry, has_bid, is_there}
 use Rattle.sk_batch.specs.Fires.{callback, death_of, firing, retagged, with_kind}
 use Rattle.sk_batch.specs.Lines.{line, line_above}
@@ -10,11 +13,11 @@ use Rattle.sk_batch.specs.declared.firing.Kind.{Kind}
 use Rattle.sk_batch.specs.declared.firing.Kind.TheVariants.{Death}
 use Rattle.sk_model.specs.World.{World}
 use Rattle.sk_model.specs.Change.{Fire, Change, Moves, after_fire, changed, perform}
-use Rattle.sk_model.specs.Told.{call, fire_all}
+use Rattle.sk_model.specs.Told.{call, fire_all, push_to}
 use Rattle.sk_model.specs.Once.{Begins, CallsFollow, called, called_by, callback_of}
 use Rattle.sk_model.proofs.Texts.{bytes_tell}
 use Rattle.sk_model.proofs.Lines.{IsTree}
-use Rattle.sk_model.proofs.Fired.{all_quiet, call_quiet, first_quiet, is_quiet, quiet_batches}
+use Rattle.sk_model.proofs.Fired.{all_quiet, call_batches, first_quiet, is_quiet}
 
 -- ## One list of changes after another
 
@@ -38,6 +41,15 @@ calls_quiet w [] q = tt
 calls_quiet w (change ∷ changes) q = let f = first_quiet change changes q in
     (subst (λ first. Begins first changes) (sym (none_called w change f.0)) (changes, refl), calls_quiet (changed w change) changes f.1)
 
+-- nothing follows a callback
+push_follows : (w : World) (text : Bytes) (found : Option Head) → CallsFollow w (push_to Inner text found)
+push_follows w text None = tt
+push_follows w text (Some h) = (([], refl), tt)
+
+calls_call : (w : World) (o : Option Bytes) → CallsFollow w (call o)
+calls_call w None = tt
+calls_call w (Some text) = push_follows w text (head text)
+
 -- ## Firings
 
 -- what is called is the callback of the batch
@@ -58,8 +70,8 @@ calls_fired w [] a = tt
 calls_fired w (f ∷ fs) a =
     let v : World = changed w (Moves (Fire f.bid f.kind)) in
     let o = call f.payload in
-    let rest : AllCalled (perform v o).batches fs = subst (λ (s : Batched). AllCalled s fs) (sym (quiet_batches v o (call_quiet f.payload))) (all_called_after w.batches f.bid f.kind fs a.1) in
-    ((fire_all fs, ap (λ p. call p ++ fire_all fs) (sym a.0)), calls-append v o (fire_all fs) (calls_quiet v o (call_quiet f.payload)) (calls_fired (perform v o) fs rest))
+    let rest : AllCalled (perform v o).batches fs = subst (λ (s : Batched). AllCalled s fs) (sym (call_batches v f.payload)) (all_called_after w.batches f.bid f.kind fs a.1) in
+    ((fire_all fs, ap (λ p. call p ++ fire_all fs) (sym a.0)), calls-append v o (fire_all fs) (calls_call v f.payload) (calls_fired (perform v o) fs rest))
 
 pub all_called-append : (s : Batched) (fs gs : List Firing) → AllCalled s fs → AllCalled s gs → AllCalled s (fs ++ gs)
 all_called-append s [] gs a b = b

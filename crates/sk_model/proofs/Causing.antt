@@ -24,7 +24,7 @@ use Rattle.sk_model.specs.Event.{Event}
 use Rattle.sk_model.specs.Once.{called_by, is_dead_set}
 use Rattle.sk_model.specs.Causes.{IsRemoval, HasCause, HaveCauses, is_burial}
 use Rattle.sk_model.proofs.Marked.{Sane}
-use Rattle.sk_model.proofs.Fired.{call_quiet, quiet_batches}
+use Rattle.sk_model.proofs.Fired.{call_batches}
 use Rattle.sk_model.proofs.Calls.{AllCalled, all_called_after}
 use Rattle.sk_model.proofs.Told.{fires_called}
 use Rattle.sk_model.proofs.Sending.{all_own, surplus_dead}
@@ -171,7 +171,7 @@ module _ (w : World) (event : Event) where
   fires_cause v (f ∷ fs) a =
       let u : World = changed v (Moves (Fire f.bid f.kind)) in
       let o = call f.payload in
-      let rest : AllCalled (perform u o).batches fs = subst (λ (s : Batched). AllCalled s fs) (sym (quiet_batches u o (call_quiet f.payload))) (all_called_after v.batches f.bid f.kind fs a.1) in
+      let rest : AllCalled (perform u o).batches fs = subst (λ (s : Batched). AllCalled s fs) (sym (call_batches u f.payload)) (all_called_after v.batches f.bid f.kind fs a.1) in
       let called = subst (λ p. HaveCauses w event false (call p) u o) (sym a.0) (call_causes false u f.payload) in
       (tt, causes_append false _ u o (fire_all fs) called (fires_cause (perform u o) fs rest))
 

@@ -48,6 +48,8 @@ use Rattle.sk_model.specs.Batches.{batch_of, tells_stat}
 use Rattle.sk_batch.specs.Stat.{stat}
 use Rattle.sk_batch.specs.declared.batch_stat.BatchStat.{BatchStat}
 use Rattle.sk_model.specs.Once.{is_dead_set}
+use Rattle.sk_model.specs.Covered.{IsCovered}
+use Rattle.sk_model.proofs.Covering.{Covers}
 use Rattle.sk_model.proofs.Good.{Good, Lawful, lawful_passes, good_nothing, good_append, then_others, good_add, good_carry, good_take, good_turn, good_passes, good_names, good_unnames, good_keeps}
 
 -- ## Queues
@@ -55,7 +57,7 @@ use Rattle.sk_model.proofs.Good.{Good, Lawful, lawful_passes, good_nothing, good
 pub push_good : (w : World) (end : Side) (place : Place) (texts : List Bytes) → Good w (pushes end place texts)
 push_good w end place [] = good_nothing w
 push_good w end place (text ∷ texts) = let one = Moves (Add (row_at place text) end Outside) in
-    then_others w one (pushes end place texts) (good_add w (row_at place text) end Outside) (push_good (changed w one) end place texts)
+    then_others w one (pushes end place texts) (good_add w (row_at place text) end) (push_good (changed w one) end place texts)
 
 pub takes_good : (w : World) (n : ℕ) (row : Row) (end : Side) → n ≤ copies_of row w.rows → Good w (takes n row end)
 takes_good w zero row end most = good_nothing w
@@ -214,6 +216,14 @@ step_sound w seat now c o (inr (may, e)) s = subst (λ (u : Outcome). IsSound (p
 -- and where a seat is cut off
 pub cut_sound : (w : World) (seat : ℕ) → IsSound w → IsSound (perform w (cut seat).changes)
 cut_sound w seat s = (good_turn w seat Plain tt).lawful.keeps.sound s
+
+-- and so do the callbacks of a world stay covered
+pub step_covered : (w : World) (seat now : ℕ) (c : Command) (o : Outcome) → Steps w seat now c o → Covers w o.changes
+step_covered w seat now c o (inl e) s = subst (λ (u : Outcome). IsCovered (perform w u.changes).tally.inner (perform w u.changes).batches) (sym e) ((outcome_lawful w seat now c).covers s)
+step_covered w seat now c o (inr (may, e)) s = subst (λ (u : Outcome). IsCovered (perform w u.changes).tally.inner (perform w u.changes).batches) (sym e) ((good_passes w now).lawful.covers s)
+
+pub cut_covered : (w : World) (seat : ℕ) → Covers w (cut seat).changes
+cut_covered w seat s = (good_turn w seat Plain tt).lawful.covers s
 
 -- ## Events
 

@@ -14,13 +14,13 @@ use Rattle.sk_batch.specs.declared.batch.Fired.{Fired}
 use Rattle.sk_batch.specs.declared.firing.Firing.{Firing}
 use Rattle.sk_batch.specs.declared.firing.Kind.{Kind}
 use Rattle.sk_batch.specs.declared.firing.Kind.TheVariants.{Complete, Success, Death}
-use Rattle.sk_lives.specs.declared.origin.Origin.{Origin}
-use Rattle.sk_lives.specs.declared.origin.Origin.TheVariants.{Inner}
+use Rattle.sk_lives.specs.declared.origin.Origin.TheVariants.{Inner, Outside}
 use Rattle.sk_model.specs.World.{World}
 use Rattle.sk_lives.specs.Lives.{one_if}
-use Rattle.sk_model.specs.Change.{Fire, Makes, Joins, Tells, Change, Moves, after_fire, changed, perform}
+use Rattle.sk_model.specs.Change.{Add, Fire, Makes, Joins, Tells, Change, Moves, after_fire, changed, perform}
 use Rattle.sk_model.specs.Told.{push_to, push_job, call, fire_all}
 use Rattle.sk_model.specs.Once.{same_kind, times, times_in}
+pub use Rattle.sk_model.specs.Covered.{has_kind, was_fired}
 use Rattle.sk_model.proofs.Texts.{bytes_tell}
 use Rattle.sk_model.proofs.Lines.{IsTree, in_list, there_retagged}
 use Rattle.sk_model.proofs.Marked.{Alike, alike_own, alike_then, alike_fire, Sane, sane_fire}
@@ -29,10 +29,11 @@ pub perform-append : (w : World) (a b : List Change) → perform w (a ++ b) ≡ 
 perform-append w [] b = refl
 perform-append w (change ∷ a) b = perform-append (changed w change) a b
 
--- ## Changes that leave the batches alone
+-- ## Changes that leave the batches alone, and push no callback
 
 abbrev pub is_quiet : Change → Bool
 is_quiet (Moves (Fire bid kind)) = false
+is_quiet (Moves (Add row end Inner)) = false
 is_quiet (Makes batch jids) = false
 is_quiet (Joins bid jids) = false
 is_quiet (Tells event bid jid) = false
@@ -66,16 +67,31 @@ pub quiet-append : (a c : List Change) → all_quiet a ≡ true → all_quiet c 
 quiet-append [] c q r = r
 quiet-append (change ∷ a) c q r = let f = first_quiet change a q in grind (arith, f.0, quiet-append a c f.1 r)
 
-push_quiet : (from : Origin) (text : Bytes) (found : Option Head) → all_quiet (push_to from text found) ≡ true
-push_quiet from text None = refl
-push_quiet from text (Some h) = refl
+push_quiet : (text : Bytes) (found : Option Head) → all_quiet (push_to Outside text found) ≡ true
+push_quiet text None = refl
+push_quiet text (Some h) = refl
 
-pub job_quiet : (from : Origin) (text : Bytes) → all_quiet (push_job from text) ≡ true
-job_quiet from text = push_quiet from text (head text)
+pub job_quiet : (text : Bytes) → all_quiet (push_job Outside text) ≡ true
+job_quiet text = push_quiet text (head text)
 
-pub call_quiet : (o : Option Bytes) → all_quiet (call o) ≡ true
-call_quiet None = refl
-call_quiet (Some text) = job_quiet Inner text
+-- ## Callbacks
+
+-- a callback leaves the batches alone too, and fires nothing
+push_batches : (w : World) (text : Bytes) (found : Option Head) → (perform w (push_to Inner text found)).batches ≡ w.batches
+push_batches w text None = refl
+push_batches w text (Some h) = refl
+
+pub call_batches : (w : World) (o : Option Bytes) → (perform w (call o)).batches ≡ w.batches
+call_batches w None = refl
+call_batches w (Some text) = push_batches w text (head text)
+
+push_times : (kind : Kind) (b : Bytes) (text : Bytes) (found : Option Head) → times kind b (push_to Inner text found) ≡ 0
+push_times kind b text None = refl
+push_times kind b text (Some h) = refl
+
+call_times : (kind : Kind) (b : Bytes) (o : Option Bytes) → times kind b (call o) ≡ 0
+call_times kind b None = refl
+call_times kind b (Some text) = push_times kind b text (head text)
 
 -- ## Firings
 
@@ -97,7 +113,7 @@ any-append kind b (f ∷ fs) gs = grind (arith, any-append kind b fs gs)
 -- the changes that fire them
 pub fire_all_times : (kind : Kind) (b : Bytes) (fs : List Firing) → times kind b (fire_all fs) ≡ count_named kind b fs
 fire_all_times kind b [] = refl
-fire_all_times kind b (f ∷ fs) = omega (arith, times-append kind b (call f.payload) (fire_all fs), quiet_times kind b (call f.payload) (call_quiet f.payload), fire_all_times kind b fs)
+fire_all_times kind b (f ∷ fs) = omega (arith, times-append kind b (call f.payload) (fire_all fs), call_times kind b f.payload, fire_all_times kind b fs)
 
 pub fire_all_batches : (w : World) (fs : List Firing) → (perform w (fire_all fs)).batches ≡ fired fs w.batches
 fire_all_batches w [] = refl
@@ -105,7 +121,7 @@ fire_all_batches w (f ∷ fs) =
     let v : World = changed w (Moves (Fire f.bid f.kind)) in
     ap (λ (u : World). u.batches) (perform-append v (call f.payload) (fire_all fs))
     ∙ fire_all_batches (perform v (call f.payload)) fs
-    ∙ ap (fired fs) (quiet_batches v (call f.payload) (call_quiet f.payload))
+    ∙ ap (fired fs) (call_batches v f.payload)
 
 pub alike_fired : (fs : List Firing) (s : Batched) → Alike (fired fs s) s
 alike_fired [] s = alike_own s
@@ -117,16 +133,6 @@ sane_fired (f ∷ fs) s sane = sane_fired fs _ (sane_fire f.bid f.kind s sane)
 
 -- ## What was fired
 
-abbrev pub has_kind : Kind → Fired → Bool
-has_kind Complete f = f.complete
-has_kind Success f = f.success
-has_kind Death f = f.death
-
--- of the batch of this id
-abbrev pub was_fired : Kind → Bytes → List BatchEntry → Bool
-was_fired kind b [] = false
-was_fired kind b (e ∷ es) = cond (has_bid b e) (has_kind kind e.0) (was_fired kind b es)
-
 kind_with : (kind k : Kind) (f : Fired) → has_kind kind (with_kind k f) ≡ has_kind kind f || same_kind kind k
 kind_with kind k f = grind arith
 
@@ -134,7 +140,7 @@ pub fired_there : (kind : Kind) (b : Bytes) (bs : List BatchEntry) → was_fired
 fired_there kind b [] f = f
 fired_there kind b (e ∷ es) f = grind (arith, fired_there kind b es)
 
-fired_retagged : (kind k : Kind) (x b : Bytes) (bs : List BatchEntry) → was_fired kind b (retagged (has_bid x) (with_kind k) bs) ≡ was_fired kind b bs || (is_there b bs && (bytes_eq x b && same_kind kind k))
+pub fired_retagged : (kind k : Kind) (x b : Bytes) (bs : List BatchEntry) → was_fired kind b (retagged (has_bid x) (with_kind k) bs) ≡ was_fired kind b bs || (is_there b bs && (bytes_eq x b && same_kind kind k))
 fired_retagged kind k x b [] = refl
 fired_retagged kind k x b (e ∷ es) = grind (arith, bytes_tell, kind_with kind k e.0, fired_retagged kind k x b es)
 

@@ -1,11 +1,20 @@
 -- How many bytes the rows' texts have.
-use Rattle.std.proofs.Common.{◌≡◌, ◌+◌, List, [], ◌∷◌, ap, suc, arith, refl, map, length}
+use Rattle.std.proofs.Common.{◌≡◌, ◌+◌, List, [], ◌∷◌, ap, suc, arith, refl, map, length, false, ◌≤◌}
 use Rattle.std.proofs.lemmas.List.Sums.{sum_by-cons, sum-map}
+use Rattle.std.specs.Prelude.{Bool, Result, Ok, Err, OnOk}
+use Rattle.sk_undo.specs.Steps.{Steps, edited}
 use Rattle.sk_resp.specs.Spelling.{Bytes}
+use Rattle.sk_cmd.specs.declared.argument.Side.{Side}
+use Rattle.sk_lives.specs.declared.origin.Origin.{Origin}
+use Rattle.sk_lives.specs.Totals.{pushes_in}
+use Rattle.sk_lives.proofs.Accounts.{pushed_count}
+use Rattle.sk_places.specs.Placed.{Placed, pushed_to}
+use Rattle.sk_places.specs.Rows.{is_fresh}
 use Rattle.sk_zset.specs.Pair.{Pair}
 use Rattle.sk_places.specs.declared.row.Row.{Row}
 use Rattle.sk_places.specs.Order.{bytes_of as row_bytes}
-use Rattle.sk_model.specs.Room.{bytes_of}
+use Rattle.sk_model.specs.World.{World}
+use Rattle.sk_model.specs.Room.{HasRoom, bytes_of, is_full}
 
 pub bytes_are : (rows : List Row) → row_bytes rows ≡ bytes_of (map (λ (row : Row). row.text) rows)
 bytes_are [] = refl
@@ -19,3 +28,18 @@ one_more text texts = omega (arith, sum_by-cons length text texts, sum-map lengt
 pub how_many_pairs : (pairs : List Pair) → length (map (λ (pair : Pair). pair.1) pairs) ≡ length pairs
 how_many_pairs [] = refl
 how_many_pairs (pair ∷ pairs) = ap suc (how_many_pairs pairs)
+
+-- ## Room for pushes
+
+-- where the texts are not too much there is room for as many pushes
+pub room_left : (w : World) (texts : List Bytes) → is_full w texts ≡ false → HasRoom (length texts) w.tally
+room_left w texts few some = grind (arith, few)
+
+-- a push that was done is one more
+pub pushed_few : {A E : Type 0} (r : Result A E) (from : Origin) (held : Bool) (end : Side) (row : Row) (old new : Steps Placed) → OnOk r (new ≡ edited (pushed_to from held end row old.stands) old)
+    → OnOk r (pushes_in new.stands.lives.totals ≤ pushes_in old.stands.lives.totals + 1)
+pushed_few (Ok x) from held end row old new e =
+    let one = pushed_count from (is_fresh held old.stands.rows) row.text old.stands.lives in
+    let is = ap (λ (s : Steps Placed). pushes_in s.stands.lives.totals) e in
+    omega (arith, one, is)
+pushed_few (Err x) from held end row old new e = tt

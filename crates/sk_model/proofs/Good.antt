@@ -14,13 +14,14 @@ use Rattle.sk_model.specs.World.{World}
 use Rattle.sk_model.specs.Change.{Add, Carry, Take, Trim, PutBack, Free, Change, Moves, Passes, Names, Unnames, Keeps, Turns, Beats, Counts, Recovers, Forgets, changed, perform}
 use Rattle.sk_lives.specs.Lives.{one_if}
 use Rattle.sk_model.specs.Once.{CallsFollow, times, buries, is_dead_set}
-use Rattle.sk_lives.specs.declared.origin.Origin.{Origin}
+use Rattle.sk_lives.specs.declared.origin.Origin.TheVariants.{Outside}
 use Rattle.sk_model.proofs.Kept.{Ready}
 use Rattle.sk_model.proofs.Marked.{Sane}
 pub use Rattle.sk_model.proofs.Fired.{perform-append}
 use Rattle.sk_model.proofs.Fired.{was_fired, all_quiet, quiet_batches, quiet_times, times-append}
 use Rattle.sk_model.proofs.Leads.{Leads, StaysWhole, leads_own, leads_same, leads_then}
 use Rattle.sk_model.proofs.Calls.{calls-append, calls_quiet}
+use Rattle.sk_model.proofs.Covering.{Covers, covers_append, covers_quiet}
 use Rattle.sk_model.proofs.Keeps.{KeepsJobs, keeps_nothing, keeps_append, keeps_others, keeps_add, keeps_put, keeps_carry, keeps_take, keeps_trim, keeps_free, keeps_turn, keeps_passes, keeps_names, keeps_unnames, keeps_keeps, keeps_beats, keeps_counts, keeps_recovers, keeps_forgets}
 
 -- a member of the batch was buried, and death was fired
@@ -38,6 +39,7 @@ pub record Lawful (w : World) (changes : List Change) : Type 0 where
   pub leads : Leads w.batches (perform w changes).batches (λ kind b. times kind b changes)
   pub deaths : Deaths w changes
   pub calls : Sane w.batches → CallsFollow w changes
+  pub covers : Covers w changes
 
 -- the same, where no batch gets jobs
 pub record Good (w : World) (changes : List Change) : Type 0 where
@@ -76,6 +78,7 @@ good_append w one more first then_ = record {
         (leads_then w.batches (perform w one).batches (perform (perform w one) more).batches _ _ _ (λ kind b. times-append kind b one more) first.lawful.leads then_.lawful.leads then_.stays);
     deaths = deaths_append w one more first.lawful.leads.sane first.lawful.deaths then_.lawful.deaths;
     calls = λ s. calls-append w one more (first.lawful.calls s) (then_.lawful.calls (first.lawful.leads.sane s));
+    covers = covers_append w one more first.lawful.covers then_.lawful.covers;
   };
   stays = subst (λ (v : World). StaysWhole w.batches v.batches) (sym (perform-append w one more)) (λ b h. then_.stays b (first.stays b h));
 }
@@ -105,6 +108,7 @@ good_quiet w changes keeps quiet none =
           died = λ s b. let end = ap (λ (t : Batched). has_died t b) same in let no = none b in grind (arith, end, no);
         };
         calls = λ s. calls_quiet w changes quiet;
+        covers = covers_quiet w changes quiet;
       };
       stays = stays_quiet w changes quiet;
     }
@@ -112,8 +116,9 @@ good_quiet w changes keeps quiet none =
 pub good_nothing : (w : World) → Good w []
 good_nothing w = good_quiet w [] (keeps_nothing w) refl (λ b. refl)
 
-pub good_add : (w : World) (row : Row) (end : Side) (from : Origin) → Good w (Moves (Add row end from) ∷ [])
-good_add w row end from = good_quiet w _ (keeps_add w row end from) refl (λ b. refl)
+-- a client pushes
+pub good_add : (w : World) (row : Row) (end : Side) → Good w (Moves (Add row end Outside) ∷ [])
+good_add w row end = good_quiet w _ (keeps_add w row end Outside) refl (λ b. refl)
 
 -- a text may be put back, but for the dead set
 pub good_put : (w : World) (row : Row) → is_dead_set row.place ≡ false → Good w (Moves (PutBack row) ∷ [])
@@ -171,4 +176,5 @@ lawful_passes w now changes l = record {
   leads = leads_same w.batches (perform w (Passes now ∷ changes)).batches _ _ (λ kind b. omega arith) l.leads;
   deaths = deaths_append w (Passes now ∷ []) changes (λ s. s) (good_passes w now).lawful.deaths l.deaths;
   calls = λ s. ((changes, refl), l.calls s);
+  covers = l.covers;
 }

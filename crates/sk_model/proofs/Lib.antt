@@ -10,6 +10,7 @@ pub mod Lines
 pub mod Marked
 pub mod Fired
 pub mod Leads
+pub mod Covering
 pub mod Calls
 pub mod Telling
 pub mod Keeps

@@ -7,16 +7,8 @@ use Rattle.sk_batch.specs.Fires.{retagged}
 use Rattle.sk_batch.specs.Lines.{line, line_above, is_under}
 use Rattle.sk_batch.specs.declared.batch.Fired.{Fired}
 use Rattle.sk_lives.specs.Lives.{one_if}
+pub use Rattle.sk_model.specs.Covered.{IsTree, ParentThere}
 use Rattle.sk_model.proofs.Texts.{bytes_tell}
-
-abbrev pub ParentThere : List BatchEntry → Option Bytes → Type 0
-ParentThere batches None = Unit {0}
-ParentThere batches (Some parent) = is_there parent batches ≡ true
-
--- no id is used twice, and each parent was made before
-abbrev pub IsTree : List BatchEntry → Type 0
-IsTree [] = Unit {0}
-IsTree (b ∷ older) = (is_there b.1.bid older ≡ false) × ParentThere older b.1.parent × IsTree older
 
 above_there : (bs : List BatchEntry) (o : Option Bytes) (b : Bytes) → ((p : Bytes) → is_there p bs ≡ true → is_under bs p b ≡ true → is_there b bs ≡ true) → ParentThere bs o → list_any (has_bid b) (line_above o (line bs)) ≡ true → is_there b bs ≡ true
 above_there bs None b ih t h = absurd (cc h)

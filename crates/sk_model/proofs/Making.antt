@@ -1,5 +1,5 @@
 -- A batch is made, or gets jobs. The laws hold over it.
-use Rattle.std.proofs.Common.{◌≡◌, List, [], ◌∷◌, ◌++◌, refl, sym, ap, subst, ◌∙◌, inl, arith, Bool, true, false, cond, not, ◌&&◌, ◌||◌}
+use Rattle.std.proofs.Common.{◌≡◌, ◌≤◌, ℕ, ◌+◌, List, [], ◌∷◌, ◌++◌, length, refl, sym, ap, subst, ◌∙◌, inl, arith, Bool, true, false, cond, not, ◌&&◌, ◌||◌}
 use Rattle.std.specs.Prelude.{Option, Some, None}
 use Rattle.std.specs.List.{list_any}
 use Rattle.std.specs.Str.{bytes_eq}
@@ -8,7 +8,7 @@ use Rattle.sk_payload.specs.Member.{is_name}
 use Rattle.sk_batch.specs.Batched.{Batched, is_there}
 use Rattle.sk_batch.specs.Events.{fired, joined, made, made_fires}
 use Rattle.sk_batch.specs.Fires.{callback}
-use Rattle.sk_batch.specs.Faults.{bid_fault, batch_fault, jids_fault, breaks, is_full}
+use Rattle.sk_batch.specs.Faults.{bid_fault, batch_fault, jids_fault, make_fault, breaks, is_full}
 use Rattle.sk_batch.specs.Open.{is_settled, is_reported}
 use Rattle.sk_batch.specs.declared.batch.Batch.{Batch}
 use Rattle.sk_batch.specs.declared.batch_fault.BatchFault.{BatchFault}
@@ -20,6 +20,7 @@ use Rattle.sk_batch.specs.declared.member.Mark.TheVariants.{Reported, Returned}
 use Rattle.sk_lives.specs.declared.origin.Origin.TheVariants.{Outside}
 use Rattle.sk_model.specs.World.{World}
 use Rattle.sk_lives.specs.Lives.{one_if}
+use Rattle.sk_model.specs.Covered.{IsCovered, fired_count}
 use Rattle.sk_model.specs.Change.{Makes, Joins, Change, with_batch, changed, perform}
 use Rattle.sk_model.specs.Outcome.{Outcome}
 use Rattle.sk_model.specs.Room.{is_too_much}
@@ -31,6 +32,7 @@ use Rattle.sk_model.proofs.Marked.{Alike, ParentTakes, Sane, Takes, marked_alike
 use Rattle.sk_model.proofs.Fired.{alike_fired, all_quiet, count_named, fire_all_batches, fire_all_times, fired_after, fired_there, job_quiet, named, perform-append, quiet-append, quiet_batches, quiet_times, sane_fired, times-append, was_fired}
 use Rattle.sk_model.proofs.Leads.{Leads, was_completed, leads_same}
 use Rattle.sk_model.proofs.Calls.{AllCalled, calls-append, calls_fired, calls_quiet}
+use Rattle.sk_model.proofs.Covering.{count_all, covers_fired, few_append, fires_few, none_dies_once, quiet_calls}
 use Rattle.sk_model.proofs.Keeps.{KeepsJobs, keeps_nothing, keeps_append, keeps_others, keeps_makes, keeps_joins}
 use Rattle.sk_model.proofs.Good.{Lawful, good_nothing, buries-append, has_died}
 use Rattle.sk_model.proofs.Told.{fires_bury, fires_keep, job_buries, job_keeps}
@@ -139,6 +141,12 @@ module _ (s : Batched) (batch : Batch) (jids : List Bytes) (new : is_there batch
     by_jids [] = (own Complete, (own Success, tt))
     by_jids (j ∷ js) = tt
 
+  -- what it fires is covered
+  pub made_count : (callbacks : ℕ) → IsCovered callbacks s → callbacks + length fs ≤ fired_count end.batches
+  made_count callbacks c =
+      let count = count_all s v fs made_leads (λ kind b h. grind (arith, h)) (λ b sane. none_dies_once s v fs b (no_deaths b).0) c.sane c.settled in
+      omega (arith, count, c.fired)
+
 -- ## A batch gets jobs
 
 joined_leads : (s : Batched) (x : Bytes) (jids : List Bytes) → Takes s x → Leads s (joined x jids s) (λ kind b. 0)
@@ -157,7 +165,7 @@ joined_leads s x jids takes = record {
 
 pub jobs_quiet : (texts : List Bytes) → all_quiet (push_jobs texts) ≡ true
 jobs_quiet [] = refl
-jobs_quiet (text ∷ texts) = quiet-append (push_job Outside text) (push_jobs texts) (job_quiet Outside text) (jobs_quiet texts)
+jobs_quiet (text ∷ texts) = quiet-append (push_job Outside text) (push_jobs texts) (job_quiet text) (jobs_quiet texts)
 
 jobs_bury : (b : Bytes) (w : World) (texts : List Bytes) → buries b w (push_jobs texts) ≡ false
 jobs_bury b w [] = refl
@@ -226,6 +234,9 @@ make_lawful w batch texts new takes =
         died = λ s b. let is = ap (λ (t : Batched). has_died t b) end in let same = died_is w.batches batch jids new takes b in let no = rest_buries w c texts firings b in grind (arith, is, same, no);
       };
       calls = λ s. ((push_jobs texts ++ fire_all firings, refl), rest_calls w c texts firings (made_called w.batches batch jids new takes));
+      covers = covers_fired w (make batch texts).changes (changed w c).batches firings end (made_leads w.batches batch jids new takes) (omega arith) (λ kind b h. grind (arith, h))
+          (λ b sane. none_dies_once w.batches (changed w c).batches firings b (no_deaths w.batches batch jids new takes b).0)
+          (let few = few_append (push_jobs texts) (fire_all firings) (length firings) (quiet_calls (push_jobs texts) (jobs_quiet texts)) (fires_few firings) in omega (arith, few));
     }
 
 join_lawful : (w : World) (bid : Bytes) (texts : List Bytes) → Takes w.batches bid → Lawful w (join bid texts).changes
@@ -241,6 +252,8 @@ join_lawful w bid texts takes =
         died = λ s b. let is = ap (λ (t : Batched). has_died t b) end in let no = jobs_bury b (changed w c) texts in grind (arith, is, no);
       };
       calls = λ s. ((push_jobs texts, refl), calls_quiet (changed w c) (push_jobs texts) (jobs_quiet texts));
+      covers = covers_fired w (join bid texts).changes (changed w c).batches [] end (joined_leads w.batches bid (jids_of texts) takes) refl (λ kind b h. h)
+          (λ b sane. none_dies_once w.batches (changed w c).batches [] b refl) (omega (arith, quiet_calls (push_jobs texts) (jobs_quiet texts)));
     }
 
 -- ## The commands
@@ -254,9 +267,19 @@ fault_or : (w : World) (fault : Option BatchFault) (o : Outcome) → (fault ≡ 
 fault_or w None o f = f refl
 fault_or w (Some fault) o f = (good_nothing w).lawful
 
+first_clear : (bid : Bytes) (parent : Option Bytes) (s : Batched) (later : Option BatchFault) → bid_fault bid parent s later ≡ None → bid_fault bid parent s None ≡ None
+first_clear bid None s later e = grind (arith, e)
+first_clear bid (Some p) s later e = grind (arith, e)
+
 pub bid_clear : (bid : Bytes) (parent : Option Bytes) (s : Batched) → bid_fault bid parent s None ≡ None → (is_there bid s.batches ≡ false) × ParentTakes s parent
 bid_clear bid None s e = (grind (arith, e), tt)
 bid_clear bid (Some p) s e = (grind (arith, e), (grind (arith, e), grind (arith, e)))
+
+-- a batch that breaks no rule
+pub clear_count : (batch : Batch) (jids : List Bytes) (s : Batched) (callbacks : ℕ) → make_fault batch.bid batch.parent jids s ≡ None → IsCovered callbacks s → callbacks + length (made_fires batch jids) ≤ fired_count (made batch jids s).batches
+clear_count batch jids s callbacks none c =
+    let k = bid_clear batch.bid batch.parent s (first_clear batch.bid batch.parent s _ none) in
+    made_count s batch jids k.0 k.1 callbacks c
 
 batch_clear : (bid : Bytes) (s : Batched) → batch_fault bid s None ≡ None → Takes s bid
 batch_clear bid s e = (grind (arith, e), grind (arith, e))

@@ -14,17 +14,9 @@ use Rattle.sk_batch.specs.declared.member.Mark.{Mark}
 use Rattle.sk_batch.specs.declared.member.Mark.TheVariants.{Reported, Returned}
 use Rattle.sk_batch.specs.declared.member.Marks.{Marks}
 use Rattle.sk_model.specs.Change.{after_fire, with_batch}
+pub use Rattle.sk_model.specs.Covered.{AtHome, Sane}
 use Rattle.sk_model.proofs.Texts.{bytes_tell}
 use Rattle.sk_model.proofs.Lines.{IsTree, ParentThere, line_there, line_older, under_own, under_through, there_retagged, under_retagged, tree_retagged}
-
--- each member's batch is there
-abbrev pub AtHome : List BatchEntry → List MemberEntry → Type 0
-AtHome bs [] = Unit {0}
-AtHome bs (m ∷ ms) = (is_there m.1.bid bs ≡ true) × AtHome bs ms
-
-pub record Sane (s : Batched) : Type 0 where
-  pub tree : IsTree s.batches
-  pub homes : AtHome s.batches s.members
 
 -- each member under the batch has the mark
 abbrev pub is_marked : Mark → Batched → Bytes → Bool

@@ -44,6 +44,7 @@ use Rattle.sk_model.proofs.Fired.{all_quiet, quiet-append, quiet_batches, quiet_
 use Rattle.sk_model.proofs.Leads.{Leads, StaysWhole, leads_then}
 use Rattle.sk_model.proofs.Calls.{calls-append, calls_quiet}
 use Rattle.sk_model.proofs.Keeps.{KeepsJobs, keeps_append, keeps_others, keeps_carry, keeps_merge}
+use Rattle.sk_model.proofs.Covering.{covers_append, covers_quiet}
 use Rattle.sk_model.proofs.Good.{Good, buries-append, has_died, leads_quiet, stays_quiet, good_nothing, good_append, then_others, perform-append, good_add, good_carry, good_take, good_trim}
 use Rattle.sk_model.proofs.Told.{TellsDeath, tells_death, tell_more}
 
@@ -112,7 +113,7 @@ all_append test (x ∷ xs) ys all more = grind (arith, all_append test xs ys)
 -- ## ZADD, and what takes rows away
 
 add_as_good : (w : World) (set : Scored) (pair : Pair) (found : Option Row) → is_dead_set (Set set) ≡ false → row_of pair.1 (rows_at (Set set) w.rows) ≡ found → Good w (add_as set pair found ∷ [])
-add_as_good w set pair None alive e = good_add w (row_in set pair) Left Outside
+add_as_good w set pair None alive e = good_add w (row_in set pair) Left
 add_as_good w set pair (Some row) alive e = good_carry w row Left (Set set) pair.0 Left (row_there pair.1 row (Set set) w.rows e) alive
 
 pub add_each_good : (w : World) (set : Scored) (pairs : List Pair) → is_dead_set (Set set) ≡ false → Good w (add_each w set pairs)
@@ -239,6 +240,7 @@ module _ (w : World) (text : Bytes) (put : List Change) (one : Buries w text put
             grind (arith, is, all, died, end);
       };
       calls = λ s. calls-append w done told (calls_quiet w done done_quiet) (told_death.calls (sane_done s));
+      covers = covers_append w done told (covers_quiet w done done_quiet) told_death.covers;
     };
     stays = subst (λ (v : World). StaysWhole w.batches v.batches) (sym end_is) (λ b h. told_death.stays b (stays_quiet w done done_quiet b h));
   }

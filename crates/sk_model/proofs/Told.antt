@@ -1,5 +1,5 @@
 -- The changes by which a batch is told of a job.
-use Rattle.std.proofs.Common.{◌≡◌, ◌≤◌, List, [], ◌∷◌, refl, sym, ap, subst, ◌∙◌, arith, Bool, true, false, cond, not, ◌&&◌, ◌||◌}
+use Rattle.std.proofs.Common.{◌≡◌, ◌≤◌, ℕ, ◌+◌, List, [], ◌∷◌, length, refl, sym, ap, subst, ◌∙◌, arith, Bool, true, false, cond, not, ◌&&◌, ◌||◌}
 use Rattle.std.specs.Prelude.{Option, Some, None, filter}
 use Rattle.std.specs.List.{list_any}
 use Rattle.std.specs.Str.{bytes_eq}
@@ -28,6 +28,7 @@ use Rattle.sk_lives.specs.declared.origin.Origin.{Origin}
 use Rattle.sk_lives.specs.declared.origin.Origin.TheVariants.{Inner}
 use Rattle.sk_model.specs.World.{World}
 use Rattle.sk_lives.specs.Lives.{one_if}
+use Rattle.sk_model.specs.Covered.{IsCovered, fired_count}
 use Rattle.sk_model.specs.Change.{Fire, Tells, Change, Moves, changed, perform}
 use Rattle.sk_places.specs.Rows.{copies_of}
 use Rattle.sk_model.specs.Told.{push_to, push_job, call, fire_all, tell_in, tell_of, tell}
@@ -40,6 +41,7 @@ use Rattle.sk_model.proofs.Leads.{Leads, StaysWhole, leads_own, leads_same}
 use Rattle.sk_model.proofs.Telling.{fires_are, leads, stays_whole, told_fires}
 use Rattle.sk_model.proofs.Calls.{AllCalled, all_called-append, calls_fired, death_called, line_own, own_called}
 use Rattle.sk_model.proofs.Keeps.{KeepsJobs, keeps_nothing, keeps_append, keeps_others, keeps_add, keeps_fire, keeps_tells}
+use Rattle.sk_model.proofs.Covering.{Covers, DiesOnce, count_all, covers_fired, fires_few, none_dies_once}
 use Rattle.sk_model.proofs.Good.{Good, buries-append, good_nothing, has_died}
 
 -- ## A job that is no member
@@ -239,6 +241,29 @@ module _ (e : Event) (w : World) (bid jid : Bytes) where
   told_died : (b : Bytes) → has_died (perform w (tell_in e w jid (Some bid)).changes).batches b ≡ has_died w.batches b || (is_there b w.batches.batches && list_any (named Death b) fs)
   told_died b = ap (λ (t : Batched). has_died t b) told_batches ∙ fired_after Death b fs w.batches.batches
 
+-- ## Callbacks are covered
+
+-- death is fired once, if at all
+told_dies : (e : Event) (bid jid : Bytes) (s : Batched) (b : Bytes) → Sane s → DiesOnce s (marked (mark_of e) bid jid s) (fires_of e bid jid s) b
+told_dies event.Reported bid jid s b sane = none_dies_once s (marked Reported bid jid s) _ b (none_dies event.Reported bid jid s b (λ e. cc e)).0
+told_dies event.Returned bid jid s b sane = none_dies_once s (marked Returned bid jid s) _ b (none_dies event.Returned bid jid s b (λ e. cc e)).0
+told_dies event.Died bid jid s b sane =
+    let one = (member_dies bid jid s b sane).0 in
+    let there = home_there s.batches s.members bid jid sane.homes in
+    (grind (arith, one), λ some. grind (arith, bytes_tell, one, some, there))
+
+-- as many callbacks more as are fired stay covered
+pub told_count : (callbacks : ℕ) (e : Event) (bid jid : Bytes) (s : Batched) → IsCovered callbacks s → callbacks + length (fires_of e bid jid s) ≤ fired_count (after_told e bid jid s).batches
+told_count callbacks e bid jid s c =
+    let count = count_all s (marked (mark_of e) bid jid s) (fires_of e bid jid s) (leads_told e bid jid s) (λ kind b h. h) (told_dies e bid jid s) c.sane c.settled in
+    omega (arith, count, c.fired)
+
+pub tell_covers : (e : Event) (w : World) (jid : Bytes) (o : Option Bytes) → Covers w (tell_in e w jid o).changes
+tell_covers e w jid None c = c
+tell_covers e w jid (Some bid) c =
+    covers_fired w (tell_in e w jid (Some bid)).changes (marked (mark_of e) bid jid w.batches) (fires_of e bid jid w.batches) (told_batches e w bid jid) (leads_told e bid jid w.batches) refl (λ kind b h. h) (told_dies e bid jid w.batches)
+    (omega (arith, fires_few (fires_of e bid jid w.batches))) c
+
 -- what is told but for a burying
 module _ (e : Event) (alive : e ≡ event.Died → ⊥) where
   tell_in_good : (w : World) (jid : Bytes) (o : Option Bytes) → Good w (tell_in e w jid o).changes
@@ -252,6 +277,7 @@ module _ (e : Event) (alive : e ≡ event.Died → ⊥) where
         died = λ s b. let none = none_dies e bid jid w.batches b alive in let is = told_died e w bid jid b in let no = told_buries e w bid jid b in grind (arith, none.1, is, no);
       };
       calls = told_calls e w bid jid;
+      covers = tell_covers e w jid (Some bid);
     };
     stays = told_stays e w bid jid;
   }
@@ -270,11 +296,12 @@ pub record TellsDeath (w : World) (changes : List Change) (dies : Bytes → Bool
   pub stays : StaysWhole w.batches (perform w changes).batches
   pub buries_none : (b : Bytes) → buries b w changes ≡ false
   pub calls : Sane w.batches → CallsFollow w changes
+  pub covers : Covers w changes
   pub once : Sane w.batches → (b : Bytes) → times Death b changes ≡ one_if (dies b && not (has_died w.batches b))
   pub died : Sane w.batches → (b : Bytes) → has_died (perform w changes).batches b ≡ has_died w.batches b || dies b
 
 nothing_dies : (w : World) → TellsDeath w [] (λ b. false)
-nothing_dies w = record { keeps = keeps_nothing w; leads = (good_nothing w).lawful.leads; stays = λ b h. h; buries_none = λ b. refl; calls = λ s. tt; once = λ s b. refl; died = λ s b. grind arith }
+nothing_dies w = record { keeps = keeps_nothing w; leads = (good_nothing w).lawful.leads; stays = λ b h. h; buries_none = λ b. refl; calls = λ s. tt; covers = λ c. c; once = λ s b. refl; died = λ s b. grind arith }
 
 in_dies : (w : World) (jid : Bytes) (o : Option Bytes) → TellsDeath w (tell_in event.Died w jid o).changes (λ b. names_batch b w.batches jid o)
 in_dies w jid None = nothing_dies w
@@ -284,6 +311,7 @@ in_dies w jid (Some bid) = record {
   stays = told_stays event.Died w bid jid;
   buries_none = told_buries event.Died w bid jid;
   calls = told_calls event.Died w bid jid;
+  covers = tell_covers event.Died w jid (Some bid);
   once = λ s b. told_times event.Died w bid jid Death b ∙ (member_dies bid jid w.batches b s).0;
   died = λ s b.
       let one = member_dies bid jid w.batches b s in

@@ -21,6 +21,7 @@ pub mod Run
 pub mod Life
 pub mod Laws
 pub mod Once
+pub mod Covered
 pub mod Causes
 pub mod Reliable
 pub mod Starving

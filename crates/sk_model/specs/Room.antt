@@ -1,10 +1,11 @@
 -- How much the store takes.
-use Rattle.std.specs.Prelude.{ℕ, ◌+◌, ◌^◌, List, [], ◌∷◌, length, map, Bool, false, ◌||◌, cond}
+use Rattle.std.specs.Prelude.{ℕ, ◌+◌, ◌<◌, ◌≤◌, ◌^◌, List, [], ◌∷◌, length, map, Bool, false, ◌||◌, cond}
 use Rattle.std.specs.Prelude.{nat_lt}
 use Rattle.std.specs.List.{sum}
 use Rattle.sk_resp.specs.Spelling.{Bytes}
 use Rattle.sk_resp.specs.declared.refusal.Refusal.TheVariants.{Full}
 use Rattle.sk_lives.specs.Totals.{pushes_in}
+use Rattle.sk_lives.specs.declared.totals.Totals.{Totals}
 use Rattle.sk_places.specs.Placed.{Placed}
 use Rattle.sk_seats.specs.Phases.{Phases}
 use Rattle.sk_model.specs.declared.limits.Limits.{Limits}
@@ -21,6 +22,10 @@ texts_in w = map (λ row. row.text) w.rows
 -- no store takes more pushes than these, from its first moment on
 abbrev pub most_pushes : ℕ
 most_pushes = 2 ^ 62
+
+-- clients may push so many more rows; none they always may
+abbrev pub HasRoom : ℕ → Totals → Type 0
+HasRoom count t = 0 < count → pushes_in t + count ≤ most_pushes
 
 -- With these texts, all counted as new, there would be too much.
 abbrev pub is_full : World → List Bytes → Bool

@@ -8,5 +8,5 @@ pub struct Limits {
     /// The most bytes of their texts together.
     pub bytes: u64,
     /// The most batches.
-    pub batches: u64,
+    pub batches: u32,
 }

@@ -10,6 +10,7 @@ ghost use Rattle.sk_undo.specs.Rises.{rises};
 ghost use Rattle.sk_undo.specs.Steps.{begun, closed, committed, edited, undone};
 ghost use Rattle.sk_zset.specs.Bounds.{is_above, is_below};
 ghost use Rattle.sk_lives.specs.Lives.{pushed};
+ghost use Rattle.sk_lives.specs.Totals.{IsCountable};
 ghost use Rattle.sk_places.specs.Ends.{ended_of};
 ghost use Rattle.sk_cmd.specs.declared.argument.Scored.TheVariants.{Schedule};
 ghost use Rattle.sk_places.specs.declared.row.Place.TheVariants.{Set};
@@ -284,6 +285,7 @@ impl Rows {
         from: Origin,
         fresh: bool,
     ) -> Result<(), Memory>
+        requires { IsCountable from lives.old.stands.totals }
         ensures ok { OnOk result (self.new ≡ edited (put_row end (as_row (spot, payload)) self.old.stands) self.old) }
         ensures lives { OnOk result (lives.new ≡ edited (pushed from (λ jid. fresh) payload lives.old.stands) lives.old) }
         ensures err { OnErr result (self.new ≡ self.old) }

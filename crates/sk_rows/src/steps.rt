@@ -63,7 +63,7 @@ fn read_limits(words: &[String]) -> io::Result<Limits> {
     let (Ok(rows), Ok(bytes), Ok(batches)) = (
         rows.parse::<u64>(),
         bytes.parse::<u64>(),
-        batches.parse::<u64>(),
+        batches.parse::<u32>(),
     ) else {
         return Err(invalid());
     };

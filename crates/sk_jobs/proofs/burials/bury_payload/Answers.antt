@@ -13,7 +13,7 @@ use Rattle.sk_jobs.proofs.burials.bury_payload.Goals as goal
 pub returns-clause-ok : goal.returns-clause-ok
 returns-clause-ok c =
     let moment = c.args.moment in
-    let now : min moment last_moment ≡ moment = omega (arith, c.requires) in
+    let now : min moment last_moment ≡ moment = omega (arith, c.requires.early) in
     let score : c.of_moment.result ≡ pos (moment * 1000) = c.of_moment.ensures ∙ ap (λ n. pos (n * 1000)) now in
     if_ok _ _ c.told.result (λ reply tells. λ w phases seat ident held alike.
     let v = at w moment c.args.stock.now phases in

@@ -1,5 +1,6 @@
-use Rattle.std.proofs.Common.{◌≡◌, ◌++◌}
+use Rattle.std.proofs.Common.{◌≡◌, ◌≤◌, ◌+◌, ◌++◌, length}
 use Rattle.std.specs.Prelude.{Bool}
+use Rattle.sk_lives.specs.Totals.{last_push, pushes_in}
 use Rattle.sk_places.specs.declared.row.Place.{Place}
 use Rattle.sk_model.specs.Change.{perform}
 use Rattle.sk_seats.specs.Phases.{Phases}
@@ -16,5 +17,6 @@ invariant-loop-firing l = record {
   called : (w : World) (phases : Phases) → Alike phases l.seats → perform (with_seats w l.places.stands phases) (calls l.firing-iterator.rest.items) ≡ perform (with_seats w l.initial.places.stands phases) (calls l.initial.firing-iterator.rest.items);
   told : l.fired.items ++ fired_texts l.firing-iterator.rest.items ≡ fired_texts l.initial.firing-iterator.rest.items;
   aside : (test : Place → Bool) → IsAside test → rows_in test l.places.stands.rows ≡ rows_in test l.initial.places.stands.rows;
+  few : pushes_in l.places.stands.lives.totals + length l.firing-iterator.rest.items ≤ last_push;
   step : l.places.stood ≡ l.initial.places.stood;
 }

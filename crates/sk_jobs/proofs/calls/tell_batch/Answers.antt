@@ -1,6 +1,8 @@
-use Rattle.std.proofs.Common.{ap}
+use Rattle.std.proofs.Common.{Some, ap, refl, subst}
 use Rattle.sk_jobs.specs.Stocked.{at}
 use Rattle.sk_jobs.proofs.Calling.{if_both, told_is}
+use Rattle.sk_jobs.proofs.Covering.{on_if, told_covered, told_fits}
+use Rattle.sk_jobs.proofs.Rescuing.{some_world}
 use Rattle.sk_jobs.proofs.calls.tell_batch.Goals as goal
 
 pub returns-clause-ok : goal.returns-clause-ok
@@ -11,3 +13,11 @@ returns-clause-ok c =
     let v = at w moment old phases in
     told_is v (at w moment (record old { places = c.call_all.new.places }) phases) c.args.event member.bid member.jid fired.items c.in_ok-firings.firings.items c.fire.new.batches.stands
     c.in_ok-firings.ensures.fires (ap (λ s. s.stands) c.in_ok-firings.ensures.ok) named (called v phases alike)) c.call_all.ensures.texts c.call_all.ensures.ok
+
+pub call_all-requires : goal.call_all-requires
+call_all-requires c = ?
+
+pub returns-clause-covered : goal.returns-clause-covered
+returns-clause-covered c =
+    let old = at some_world 0 c.args.stock.now c.args.seats.now in
+    on_if _ _ c.call_all.result (λ fired told. told_covered old _ fired.items c.args.event c.args.member.now.jid (Some c.args.member.now.bid) (told some_world 0 c.args.seats.now (λ jid. refl)) c.requires) (returns-clause-ok c)

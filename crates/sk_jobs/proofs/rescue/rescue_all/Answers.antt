@@ -16,6 +16,7 @@ pub loop-after-init : goal.loop-after-init
 loop-after-init c = record {
   sent = λ w phases alike. none_sent rescue_row (at w c.args.moment c.args.stock.now phases) c.nothing-report.result (left_rows (at w c.args.moment c.args.stock.now phases)) c.nothing-report.ensures.none.0 c.nothing-report.ensures.none.1 c.nothing-report.ensures.texts.0 c.nothing-report.ensures.texts.1;
   passed = λ w phases. none_passed (at w c.args.moment c.args.stock.now phases);
+  covered = c.requires.covered;
   step = record { places = refl; leases = refl; batches = refl; counters = refl };
 }
 
@@ -57,6 +58,7 @@ loop-after-preserved c =
           (many_sent (left_rows old) (rows_at (Private ident) s.places.stands.rows) (others w phases) (left_rows (now_in w phases)) old (now_in w phases) (at w c.args.moment next phases) c.loop-after.report c.in_ok-more.more c.append.new.self
           (front w phases).front (was.sent w phases alike) (c.in_ok-more.ensures.ok w phases alike) c.append.ensures.moved c.append.ensures.buried c.in_ok-append.ensures.fired c.in_ok-append.ensures.trimmed);
       passed = λ w phases. passed_on c.next_gone.new.after ident (now_in w phases) (at w c.args.moment next phases) (left w phases) (c.in_ok-ident.ensures.passed w phases);
+      covered = c.in_ok-more.ensures.covered;
       step = both_keep c.args.stock.now s next was.step c.in_ok-more.ensures.step;
     }
 

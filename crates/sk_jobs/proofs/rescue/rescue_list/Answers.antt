@@ -35,6 +35,7 @@ loop-left-preserved c =
           c.in_ok-one.ensures.left test first.row first.more (first.more ++ others) aside front (was.left test others aside parts ∙ ap (λ rows. rows ++ others) first.is) ∙ ap (λ rows. rows ++ others) (sym gone);
       enough = omega (arith, was.enough, ap length first.is, ap length gone);
       number = omega (arith, was.number, c.in_ok-one.ensures.one, c.append.ensures.moved, c.append.ensures.buried, c.loop-left-test.true);
+      covered = c.in_ok-one.ensures.covered;
       step = both_keep c.args.stock.now s next was.step c.in_ok-one.ensures.step;
     }
 

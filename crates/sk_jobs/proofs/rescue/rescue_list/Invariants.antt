@@ -8,7 +8,7 @@ use Rattle.sk_model.specs.Rescue.{rescue_row}
 use Rattle.sk_model.specs.World.{World}
 use Rattle.sk_jobs.specs.Calls.{Alike}
 use Rattle.sk_jobs.specs.Sending.{IsAside, rows_in}
-use Rattle.sk_jobs.specs.Stocked.{KeepsStep, at}
+use Rattle.sk_jobs.specs.Stocked.{AreCovered, KeepsStep, at}
 use Rattle.sk_jobs.proofs.SentOn.{IsLeft}
 use Rattle.sk_jobs.proofs.rescue.rescue_list.Given as goal
 
@@ -22,5 +22,6 @@ invariant-loop-left l = record {
   left : (test : Place → Bool) (others : List Row) → IsAside test → rows_in test l.initial.stock.places.stands.rows ≡ rows_at (Private l.fn.ident) l.initial.stock.places.stands.rows ++ others → rows_in test l.stock.places.stands.rows ≡ rows_at (Private l.fn.ident) l.stock.places.stands.rows ++ others;
   enough : l.left ≡ length (rows_at (Private l.fn.ident) l.stock.places.stands.rows);
   number : l.report.moved + l.report.buried + l.left ≡ length (rows_at (Private l.fn.ident) l.initial.stock.places.stands.rows);
+  covered : AreCovered l.stock;
   step : KeepsStep l.initial.stock l.stock;
 }

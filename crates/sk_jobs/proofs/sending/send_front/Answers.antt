@@ -42,6 +42,7 @@ loop-left-preserved c =
           (one_sent send (at w c.args.moment c.args.stock.now phases) v (at w c.args.moment next phases) c.loop-left.report c.in_ok-one.one c.append.new.self all (take k more) row left_front (c.in_ok-one.ensures.ok w phases row more alike front) done.moved done.buried c.in_ok-append.ensures.fired c.in_ok-append.ensures.trimmed);
       enough = omega (arith, enough, ap length front, ap length behind);
       number = omega (arith, was.number, number, c.in_ok-one.ensures.one, done.moved, done.buried);
+      covered = c.in_ok-one.ensures.covered;
       step = step_again was.step c.in_ok-one.ensures.step;
     }
 

@@ -1,0 +1,81 @@
+-- The callbacks that were pushed are no more than were fired, before a batch is told and after it.
+use Rattle.std.proofs.Common.{◌≡◌, ◌<◌, ◌≤◌, ◌^◌, ℕ, zero, suc, ◌+◌, List, [], ◌∷◌, length, refl, sym, ap, subst, ◌∙◌, arith}
+use Rattle.std.specs.Prelude.{Bool, ℤ, Option, Some, None, Result, Ok, Err, IfOk, OnOk}
+use Rattle.sk_cmd.specs.declared.argument.Side.{Side}
+use Rattle.sk_resp.specs.Spelling.{Bytes}
+use Rattle.sk_lives.specs.declared.ending.Ending.{Ending}
+use Rattle.sk_lives.specs.declared.totals.Totals.{Totals}
+use Rattle.sk_lives.specs.Lives.{jid_of, one_if, was_live}
+use Rattle.sk_lives.specs.Totals.{last_outside, last_push, pushes_in}
+use Rattle.sk_lives.proofs.Accounts.{end_inner}
+use Rattle.sk_places.specs.declared.row.Place.{Place}
+use Rattle.sk_places.specs.declared.row.Row.{Row}
+use Rattle.sk_places.specs.Placed.{Placed, ended_row, ended_rows, moved_if, without_if}
+use Rattle.sk_batch.specs.Batched.{Batched}
+use Rattle.sk_batch.specs.Events.{fired, made, made_fires, marked}
+use Rattle.sk_batch.specs.Faults.{make_fault}
+use Rattle.sk_batch.specs.Told.{fires_of, mark_of}
+use Rattle.sk_batch.specs.declared.batch.Batch.{Batch}
+use Rattle.sk_batch.specs.declared.event.Event.{Event}
+use Rattle.sk_batch.specs.declared.firing.Firing.{Firing}
+use Rattle.sk_model.specs.Batches.{push_jobs}
+use Rattle.sk_model.specs.Change.{perform}
+use Rattle.sk_model.specs.Covered.{IsCovered, fired_count}
+use Rattle.sk_model.specs.Told.{tell_in}
+use Rattle.sk_model.specs.World.{World}
+use Rattle.sk_model.proofs.Covering.{count_few, quiet_calls, through_inner}
+use Rattle.sk_model.proofs.Making.{clear_count, jobs_quiet}
+use Rattle.sk_model.proofs.Told.{tell_covers, told_count}
+use Rattle.sk_jobs.specs.Calls.{IsTold}
+
+-- ## How many pushes there are
+
+-- where so many batches have fired no more than three callbacks each
+few_fired : (t : Totals) (s : Batched) (count : ℕ) → t.inner + count ≤ fired_count s.batches → t.outside ≤ last_outside → length s.batches < 2 ^ 32 → pushes_in t + count ≤ last_push
+few_fired t s count covered outside few = omega (arith, covered, outside, few, count_few s.batches)
+
+-- what a batch fires that is told of a job can be pushed
+pub told_fits : (t : Totals) (s end : Batched) (e : Event) (bid jid : Bytes) (fs : List Firing) → IsCovered t.inner s → fs ≡ fires_of e bid jid s → end ≡ fired (fires_of e bid jid s) (marked (mark_of e) bid jid s) → t.outside ≤ last_outside → length end.batches < 2 ^ 32
+    → pushes_in t + length fs ≤ last_push
+told_fits t s end e bid jid fs c fires is outside few =
+    let count = subst (λ (b : Batched). t.inner + length (fires_of e bid jid s) ≤ fired_count b.batches) (sym is) (told_count t.inner e bid jid s c) in
+    subst (λ gs. pushes_in t + length gs ≤ last_push) (sym fires) (few_fired t end (length (fires_of e bid jid s)) count outside few)
+
+-- and what one fires that is made
+pub made_fits : (t : Totals) (inner : ℕ) (s end : Batched) (batch : Batch) (jids : List Bytes) (fs : List Firing) → make_fault batch.bid batch.parent jids s ≡ None → IsCovered inner s → t.inner ≡ inner → fs ≡ made_fires batch jids → end ≡ made batch jids s → t.outside ≤ last_outside
+    → length end.batches < 2 ^ 32 → pushes_in t + length fs ≤ last_push
+made_fits t inner s end batch jids fs clear c same fires is outside few =
+    let count = subst (λ (b : Batched). inner + length (made_fires batch jids) ≤ fired_count b.batches) (sym is) (clear_count batch jids s inner clear c) in
+    subst (λ gs. pushes_in t + length gs ≤ last_push) (sym fires) (few_fired t end (length (made_fires batch jids)) (omega (arith, count, same)) outside few)
+
+-- jobs that clients push are no callbacks
+pub jobs_inner : (w : World) (texts : List Bytes) → (perform w (push_jobs texts)).tally.inner ≡ w.tally.inner
+jobs_inner w texts = omega (arith, through_inner w (push_jobs texts), quiet_calls (push_jobs texts) (jobs_quiet texts))
+
+-- ## What stays covered
+
+pub told_covered : (old new : World) (names : List Bytes) (e : Event) (jid : Bytes) (o : Option Bytes) → IsTold old new names (tell_in e old jid o) → IsCovered old.tally.inner old.batches → IsCovered new.tally.inner new.batches
+told_covered old new names e jid o told c = subst (λ (w : World). IsCovered w.tally.inner w.batches) (sym told.world) (tell_covers e old jid o c)
+
+-- from what holds where there was memory
+pub on_if : {A E : Type 0} (P : A → Type 0) (Q : Type 0) (r : Result A E) → ((x : A) → P x → Q) → IfOk r P → OnOk r Q
+on_if P Q (Ok x) f p = f x p
+on_if P Q (Err e) f p = tt
+
+-- rows that are trimmed are no pushes
+pub ended_inner : (how : Ending) (rows : List Row) (p : Placed) → (ended_rows how rows p).lives.totals.inner ≡ p.lives.totals.inner
+ended_inner how [] p = refl
+ended_inner how (row ∷ rows) p = ended_inner how rows _ ∙ end_inner how (one_if (was_live (jid_of row.text) p.lives.live)) p.lives.totals
+
+-- nor is one that goes to another place
+pub moved_lives : (from : Side) (o : Option Row) (to : Place) (score : ℤ) (end : Side) (p : Placed) → (moved_if from o to score end p).lives ≡ p.lives
+moved_lives from None to score end p = refl
+moved_lives from (Some row) to score end p = refl
+
+pub without_lives : (end : Side) (o : Option Row) (p : Placed) → (without_if end o p).lives ≡ p.lives
+without_lives end None p = refl
+without_lives end (Some row) p = refl
+
+-- with other places of as many callbacks
+pub covered_with : (p q : Placed) (s : Batched) → p.lives.totals.inner ≡ q.lives.totals.inner → IsCovered q.lives.totals.inner s → IsCovered p.lives.totals.inner s
+covered_with p q s same c = subst (λ n. IsCovered n s) (sym same) c
