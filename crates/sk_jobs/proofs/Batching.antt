@@ -54,6 +54,10 @@ one_pushed u v end text texts rest first pushed all =
 
 -- ## Rules that are kept
 
+pub true_not : (b : Bool) → not b ≡ true → b ≡ false
+true_not true e = sym e
+true_not false e = refl
+
 pub not_not : (b : Bool) → not (not b) ≡ b
 not_not true = refl
 not_not false = refl

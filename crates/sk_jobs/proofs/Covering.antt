@@ -1,7 +1,9 @@
 -- The callbacks that were pushed are no more than were fired, before a batch is told and after it.
 use Rattle.std.proofs.Common.{◌≡◌, ◌<◌, ◌≤◌, ◌^◌, ℕ, zero, suc, ◌+◌, List, [], ◌∷◌, length, refl, sym, ap, subst, ◌∙◌, arith}
 use Rattle.std.specs.Prelude.{Bool, ℤ, Option, Some, None, Result, Ok, Err, IfOk, OnOk}
+use Rattle.sk_cmd.specs.declared.argument.Scored.{Scored}
 use Rattle.sk_cmd.specs.declared.argument.Side.{Side}
+use Rattle.sk_zset.specs.Pair.{Pair}
 use Rattle.sk_resp.specs.Spelling.{Bytes}
 use Rattle.sk_lives.specs.declared.ending.Ending.{Ending}
 use Rattle.sk_lives.specs.declared.totals.Totals.{Totals}
@@ -19,8 +21,9 @@ use Rattle.sk_batch.specs.declared.batch.Batch.{Batch}
 use Rattle.sk_batch.specs.declared.event.Event.{Event}
 use Rattle.sk_batch.specs.declared.firing.Firing.{Firing}
 use Rattle.sk_model.specs.Batches.{push_jobs}
-use Rattle.sk_model.specs.Change.{perform}
+use Rattle.sk_model.specs.Change.{changed, perform}
 use Rattle.sk_model.specs.Covered.{IsCovered, fired_count}
+use Rattle.sk_model.specs.Sets.{put_as}
 use Rattle.sk_model.specs.Told.{tell_in}
 use Rattle.sk_model.specs.World.{World}
 use Rattle.sk_model.proofs.Covering.{count_few, quiet_calls, through_inner}
@@ -67,14 +70,10 @@ pub ended_inner : (how : Ending) (rows : List Row) (p : Placed) → (ended_rows 
 ended_inner how [] p = refl
 ended_inner how (row ∷ rows) p = ended_inner how rows _ ∙ end_inner how (one_if (was_live (jid_of row.text) p.lives.live)) p.lives.totals
 
--- nor is one that goes to another place
-pub moved_lives : (from : Side) (o : Option Row) (to : Place) (score : ℤ) (end : Side) (p : Placed) → (moved_if from o to score end p).lives ≡ p.lives
-moved_lives from None to score end p = refl
-moved_lives from (Some row) to score end p = refl
-
-pub without_lives : (end : Side) (o : Option Row) (p : Placed) → (without_if end o p).lives ≡ p.lives
-without_lives end None p = refl
-without_lives end (Some row) p = refl
+-- nor a text that is put back
+pub put_inner : (w : World) (set : Scored) (pair : Pair) (found : Option Row) → (changed w (put_as set pair found)).tally.inner ≡ w.tally.inner
+put_inner w set pair None = refl
+put_inner w set pair (Some row) = refl
 
 -- with other places of as many callbacks
 pub covered_with : (p q : Placed) (s : Batched) → p.lives.totals.inner ≡ q.lives.totals.inner → IsCovered q.lives.totals.inner s → IsCovered p.lives.totals.inner s

@@ -1,6 +1,6 @@
 // SK.BPUSH bid parent complete success death [payload ..], SK.BADD bid payload .., SK.BSTAT bid: batches of jobs (Sidekiq's wiki, "Batches"). A
 // batch and its jobs come in one step, whole or not at all.
-ghost use Rattle.std.specs.Prelude.{◌≡◌, ◌&&◌, ℕ, IfOk, OnErr, OnOk, None, cond, false, length, not};
+ghost use Rattle.std.specs.Prelude.{◌≡◌, ◌&&◌, ℕ, IfOk, OnErr, OnOk, None, cond, false, length, not, true};
 ghost use Rattle.std.specs.Result.{result_err};
 ghost use Rattle.sk_payload.specs.Head.{head as head_of};
 ghost use Rattle.sk_payload.specs.Member.{is_name};
@@ -256,7 +256,8 @@ fn told(checked: Result<(), BatchFault>) -> Result<(), Say>
 
 // What isn't so is refused.
 fn check(passes: bool, refusal: Refusal) -> Result<(), Say>
-    ensures { (o : Outcome) → cond (not passes) (refuses refusal) o ≡ unless_told result o }
+    ensures told { (o : Outcome) → cond (not passes) (refuses refusal) o ≡ unless_told result o }
+    ensures kept { OnOk result (passes ≡ true) }
 {
     if passes {
         Ok(())

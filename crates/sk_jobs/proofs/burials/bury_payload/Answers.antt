@@ -7,7 +7,11 @@ use Rattle.sk_seats.specs.Phases.{turned}
 use Rattle.sk_model.specs.Sets.{put_back}
 use Rattle.sk_seats.specs.declared.phase.Phase.TheVariants.{Put}
 use Rattle.sk_model.proofs.Coming.{if_ok}
+use Rattle.sk_model.specs.World.{World}
+use Rattle.sk_jobs.specs.Seated.{with_seats}
 use Rattle.sk_jobs.specs.Stocked.{at}
+use Rattle.sk_jobs.proofs.Covering.{covered_with, put_inner}
+use Rattle.sk_jobs.proofs.Rescuing.{some_world}
 use Rattle.sk_jobs.proofs.burials.bury_payload.Goals as goal
 
 pub returns-clause-ok : goal.returns-clause-ok
@@ -22,3 +26,9 @@ returns-clause-ok c =
     let mid = ap (λ u. changed u (Turns seat (Put ident held))) (c.in_ok-put_back.ensures.ok v phases ∙ ap (λ s. changed v (put_back v Dead (s, c.args.payload))) score) in
     let sent = c.in_ok-report.ensures.ok w v next put c.args.payload c.in_ok-member.ensures alike mid in
     record { reply_is = tells (buried_by v c.args.payload put) sent.moved sent.buried sent.fired sent.trimmed; new_is = sent.world }) c.told.ensures
+
+pub bury_put-requires-clause-covered : goal.bury_put-requires-clause-covered
+bury_put-requires-clause-covered c =
+    let s = c.args.stock.now in
+    let inner = ap (λ (u : World). u.tally.inner) (c.in_ok-put_back.ensures.ok some_world some_world.phases) ∙ put_inner (with_seats some_world s.places.stands some_world.phases) Dead (c.of_moment.result, c.args.payload) _ in
+    covered_with c.put_back.new.places.stands s.places.stands s.batches.stands inner c.requires.covered

@@ -1,4 +1,4 @@
-use Rattle.std.proofs.Common.{Some, ap, refl, subst}
+use Rattle.std.proofs.Common.{◌<◌, ◌^◌, length, Some, ap, arith, refl}
 use Rattle.sk_jobs.specs.Stocked.{at}
 use Rattle.sk_jobs.proofs.Calling.{if_both, told_is}
 use Rattle.sk_jobs.proofs.Covering.{on_if, told_covered, told_fits}
@@ -15,7 +15,10 @@ returns-clause-ok c =
     c.in_ok-firings.ensures.fires (ap (λ s. s.stands) c.in_ok-firings.ensures.ok) named (called v phases alike)) c.call_all.ensures.texts c.call_all.ensures.ok
 
 pub call_all-requires : goal.call_all-requires
-call_all-requires c = ?
+call_all-requires c =
+    let few : length c.fire.new.batches.stands.batches < 2 ^ 32 = omega (arith, c.len-batches.ensures.is, c.len-batches.ensures.few) in
+    let s = c.args.stock.now in
+    told_fits s.places.stands.lives.totals s.batches.stands c.fire.new.batches.stands c.args.event c.args.member.now.bid c.args.member.now.jid c.in_ok-firings.firings.items c.requires c.in_ok-firings.ensures.fires (ap (λ s. s.stands) c.in_ok-firings.ensures.ok) c.push_count-pushes.ensures.outside few
 
 pub returns-clause-covered : goal.returns-clause-covered
 returns-clause-covered c =

@@ -1,4 +1,4 @@
-use Rattle.std.proofs.Common.{◌≡◌, ◌∙◌, List, ap, map, refl, sym}
+use Rattle.std.proofs.Common.{◌≡◌, ◌∙◌, List, ap, map, refl, sym, take}
 use Rattle.sk_cmd.specs.declared.argument.Scored.TheVariants.{Dead}
 use Rattle.sk_lives.specs.declared.ending.Ending.TheVariants.{Trimmed}
 use Rattle.sk_places.specs.Placed.{ended_rows}
@@ -7,6 +7,8 @@ use Rattle.sk_places.specs.declared.row.Row.{Row}
 use Rattle.sk_jobs.specs.Sending.{rows_in}
 use Rattle.sk_jobs.specs.Stocked.{at}
 use Rattle.sk_jobs.proofs.Burying.{buried_is, placed_at, surplus_of, trimmed_world}
+use Rattle.sk_places.specs.Rows.{rows_at}
+use Rattle.sk_jobs.proofs.Covering.{covered_with, ended_inner}
 use Rattle.sk_jobs.proofs.Fronts.{others_left}
 use Rattle.sk_jobs.proofs.dead.bury_put.Goals as goal
 
@@ -26,3 +28,9 @@ pub returns-clause-aside : goal.returns-clause-aside
 returns-clause-aside c = λ test aside.
     let p = c.args.stock.now.places.stands in
     c.in_ok-fired.ensures.aside test aside ∙ ap (λ q. rows_in test q.rows) c.in_ok-trimmed.ensures.ok ∙ others_left test (Set Dead) c.surplus_count-count.result p aside.dead
+
+pub tell-requires : goal.tell-requires
+tell-requires c =
+    let p = c.args.stock.now.places.stands in
+    let rows : List Row = take c.surplus_count-count.result (rows_at (Set Dead) p.rows) in
+    covered_with c.take_front.new.places.stands p c.args.stock.now.batches.stands (ap (λ q. q.lives.totals.inner) c.in_ok-trimmed.ensures.ok ∙ ended_inner Trimmed rows p) c.requires.covered

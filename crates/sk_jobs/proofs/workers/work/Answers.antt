@@ -1,14 +1,14 @@
-use Rattle.std.proofs.Common.{◌≡◌, ◌⊎◌, ◌∙◌, ap, subst, sym}
+use Rattle.std.proofs.Common.{◌≡◌, ◌⊎◌, ◌∙◌, subst, sym}
 use Rattle.std.specs.Prelude.{Some}
 use Rattle.sk_resp.specs.Spelling.{Bytes}
 use Rattle.sk_resp.specs.declared.reply.Reply.{Reply}
-use Rattle.sk_model.specs.Outcome.{Comes, Outcome}
+use Rattle.sk_model.specs.Outcome.{Comes}
 use Rattle.sk_zset.specs.Pair.{Pair}
 use Rattle.sk_seats.specs.declared.phase.End.{End}
 use Rattle.sk_seats.specs.declared.phase.Phase.{Phase}
 use Rattle.sk_seats.specs.declared.phase.Phase.TheVariants.{Held, Put, Settled}
 use Rattle.sk_seats.specs.Phases.{phase_in}
-use Rattle.sk_model.specs.Workers.{fetch, release, retry, work}
+use Rattle.sk_model.specs.Workers.{fetch, retry, work}
 use Rattle.sk_model.specs.World.{World}
 use Rattle.sk_jobs.specs.Seated.{with_seats}
 use Rattle.sk_model.proofs.Coming.{if_ok, same_comes}
