@@ -118,6 +118,20 @@ buried_numbers : stat p buried ≡ Some (record { members = 1; pending = 1; unre
 unfolding none batch p j failed buried
 buried_numbers = refl
 
+-- A burying within it kills the outer batch too, behind the inner one. A second burying fires nothing of the batches that died, and one in an outer batch
+-- nothing of those within it, nor of one beside.
+inner_dies : (died_fires c (j 2) after_p ≡ fires c Death None ∷ fires p Death None ∷ []) × (died_fires g (j 3) (died c (j 2) after_p) ≡ fires g Complete None ∷ fires c Complete None ∷ fires p Complete None ∷ fires g Death None ∷ [])
+unfolding none batch fires p c g j nested after_p
+inner_dies = (refl, refl)
+
+outer_dies : (died_fires p (j 1) nested ≡ fires p Death None ∷ []) × (died_fires c (j 2) (died p (j 1) nested) ≡ fires c Death None ∷ [])
+unfolding none batch fires p c g j nested
+outer_dies = (refl, refl)
+
+beside : died_fires c (j 2) (made (batch g (Some p) (j 9)) (j 3 ∷ []) (made (batch c (Some p) (j 8)) (j 2 ∷ []) (made (batch p None (j 7)) (j 1 ∷ []) none))) ≡ fires c Complete None ∷ fires c Death None ∷ fires p Death None ∷ []
+unfolding none batch fires p c g j
+beside = refl
+
 -- a batch that was complete and gets more jobs isn't complete again
 more : Batched
 more = joined p (j 2 ∷ []) failed

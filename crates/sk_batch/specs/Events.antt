@@ -1,4 +1,4 @@
--- What happens to batches, and what is fired then. Completes come first, then successes, each from the inner batch outwards, and then the death.
+-- What happens to batches, and what is fired then. Completes come first, then successes, then deaths, each from the inner batch outwards.
 use Rattle.std.specs.Prelude.{cond, List, [], ◌∷◌, ◌++◌, map, false}
 use Rattle.sk_resp.specs.Spelling.{Bytes}
 use Rattle.sk_batch.specs.Batched.{Batched, MemberEntry, is_job, is_member}
@@ -61,7 +61,7 @@ returned_fires bid jid s = let after = marked Returned bid jid s in of_member bi
 abbrev pub returned : Bytes → Bytes → Batched → Batched
 returned bid jid s = fired (returned_fires bid jid s) (marked Returned bid jid s)
 
--- the job was buried; the member is reported too
+-- the job was buried: the batch and those that it is in die; the member is reported too
 abbrev pub died_fires : Bytes → Bytes → Batched → List Firing
 died_fires bid jid s = of_member bid jid s (complete_fires (marked Reported bid jid s) bid ++ death_fires s bid)
 

@@ -30,20 +30,19 @@ completes s b = not b.0.complete && is_reported s b.1.bid
 abbrev pub succeeds : Batched → Batched → BatchEntry → Bool
 succeeds before after b = is_settled after b.1.bid && not (is_settled before b.1.bid)
 
--- of the batch and those that it is in, the inner first
+-- Each kind is fired of the batch and of those that it is in, the inner first.
 abbrev pub complete_fires : Batched → Bytes → List Firing
 complete_fires s bid = map (λ b. firing Complete b.1) (filter (completes s) (line s.batches bid))
 
 abbrev pub success_fires : Batched → Batched → Bytes → List Firing
 success_fires before after bid = map (λ b. firing Success b.1) (filter (succeeds before after) (line after.batches bid))
 
--- of the first of these, the batch itself
-abbrev pub death_of : List BatchEntry → List Firing
-death_of [] = []
-death_of (b ∷ above) = cond b.0.death [] (firing Death b.1 ∷ [])
+-- no member under the batch was buried before
+abbrev pub dies : BatchEntry → Bool
+dies b = not b.0.death
 
 abbrev pub death_fires : Batched → Bytes → List Firing
-death_fires s bid = death_of (line s.batches bid)
+death_fires s bid = map (λ b. firing Death b.1) (filter dies (line s.batches bid))
 
 -- ## What was fired is marked
 

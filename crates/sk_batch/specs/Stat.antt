@@ -9,6 +9,7 @@ use Rattle.sk_batch.specs.Open.{lacks}
 use Rattle.sk_batch.specs.declared.batch_stat.BatchStat.{BatchStat}
 use Rattle.sk_batch.specs.declared.member.Mark.TheVariants.{Returned}
 
+-- it died where a member of it, or of a batch within it, was buried
 abbrev pub numbers_of : Batched → BatchEntry → BatchStat
 numbers_of s b = record {
   members = count_by (is_in b.1.bid) s.members;

@@ -9,7 +9,7 @@ pub struct BatchStat {
     pub pending: u64,
     /// Its own members that weren't reported.
     pub unreported: u64,
-    /// Whether a member of its own was buried.
+    /// Whether a member of this batch or of one within it was buried.
     pub died: bool,
     /// The members of this batch and of those within it that haven't returned.
     pub pending_under: u64,

@@ -191,7 +191,8 @@ impl Batches {
         )
     }
 
-    /// A job of the batch was buried; it is reported too. Answers what is fired. A job that is no member of this batch leaves all as it is.
+    /// A job of the batch was buried: the batch and each one above it die, where they haven't yet. The job is reported too. Answers what is fired.
+    /// A job that is no member of this batch leaves all as it is.
     #[tactic(auto, using(crate::proofs::Order::ordered_retagged))]
     pub fn died(&mut self, alloc: Global, bid: &[u8], jid: &[u8]) -> Result<Vec<Firing>, Memory>
         ensures fires { IfOk result (λ firings. firings.items ≡ died_fires bid.now jid.now self.old.stands) }

@@ -9,7 +9,7 @@ pub enum Kind {
     Complete,
     /// Each job of the batch has returned.
     Success,
-    /// A job of the batch was buried.
+    /// A job of the batch, or of one within it, was buried.
     Death,
 }
 

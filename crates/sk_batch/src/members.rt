@@ -238,6 +238,20 @@ impl<'a> Test<(Fired, Batch)> for Settles<'a> {
     }
 }
 
+/// Passes the batches of which no member, and none of a batch within, was buried before.
+#[derive(Drop)]
+pub struct Dies;
+
+impl Test<(Fired, Batch)> for Dies {
+    ghost use Rattle.std.specs.Prelude.{not};
+
+    ghost passes = { λ t b. not b.0.death };
+
+    fn test(&self, entry: &(Fired, Batch)) -> bool {
+        !entry.0.death
+    }
+}
+
 /// How many members pass.
 #[tactic(auto, using(std::proofs::lemmas::List::Sums::count_by_more_no, std::proofs::lemmas::List::Sums::count_by_more_yes))]
 pub fn count_where<F: Test<(Marks, Member)>>(members: &UndoList<Marks, Member>, test: &F) -> u64

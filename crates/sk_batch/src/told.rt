@@ -15,8 +15,8 @@ ghost use Rattle.sk_undo.specs.Steps.{edited};
 
 use crate::edits::{mark_fired, mark_member};
 use crate::event::Event;
-use crate::line::{batch_at, fire_where, firing, first_batch};
-use crate::members::{Completes, Others, Settles, member_at};
+use crate::line::fire_where;
+use crate::members::{Completes, Dies, Others, Settles, member_at};
 use crate::{Batch, Fired, Firing, Kind, Mark, Marks, Member, Memory};
 use sk_undo::UndoList;
 use std::alloc::Global;
@@ -64,22 +64,15 @@ fn succeed_all(
     fire_where(batches, bid, Kind::Success, &Settles { others }, firings)
 }
 
-// Adds the death of a batch, where none of its own members was buried before.
-fn die(
+// Adds the deaths of a batch and of those that it is in, where no member under them was buried before.
+fn die_all(
     batches: &UndoList<Fired, Batch>,
     bid: &[u8],
     firings: &mut Vec<Firing>,
 ) -> Result<(), Memory>
     ensures { OnOk result (firings.new.items ≡ firings.old.items ++ death_fires (of_lists batches.now.list.stands []) bid.now) }
 {
-    let at = first_batch(batches, bid);
-    if at < batches.len() {
-        let (entry, _) = batch_at(batches, at);
-        if !entry.0.death {
-            firings.push(firing(Kind::Death, &entry.1)?)?;
-        }
-    }
-    Ok(())
+    fire_where(batches, bid, Kind::Death, &Dies, firings)
 }
 
 // Takes all memory first, so that what was fired and what came of the member are marked, or nothing is.
@@ -127,7 +120,7 @@ fn add_later(
     match event {
         Event::Reported => Ok(()),
         Event::Returned => succeed_all(batches, members, at, bid, firings),
-        Event::Died => die(batches, bid, firings),
+        Event::Died => die_all(batches, bid, firings),
     }
 }
 

@@ -6,11 +6,10 @@ use Rattle.sk_payload.specs.Head.{head}
 use Rattle.sk_payload.specs.declared.head.Head.{Head}
 use Rattle.sk_places.specs.declared.origin.Origin.TheVariants.{Inner}
 use Rattle.sk_batch.specs.Batched.{Batched, BatchEntry, has_bid, is_there}
-use Rattle.sk_batch.specs.Fires.{callback, death_of, firing, retagged, with_kind}
+use Rattle.sk_batch.specs.Fires.{callback, firing, retagged, with_kind}
 use Rattle.sk_batch.specs.Lines.{line, line_above}
 use Rattle.sk_batch.specs.declared.firing.Firing.{Firing}
 use Rattle.sk_batch.specs.declared.firing.Kind.{Kind}
-use Rattle.sk_batch.specs.declared.firing.Kind.TheVariants.{Death}
 use Rattle.sk_model.specs.World.{World}
 use Rattle.sk_model.specs.Change.{Fire, Change, Moves, after_fire, changed, perform}
 use Rattle.sk_model.specs.Told.{call, fire_all, push_to}
@@ -103,10 +102,6 @@ line_own kind (r ∷ bs) x t =
     ((grind (arith, bytes_tell), grind (arith, bytes_tell)), own_older kind bs r _ t.0 (own_above kind bs r.1.parent (λ y. line_own kind bs y t.2)))
     (own_older kind bs r (line bs x) t.0 (line_own kind bs x t.2))
 
-called_either : (s : Batched) (b : Bool) (fs gs : List Firing) → AllCalled s fs → AllCalled s gs → AllCalled s (cond b fs gs)
-called_either s true fs gs a c = a
-called_either s false fs gs a c = c
-
 called_filtered : (kind : Kind) (s : Batched) (b : Bool) (e : BatchEntry) (es : List BatchEntry) → called kind e.1.bid s ≡ callback kind e.1.callbacks → AllCalled s (map (λ e. firing kind e.1) es) → AllCalled s (map (λ e. firing kind e.1) (cond b (e ∷ es) es))
 called_filtered kind s true e es one more = (one, more)
 called_filtered kind s false e es one more = more
@@ -114,7 +109,3 @@ called_filtered kind s false e es one more = more
 pub own_called : (kind : Kind) (s : Batched) (p : BatchEntry → Bool) (es : List BatchEntry) → Own kind s.batches es → AllCalled s (map (λ e. firing kind e.1) (filter p es))
 own_called kind s p [] o = tt
 own_called kind s p (e ∷ es) o = called_filtered kind s (p e) e (filter p es) o.0.1 (own_called kind s p es o.1)
-
-pub death_called : (s : Batched) (es : List BatchEntry) → Own Death s.batches es → AllCalled s (death_of es)
-death_called s [] o = tt
-death_called s (e ∷ es) o = called_either s e.0.death [] (firing Death e.1 ∷ []) tt (o.0.1, tt)

@@ -1,5 +1,5 @@
 -- What changes fire of batches, and what is kept of it.
-use Rattle.std.proofs.Common.{◌≡◌, ℕ, ◌+◌, List, [], ◌∷◌, ◌++◌, refl, ap, ◌∙◌, arith, Bool, true, false, cond, not, ◌&&◌, ◌||◌, Option, Some, None, map}
+use Rattle.std.proofs.Common.{◌≡◌, ℕ, ◌+◌, List, [], ◌∷◌, ◌++◌, refl, sym, ap, ◌∙◌, arith, Bool, true, false, cond, not, ◌&&◌, ◌||◌, Option, Some, None, map}
 use Rattle.std.specs.Prelude.{filter}
 use Rattle.std.specs.List.{list_any, list_all}
 use Rattle.std.specs.Str.{bytes_eq}
@@ -8,8 +8,8 @@ use Rattle.sk_payload.specs.Head.{head}
 use Rattle.sk_payload.specs.declared.head.Head.{Head}
 use Rattle.sk_batch.specs.Batched.{Batched, BatchEntry, has_bid, is_there}
 use Rattle.sk_batch.specs.Events.{fired}
-use Rattle.sk_batch.specs.Fires.{after_fires, death_of, firing, retagged, with_kind}
-use Rattle.sk_batch.specs.Lines.{line, line_above}
+use Rattle.sk_batch.specs.Fires.{after_fires, death_fires, dies, firing, retagged, with_kind}
+use Rattle.sk_batch.specs.Lines.{is_under, line, line_above}
 use Rattle.sk_batch.specs.declared.batch.Fired.{Fired}
 use Rattle.sk_batch.specs.declared.firing.Firing.{Firing}
 use Rattle.sk_batch.specs.declared.firing.Kind.{Kind}
@@ -23,7 +23,7 @@ use Rattle.sk_model.specs.Told.{push_to, push_job, call, fire_all}
 use Rattle.sk_model.specs.Once.{same_kind, times, times_in}
 pub use Rattle.sk_model.specs.Covered.{has_kind, was_fired}
 use Rattle.sk_model.proofs.Texts.{bytes_tell}
-use Rattle.sk_model.proofs.Lines.{IsTree, in_list, there_retagged}
+use Rattle.sk_model.proofs.Lines.{IsTree, in_list, line_once, there_retagged}
 use Rattle.sk_model.proofs.Marked.{Alike, alike_own, alike_then, alike_fire, Sane, sane_fire}
 
 pub perform-append : (w : World) (a b : List Change) → perform w (a ++ b) ≡ perform (perform w a) b
@@ -208,14 +208,22 @@ line_known kind (r ∷ bs) x t =
 
 -- ## Death
 
-pub count_death : (bs : List BatchEntry) (x b : Bytes) → is_there x bs ≡ true → count_named Death b (death_of (line bs x)) ≡ one_if (bytes_eq x b && not (was_fired Death x bs))
-count_death [] x b t = absurd (cc t)
-count_death (r ∷ bs) x b t = grind (arith, bytes_tell, t, count_death bs x b)
+dies_agree : (bs es : List BatchEntry) → Known Death bs es → Agrees dies (λ b. not (was_fired Death b bs)) es
+dies_agree bs [] k = tt
+dies_agree bs (e ∷ es) k = (ap not (sym k.0.1), dies_agree bs es k.1)
 
-pub any_death : (bs : List BatchEntry) (x b : Bytes) → is_there x bs ≡ true → list_any (named Death b) (death_of (line bs x)) ≡ bytes_eq x b && not (was_fired Death x bs)
-any_death [] x b t = absurd (cc t)
-any_death (r ∷ bs) x b t = grind (arith, bytes_tell, t, any_death bs x b)
+pub count_death : (s : Batched) (x b : Bytes) → IsTree s.batches → is_there x s.batches ≡ true → count_named Death b (death_fires s x) ≡ one_if (is_under s.batches x b && not (was_fired Death b s.batches))
+count_death s x b t there =
+    let bs = s.batches in
+    let count = count_fires Death dies (λ b. not (was_fired Death b bs)) b (line bs x) (dies_agree bs (line bs x) (line_known Death bs x t)) in
+    let once = line_once bs x b t there in
+    grind (arith, count, once)
 
-pub no_death : (kind : Kind) (b : Bytes) (es : List BatchEntry) → same_kind kind Death ≡ false → (count_named kind b (death_of es) ≡ 0) × (list_any (named kind b) (death_of es) ≡ false)
-no_death kind b [] apart = (refl, refl)
-no_death kind b (e ∷ es) apart = (grind (arith, apart), grind (arith, apart))
+pub any_death : (s : Batched) (x b : Bytes) → IsTree s.batches → list_any (named Death b) (death_fires s x) ≡ is_under s.batches x b && not (was_fired Death b s.batches)
+any_death s x b t =
+    let bs = s.batches in
+    let some = any_fires Death dies (λ b. not (was_fired Death b bs)) b (line bs x) (dies_agree bs (line bs x) (line_known Death bs x t)) in
+    grind (arith, some)
+
+pub no_death : (kind : Kind) (b : Bytes) (s : Batched) (x : Bytes) → same_kind kind Death ≡ false → (count_named kind b (death_fires s x) ≡ 0) × (list_any (named kind b) (death_fires s x) ≡ false)
+no_death kind b s x apart = let es = filter dies (line s.batches x) in (count_others kind Death b es apart, any_others kind Death b es apart)

@@ -70,17 +70,17 @@ module _ (e : Event) (bid jid : Bytes) (s : Batched) (member : is_member bid jid
         later_count : (e : Event) (b : Bytes) → count_named Complete b (later_fires e bid jid s) ≡ 0
         later_count event.Reported b = refl
         later_count event.Returned b = count_others Complete Success b _ refl
-        later_count event.Died b = (no_death Complete b (line s.batches bid) refl).0
+        later_count event.Died b = (no_death Complete b s bid refl).0
 
   success_count : (e : Event) (b : Bytes) → is_under s.batches bid b ≡ true → in_list b (line s.batches bid) ≡ 1 → count_named Success b (later_fires e bid jid s) ≡ one_if (is_settled (marked (mark_of e) bid jid s) b && not (is_settled s b))
   success_count event.Reported b u l = let same = settled_reported s bid jid b in grind (arith, same)
   success_count event.Returned b u l = let v = marked Returned bid jid s in let c = count_fires Success (succeeds s v) (λ b. is_settled v b && not (is_settled s b)) b (line s.batches bid) (settles_agrees s v (line s.batches bid)) in grind (arith, c, l)
-  success_count event.Died b u l = let same = settled_reported s bid jid b in let none = (no_death Success b (line s.batches bid) refl).0 in grind (arith, same, none)
+  success_count event.Died b u l = let same = settled_reported s bid jid b in let none = (no_death Success b s bid refl).0 in grind (arith, same, none)
 
   success_none : (e : Event) (b : Bytes) → in_list b (line s.batches bid) ≡ 0 → count_named Success b (later_fires e bid jid s) ≡ 0
   success_none event.Reported b l = refl
   success_none event.Returned b l = let v = marked Returned bid jid s in let c = count_fires Success (succeeds s v) (λ b. is_settled v b && not (is_settled s b)) b (line s.batches bid) (settles_agrees s v (line s.batches bid)) in grind (arith, c, l)
-  success_none event.Died b l = (no_death Success b (line s.batches bid) refl).0
+  success_none event.Died b l = (no_death Success b s bid refl).0
 
   successes_count : Sane s → (b : Bytes) → count_named Success b fs ≡ one_if (is_settled t b && not (is_settled s b))
   successes_count sane b =
@@ -104,7 +104,7 @@ module _ (e : Event) (bid jid : Bytes) (s : Batched) (member : is_member bid jid
         later_none : (e : Event) (b : Bytes) → list_any (named Complete b) (later_fires e bid jid s) ≡ false
         later_none event.Reported b = refl
         later_none event.Returned b = any_others Complete Success b _ refl
-        later_none event.Died b = (no_death Complete b (line s.batches bid) refl).1
+        later_none event.Died b = (no_death Complete b s bid refl).1
 
   completed_on : (b : Bytes) → was_completed s b ≡ true → was_completed end b ≡ true
   completed_on b h = let after = fired_after Complete b fs s.batches in grind (arith, after, h)

@@ -2,7 +2,6 @@
 use Rattle.std.proofs.Common.{◌≡◌, ◌≤◌, ℕ, ◌+◌, List, [], ◌∷◌, length, refl, sym, ap, subst, ◌∙◌, arith, Bool, true, false, cond, not, ◌&&◌, ◌||◌}
 use Rattle.std.specs.Prelude.{Option, Some, None, filter}
 use Rattle.std.specs.List.{list_any}
-use Rattle.std.specs.Str.{bytes_eq}
 use Rattle.sk_resp.specs.Spelling.{Bytes}
 use Rattle.sk_cmd.specs.declared.argument.Side.TheVariants.{Left}
 use Rattle.sk_payload.specs.Head.{head}
@@ -12,8 +11,8 @@ use Rattle.sk_places.specs.declared.row.Row.{Row}
 use Rattle.sk_places.specs.Rows.{row_at, stands_before}
 use Rattle.sk_batch.specs.Batched.{Batched, is_job, is_member, is_there}
 use Rattle.sk_batch.specs.Events.{fired, marked}
-use Rattle.sk_batch.specs.Fires.{complete_fires, completes, success_fires, succeeds, death_fires}
-use Rattle.sk_batch.specs.Lines.{line}
+use Rattle.sk_batch.specs.Fires.{complete_fires, completes, success_fires, succeeds, death_fires, dies}
+use Rattle.sk_batch.specs.Lines.{is_under, line}
 use Rattle.sk_batch.specs.Open.{with_mark}
 use Rattle.sk_batch.specs.Told.{fires_of, later_fires, mark_of}
 use Rattle.sk_batch.specs.declared.event.Event.{Event}
@@ -35,11 +34,12 @@ use Rattle.sk_model.specs.Told.{push_to, push_job, call, fire_all, tell_in, tell
 use Rattle.sk_model.specs.Once.{CallsFollow, times, buries, is_of_batch, names_batch}
 use Rattle.sk_model.proofs.Texts.{bytes_tell}
 use Rattle.sk_model.proofs.Going.{count_put}
+use Rattle.sk_model.proofs.Lines.{line_there}
 use Rattle.sk_model.proofs.Marked.{Sane, home_there}
 use Rattle.sk_model.proofs.Fired.{any-append, any_death, any_others, count-append, count_death, count_named, count_others, fire_all_batches, fire_all_times, fired_after, named, perform-append}
 use Rattle.sk_model.proofs.Leads.{Leads, StaysWhole, leads_own, leads_same}
 use Rattle.sk_model.proofs.Telling.{fires_are, leads, stays_whole, told_fires}
-use Rattle.sk_model.proofs.Calls.{AllCalled, all_called-append, calls_fired, death_called, line_own, own_called}
+use Rattle.sk_model.proofs.Calls.{AllCalled, all_called-append, calls_fired, line_own, own_called}
 use Rattle.sk_model.proofs.Keeps.{KeepsJobs, keeps_nothing, keeps_append, keeps_others, keeps_add, keeps_fire, keeps_tells}
 use Rattle.sk_model.proofs.Covering.{Covers, DiesOnce, count_all, covers_fired, fires_few, none_dies_once}
 use Rattle.sk_model.proofs.Good.{Good, buries-append, good_nothing, has_died}
@@ -101,10 +101,14 @@ none_dies e bid jid s b alive = by_member (is_member bid jid s.members) refl whe
   by_member true m = subst (λ fs. (count_named Death b fs ≡ 0) × (list_any (named Death b) fs ≡ false)) (sym (fires_are e bid jid s m)) (told_none e alive)
   by_member false m = subst (λ fs. (count_named Death b fs ≡ 0) × (list_any (named Death b) fs ≡ false)) (sym (fires_none e bid jid s m)) (refl, refl)
 
--- by the first one of a member
-member_dies : (bid jid : Bytes) (s : Batched) (b : Bytes) → Sane s → Dies event.Died bid jid s b ((bytes_eq bid b && is_member bid jid s.members) && not (has_died s b))
+-- what a member is under is there
+under_there : (bid jid : Bytes) (s : Batched) (b : Bytes) → Sane s → is_member bid jid s.members ≡ true → is_under s.batches bid b ≡ true → is_there b s.batches ≡ true
+under_there bid jid s b sane m u = line_there s.batches bid b sane.tree (home_there s.batches s.members bid jid sane.homes m) u
+
+-- by the first one of a member of a batch or of one within it
+member_dies : (bid jid : Bytes) (s : Batched) (b : Bytes) → Sane s → Dies event.Died bid jid s b ((is_under s.batches bid b && is_member bid jid s.members) && not (has_died s b))
 member_dies bid jid s b sane = by_member (is_member bid jid s.members) refl where
-  by_member : (m : Bool) → is_member bid jid s.members ≡ m → Dies event.Died bid jid s b ((bytes_eq bid b && is_member bid jid s.members) && not (has_died s b))
+  by_member : (m : Bool) → is_member bid jid s.members ≡ m → Dies event.Died bid jid s b ((is_under s.batches bid b && is_member bid jid s.members) && not (has_died s b))
   by_member true m =
       let t = marked Reported bid jid s in
       let es = filter (completes t) (line s.batches bid) in
@@ -115,12 +119,12 @@ member_dies bid jid s b sane = by_member (is_member bid jid s.members) refl wher
       let some = any-append Death b fs gs in
       let no = count_others Death Complete b es refl in
       let none = any_others Death Complete b es refl in
-      let one = count_death s.batches bid b there in
-      let once = any_death s.batches bid b there in
-      subst (λ fs. (count_named Death b fs ≡ one_if ((bytes_eq bid b && is_member bid jid s.members) && not (has_died s b))) × (list_any (named Death b) fs ≡ (bytes_eq bid b && is_member bid jid s.members) && not (has_died s b)))
+      let one = count_death s bid b sane.tree there in
+      let once = any_death s bid b sane.tree in
+      subst (λ fs. (count_named Death b fs ≡ one_if ((is_under s.batches bid b && is_member bid jid s.members) && not (has_died s b))) × (list_any (named Death b) fs ≡ (is_under s.batches bid b && is_member bid jid s.members) && not (has_died s b)))
       (sym (fires_are event.Died bid jid s m)) (grind (arith, bytes_tell, count, no, one, m), grind (arith, bytes_tell, some, none, once, m))
   by_member false m =
-      subst (λ fs. (count_named Death b fs ≡ one_if ((bytes_eq bid b && is_member bid jid s.members) && not (has_died s b))) × (list_any (named Death b) fs ≡ (bytes_eq bid b && is_member bid jid s.members) && not (has_died s b)))
+      subst (λ fs. (count_named Death b fs ≡ one_if ((is_under s.batches bid b && is_member bid jid s.members) && not (has_died s b))) × (list_any (named Death b) fs ≡ (is_under s.batches bid b && is_member bid jid s.members) && not (has_died s b)))
       (sym (fires_none event.Died bid jid s m)) (grind (arith, m), grind (arith, m))
 
 -- ## Callbacks
@@ -131,7 +135,7 @@ fires_called e bid jid s sane = by_member (is_member bid jid s.members) refl whe
   later_called : (e : Event) → AllCalled (marked (mark_of e) bid jid s) (later_fires e bid jid s)
   later_called event.Reported = tt
   later_called event.Returned = let t = marked Returned bid jid s in own_called Success t (succeeds s t) (line s.batches bid) (line_own Success s.batches bid sane.tree)
-  later_called event.Died = death_called (marked Reported bid jid s) (line s.batches bid) (line_own Death s.batches bid sane.tree)
+  later_called event.Died = own_called Death (marked Reported bid jid s) dies (line s.batches bid) (line_own Death s.batches bid sane.tree)
 
   by_member : (m : Bool) → is_member bid jid s.members ≡ m → AllCalled (marked (mark_of e) bid jid s) (fires_of e bid jid s)
   by_member true m =
@@ -249,8 +253,8 @@ told_dies event.Reported bid jid s b sane = none_dies_once s (marked Reported bi
 told_dies event.Returned bid jid s b sane = none_dies_once s (marked Returned bid jid s) _ b (none_dies event.Returned bid jid s b (λ e. cc e)).0
 told_dies event.Died bid jid s b sane =
     let one = (member_dies bid jid s b sane).0 in
-    let there = home_there s.batches s.members bid jid sane.homes in
-    (grind (arith, one), λ some. grind (arith, bytes_tell, one, some, there))
+    let there = under_there bid jid s b sane in
+    (grind (arith, one), λ some. grind (arith, one, some, there))
 
 -- as many callbacks more as are fired stay covered
 pub told_count : (callbacks : ℕ) (e : Event) (bid jid : Bytes) (s : Batched) → IsCovered callbacks s → callbacks + length (fires_of e bid jid s) ≤ fired_count (after_told e bid jid s).batches
@@ -316,8 +320,8 @@ in_dies w jid (Some bid) = record {
   died = λ s b.
       let one = member_dies bid jid w.batches b s in
       let is = told_died event.Died w bid jid b in
-      let there = home_there w.batches.batches w.batches.members bid jid s.homes in
-      grind (arith, bytes_tell, one.1, is, there);
+      let there = under_there bid jid w.batches b s in
+      grind (arith, one.1, is, there);
 }
 
 pub tells_death : (w : World) (found : Option Head) → TellsDeath w (tell_of event.Died w found).changes (λ b. is_of_batch b w.batches found)

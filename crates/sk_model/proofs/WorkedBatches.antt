@@ -13,7 +13,7 @@ use Rattle.sk_resp.specs.declared.refusal.Refusal.TheVariants.{NoBatch, Repeated
 use Rattle.sk_resp.specs.declared.say.Say.TheVariants as say
 use Rattle.sk_payload.specs.Head.{head, head_of_value, head_of_object}
 use Rattle.sk_payload.specs.Follows.{follows}
-use Rattle.sk_cmd.specs.declared.argument.Scored.TheVariants.{Retry, Dead}
+use Rattle.sk_cmd.specs.declared.argument.Scored.TheVariants.{Dead, Retry, Schedule}
 use Rattle.sk_cmd.specs.declared.argument.Side.TheVariants.{Left, Right}
 use Rattle.sk_cmd.specs.declared.command.Command.{Command}
 use Rattle.sk_cmd.specs.declared.command.Command.TheVariants.{Plain, Script}
@@ -113,6 +113,9 @@ long = codes "ppppppppppppppppppppppppppppppppppppppppppppppppppppppppppppppppp"
 retries : Bytes
 retries = codes "retry"
 
+schedule : Bytes
+schedule = codes "schedule"
+
 -- p1 after its first failure
 failed : Bytes
 failed = codes "{\"jid\":\"1\",\"class\":\"C\",\"queue\":\"q\",\"args\":[],\"bid\":\"p\",\"retry_count\":0}"
@@ -201,6 +204,16 @@ killed : replies (first limits) (pushes p [] seven [] nine (p1 ∷ []) ∷ beats
     ≡ texts [] ∷ ok ∷ ok ∷ reply.Bulk p1 ∷ number 1 ∷ number 1 ∷ report 0 0 [] ∷ report 0 1 (p ∷ complete ∷ p ∷ death ∷ []) ∷ texts (nine ∷ seven ∷ []) ∷ number 1 ∷ reply.Bulk seven ∷ reply.Bulk nine ∷ texts [] ∷ []
 unfolding put came replies limits number texts ok report complete death p seven nine p1 failed retries client pushes q waiting w1 list worker beats joins fetches releases returns follows serde_json_on_literals head head_of_value head_of_object is_utf8 chars digits class_of edit_at edit_list lib.Utf8.encode date_of year_from month_from
 killed = refl
+
+-- c2 after its first failure
+c_failed : Bytes
+c_failed = codes "{\"jid\":\"2\",\"class\":\"C\",\"queue\":\"q\",\"args\":[],\"bid\":\"c\",\"retry_count\":0}"
+
+-- A job of an inner batch is buried: that batch dies, and then the outer one. A second burying fires nothing, also one in the outer batch.
+risen : replies (first limits) (pushes p [] [] [] nine (p1 ∷ []) ∷ pushes c p [] [] seven (c2 ∷ []) ∷ beats ∷ joins ∷ fetches ∷ returns p1 ∷ releases p1 ∷ fetches ∷ fails c2 ∷ worker (Script (script.Bury c_failed)) ∷ releases c2 ∷ asks p ∷ asks c ∷ waiting ∷ client (Plain (Zadd schedule ((pos 0, p1) ∷ []))) ∷ client (Script (script.Kill Schedule p1)) ∷ [])
+    ≡ texts [] ∷ texts [] ∷ ok ∷ ok ∷ reply.Bulk p1 ∷ texts [] ∷ number 1 ∷ reply.Bulk c2 ∷ texts (c ∷ complete ∷ p ∷ complete ∷ []) ∷ report 0 1 (c ∷ death ∷ p ∷ death ∷ []) ∷ number 1 ∷ numbers 1 0 0 1 1 ∷ numbers 1 1 0 1 1 ∷ texts (nine ∷ seven ∷ []) ∷ number 1 ∷ report 0 1 [] ∷ []
+unfolding put came replies limits number texts ok report numbers complete death p c seven nine p1 c2 c_failed schedule client pushes asks q waiting w1 list worker beats joins fetches returns fails releases follows serde_json_on_literals head head_of_value head_of_object is_utf8 chars digits class_of edit_at edit_list lib.Utf8.encode date_of year_from month_from
+risen = refl
 
 -- ## Rescue
 

@@ -9,6 +9,7 @@ use Rattle.sk_places.specs.declared.row.Place.{Place}
 use Rattle.sk_places.specs.declared.row.Place.TheVariants.{Queue, Private, Set}
 use Rattle.sk_batch.specs.Batched.{Batched, BatchEntry, has_bid, is_there, is_member}
 use Rattle.sk_batch.specs.Fires.{callback}
+use Rattle.sk_batch.specs.Lines.{is_under}
 use Rattle.sk_batch.specs.Open.{is_reported, is_settled}
 use Rattle.sk_batch.specs.declared.firing.Kind.{Kind}
 use Rattle.sk_batch.specs.declared.firing.Kind.TheVariants.{Complete, Success, Death}
@@ -96,16 +97,16 @@ is_dead_set (Set Retry) = false
 is_dead_set (Queue queue) = false
 is_dead_set (Private ident) = false
 
--- the job of this id names the batch, and is a member of it
+-- the job of this id names this batch or one within it, and is a member of the one that it names
 abbrev pub names_batch : Bytes → Batched → Bytes → Option Bytes → Bool
 names_batch bid s jid None = false
-names_batch bid s jid (Some other) = bytes_eq other bid && is_member other jid s.members
+names_batch bid s jid (Some inner) = is_under s.batches inner bid && is_member inner jid s.members
 
 abbrev pub is_of_batch : Bytes → Batched → Option Head → Bool
 is_of_batch bid s None = false
 is_of_batch bid s (Some h) = names_batch bid s h.jid h.bid
 
--- the change buries a member of the batch: its text comes into the dead set
+-- the change buries a member of the batch or of one within it: its text comes into the dead set
 abbrev pub buries_in : Bytes → World → Change → Bool
 buries_in bid w (Moves (Carry row from to score end)) = is_dead_set to && is_of_batch bid w.batches (head row.text)
 buries_in bid w (Moves (PutBack row)) = is_dead_set row.place && is_of_batch bid w.batches (head row.text)
@@ -115,13 +116,13 @@ abbrev pub buries : Bytes → World → List Change → Bool
 buries bid w [] = false
 buries bid w (change ∷ changes) = buries_in bid w change || buries bid (changed w change) changes
 
--- had: whether a member was buried in some step before these
+-- had: whether such a member was buried in some step before these
 abbrev pub DeathOnceFrom : World → (Bytes → Bool) → List Step → Type 0
 DeathOnceFrom w had [] = Unit {0}
 DeathOnceFrom w had (step ∷ steps) =
     ((bid : Bytes) → times Death bid step.outcome.changes ≡ one_if (buries bid w step.outcome.changes && not (had bid))) × DeathOnceFrom (after w step) (λ bid. had bid || buries bid w step.outcome.changes) steps
 
--- Death of a batch is fired once, in the first step that buries a member of it, and in no other.
+-- Death of a batch is fired once, in the first step that buries a member of it or of a batch within it, and in no other.
 abbrev pub DeathOnce : Type 0
 DeathOnce = (limits : Limits) (steps : List Step) → Run (first limits) steps → DeathOnceFrom (first limits) (λ bid. false) steps
 

@@ -11,15 +11,25 @@ use Rattle.sk_payload.specs.declared.head.Until.TheVariants.{Start}
 
 -- the members that each job has, and what stands for the absent ones
 least : head (codes "{\"jid\":\"j\",\"class\":\"C\",\"queue\":\"q\",\"args\":[ 1 ]}")
-    ≡ Some (record { jid = codes "j"; class = codes "C"; queue = codes "q"; args = codes "[1]"; retry = Default; gen_ = 0; bid = None; lock = None; dead = true; created = 0 })
+    ≡ Some (record { jid = codes "j"; class = codes "C"; queue = codes "q"; args = codes "[1]"; retry = Default; retry_for = None; gen_ = 0; bid = None; lock = None; dead = true; created = 0; first_failed = None })
 unfolding serde_json_on_literals head head_of_value head_of_object is_utf8 chars digits
 least = refl
 
 -- every member that is read, and one that isn't
-most : head (codes "{\"jid\":\"j\",\"class\":\"C\",\"queue\":\"q\",\"args\":[],\"bid\":\"b\",\"retry\":3,\"retry_count\":0,\"dead\":false,\"created_at\":9,\"unique_for\":60,\"unique_until\":\"start\",\"at\":[]}")
-    ≡ Some (record { jid = codes "j"; class = codes "C"; queue = codes "q"; args = codes "[]"; retry = Count 3; gen_ = 1; bid = Some (codes "b"); lock = Some (record { seconds = 60; until = Start }); dead = false; created = 9 })
+most : head (codes "{\"jid\":\"j\",\"class\":\"C\",\"queue\":\"q\",\"args\":[],\"bid\":\"b\",\"retry\":3,\"retry_count\":0,\"dead\":false,\"created_at\":9,\"unique_for\":60,\"unique_until\":\"start\",\"retry_for\":5,\"failed_at\":7,\"at\":[]}")
+    ≡ Some (record { jid = codes "j"; class = codes "C"; queue = codes "q"; args = codes "[]"; retry = Count 3; retry_for = Some 5; gen_ = 1; bid = Some (codes "b"); lock = Some (record { seconds = 60; until = Start }); dead = false; created = 9; first_failed = Some 7 })
 unfolding serde_json_on_literals head head_of_value head_of_object is_utf8 chars digits
 most = refl
+
+-- Without `retry_for` the moment of a failure is free.
+free_moment : head (codes "{\"jid\":\"j\",\"class\":\"C\",\"queue\":\"q\",\"args\":[],\"failed_at\":null}")
+    ≡ Some (record { jid = codes "j"; class = codes "C"; queue = codes "q"; args = codes "[]"; retry = Default; retry_for = None; gen_ = 0; bid = None; lock = None; dead = true; created = 0; first_failed = None })
+unfolding serde_json_on_literals head head_of_value head_of_object is_utf8 chars digits
+free_moment = refl
+
+read_moment : head (codes "{\"jid\":\"j\",\"class\":\"C\",\"queue\":\"q\",\"args\":[],\"retry_for\":1,\"failed_at\":null}") ≡ None
+unfolding serde_json_on_literals head head_of_value head_of_object is_utf8 chars digits
+read_moment = refl
 
 -- of two members with one name the last
 last : names (codes "{\"jid\":-0,\"class\":\"C\",\"queue\":\"q\",\"args\":[],\"jid\":\"k\"}") (codes "k") ≡ true

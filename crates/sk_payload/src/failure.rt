@@ -3,6 +3,7 @@ ghost use Rattle.std.specs.Prelude.{◌≡◌, OnOk, IfOk, string_bytes, min};
 ghost use Rattle.std.specs.Fmt.{take_chars};
 ghost use Rattle.serde_json.specs.Data.{number, string, unsigned, put};
 ghost use Rattle.serde_json.specs.View.{view, members_view};
+ghost use Rattle.sk_base.specs.Score.{last_moment};
 ghost use Rattle.sk_payload.specs.Failed.{moment_name as name_of_moment, failed_members};
 
 use crate::Memory;
@@ -11,6 +12,13 @@ use std::alloc::Global;
 
 /// The last millisecond of the year 9998.
 const LAST_MOMENT: u64 = 253_370_764_799_999;
+
+/// The moment of a failure as it is written: `now`, or the last moment where `now` is greater.
+pub fn written_moment(now: u64) -> u64
+    ensures { result ≡ min now last_moment }
+{
+    now.min(LAST_MOMENT)
+}
 
 fn set(alloc: Global, map: &mut Map<String, Value>, name: &str, value: Value) -> Result<(), Memory>
     ensures { OnOk result (members_view map.new.entries
@@ -78,7 +86,7 @@ pub fn set_failure(
         ≡ failed_members generation now class.now message.now (members_view map.old.entries)) }
 {
     set_number(alloc, map, "retry_count", u64::from(generation))?;
-    set_number(alloc, map, moment_name(generation), now.min(LAST_MOMENT))?;
+    set_number(alloc, map, moment_name(generation), written_moment(now))?;
     set_text(alloc, map, "error_class", front_of_class(alloc, class)?)?;
     set_text(
         alloc,

@@ -3,7 +3,7 @@ ghost use Rattle.std.specs.Prelude.{◌≡◌, Some, None, IfOk, option_map, fal
 ghost use Rattle.serde_json.specs.Find.{get, as_bool};
 ghost use Rattle.serde_json.specs.View.{view};
 ghost use Rattle.serde_json.specs.Written.{has_float};
-ghost use Rattle.sk_payload.specs.Member.{required, optional, is_name as name_test, name_of as name_in, count_of as count_in, args_of, retry_of as retry_in, generation_of, until_of as until_in};
+ghost use Rattle.sk_payload.specs.Member.{required, optional, is_name as name_test, name_of as name_in, count_of as count_in, seconds_of, moment_of as moment_in, args_of, retry_of as retry_in, generation_of, first_failed_of, until_of as until_in};
 ghost use Rattle.sk_payload.specs.Reading.{Gives};
 ghost use Rattle.sk_payload.specs.declared.head.Retry.TheVariants.{Default};
 ghost use Rattle.sk_payload.specs.declared.head.Until.TheVariants.{Success};
@@ -136,24 +136,42 @@ pub fn dead(value: &Value) -> Option<bool>
     }
 }
 
+fn moment_of(value: &Value) -> Option<u64>
+    ensures { result ≡ moment_in (view value.now) }
+{
+    count_of(value, 0, 253_402_300_799_999)
+}
+
 /// `created_at`, in milliseconds
 pub fn created(value: &Value) -> Option<u64>
-    ensures { result
-        ≡ optional 0 (count_in 0 253402300799999) (get (codes "created_at") (view value.now)) }
+    ensures { result ≡ optional 0 moment_in (get (codes "created_at") (view value.now)) }
 {
     match value.get("created_at") {
         None => Some(0),
-        Some(found) => count_of(found, 0, 253_402_300_799_999),
+        Some(found) => moment_of(found),
     }
 }
 
-/// `unique_for`, in seconds
-pub fn seconds(value: &Value) -> Option<Option<u32>>
-    ensures { result
-        ≡ optional None (λ n. option_map Some (count_in 1 1000000000 n))
-        (get (codes "unique_for") (view value.now)) }
+/// `failed_at`, in milliseconds, where `retry_for` is there
+pub fn first_failed(value: &Value, retry_for: Option<u32>) -> Option<Option<u64>>
+    ensures { result ≡ first_failed_of retry_for (get (codes "failed_at") (view value.now)) }
 {
-    let Some(found) = value.get("unique_for") else {
+    if retry_for.is_none() {
+        return Some(None);
+    }
+    let Some(found) = value.get("failed_at") else {
+        return Some(None);
+    };
+    let moment = moment_of(found)?;
+    Some(Some(moment))
+}
+
+/// `retry_for` or `unique_for`, in seconds
+pub fn seconds(value: &Value, key: &str) -> Option<Option<u32>>
+    ensures { result
+        ≡ optional None (λ n. option_map Some (seconds_of n)) (get key.now (view value.now)) }
+{
+    let Some(found) = value.get(key) else {
         return Some(None);
     };
     let n = small_count_of(found, 1, 1_000_000_000)?;

@@ -103,6 +103,9 @@ impl Payload {
     /// It is the same object, written without whitespace, with `retry_count` set to the old generation, `failed_at` to `now` at the first failure and
     /// `retried_at` at a later one, `error_class` to the first 255 characters of the class and `error_message` to the first 1,000 characters of the
     /// message. `now` is in milliseconds since 1970, and counts as the last one of the year 9998 where it is greater.
+    ///
+    /// Its head is that of the old one, with one more generation, and with `first_failed` of `now` at the first failure of a job that is retried
+    /// for a time.
     pub fn failed(
         &self,
         alloc: Global,
@@ -111,7 +114,7 @@ impl Payload {
         message: &str,
     ) -> Result<Payload, EditFault>
         ensures text { IfOk result (λ next. failed_in self.now now class.now message.now ≡ Some next) }
-        ensures head { IfOk result (λ next. head_of next ≡ option_map next_head (head_of self.now)) }
+        ensures head { IfOk result (λ next. head_of next ≡ option_map (next_head now) (head_of self.now)) }
         ensures follows { IfOk result (λ next. texts_follow self.now next ≡ true) }
         ensures no_head { (result ≡ Err no_head) ↔ (head_of self.now ≡ None) }
         ensures limit { (result ≡ Err gen_limit)
@@ -124,7 +127,7 @@ impl Payload {
             return Err(EditFault::GenLimit);
         }
         let text = failed_text(alloc, self.text.bytes(), head.gen_, now, class, message)?;
-        let head = boxed(alloc, head.next()?)?;
+        let head = boxed(alloc, head.next(now)?)?;
         Ok(Payload {
             text,
             head: Some(head),
@@ -156,7 +159,7 @@ fn failed_text(
     requires { IsSomeAnd (head_of text.now)
         (λ h. (h.gen_ ≡ generation) × (generation < 1000000000)) }
     ensures text { IfOk result (λ next. failed_in text.now now class.now message.now ≡ Some next) }
-    ensures head { IfOk result (λ next. head_of next ≡ option_map next_head (head_of text.now)) }
+    ensures head { IfOk result (λ next. head_of next ≡ option_map (next_head now) (head_of text.now)) }
 {
     let mut map = read_members(alloc, text)?;
     set_failure(alloc, &mut map, generation, now, class, message)?;

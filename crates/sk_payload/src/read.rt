@@ -75,19 +75,23 @@ fn head_of_object(alloc: Global, value: &Value) -> Result<Head, NoHead>
     let gen_ = member::generation(value).ok_or(NoHead::Wrong)?;
     let dead = member::dead(value).ok_or(NoHead::Wrong)?;
     let created = member::created(value).ok_or(NoHead::Wrong)?;
-    let seconds = member::seconds(value).ok_or(NoHead::Wrong)?;
+    let seconds = member::seconds(value, "unique_for").ok_or(NoHead::Wrong)?;
     let until = member::until(value).ok_or(NoHead::Wrong)?;
+    let retry_for = member::seconds(value, "retry_for").ok_or(NoHead::Wrong)?;
+    let first_failed = member::first_failed(value, retry_for).ok_or(NoHead::Wrong)?;
     Ok(Head {
         jid,
         class,
         queue,
         args,
         retry,
+        retry_for,
         gen_,
         bid,
         lock: seconds.map(|seconds| Lock { seconds, until }),
         dead,
         created,
+        first_failed,
     })
 }
 

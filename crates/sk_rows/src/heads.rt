@@ -48,6 +48,13 @@ fn lock(alloc: Global, lock: Option<Lock>) -> Result<String, AllocError> {
     }
 }
 
+fn number(alloc: Global, number: Option<u64>) -> Result<String, AllocError> {
+    match number {
+        Some(number) => format!(in alloc; "{number}"),
+        None => String::from_str(alloc, "none"),
+    }
+}
+
 // The members of a head.
 fn members(alloc: Global, head: &Head) -> Result<String, AllocError> {
     let names = format!(in alloc;
@@ -66,7 +73,11 @@ fn members(alloc: Global, head: &Head) -> Result<String, AllocError> {
     )?;
     let bid = bid(alloc, &head.bid)?;
     let lock = lock(alloc, head.lock)?;
-    format!(in alloc; "{names} {runs} bid={bid} lock={lock}\n")
+    let retry_for = number(alloc, head.retry_for.map(u64::from))?;
+    let first_failed = number(alloc, head.first_failed)?;
+    format!(in alloc;
+        "{names} {runs} bid={bid} lock={lock} retry_for={retry_for} first_failed={first_failed}\n"
+    )
 }
 
 // The line of a text, in which `%XX` stands for any byte.

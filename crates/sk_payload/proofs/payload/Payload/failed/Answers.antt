@@ -16,5 +16,5 @@ pub returns-clause-follows : goal.returns-clause-follows
 returns-clause-follows c =
     let e : head c.args.self.now ≡ Some c.in-Some.head.value = sym (ap head c.self.view_is) ∙ sym c.self.invariant ∙ ap (option_map (λ (b : Box Head Global). b.value)) c.in-Some.is in
     let text = c.bytes.ensures ∙ c.self.view_is in
-    let next : head c.in_ok-text.text ≡ Some (next_head c.in-Some.head.value) = c.in_ok-text.ensures.head ∙ ap (option_map next_head) (ap head text ∙ e) in
-    follows-next _ _ _ e next
+    let next : head c.in_ok-text.text ≡ Some (next_head c.args.now c.in-Some.head.value) = c.in_ok-text.ensures.head ∙ ap (option_map (next_head c.args.now)) (ap head text ∙ e) in
+    follows-next c.args.now _ _ _ e next
