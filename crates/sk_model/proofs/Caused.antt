@@ -446,7 +446,7 @@ module _ (w : World) (seat now : ℕ) (words : Words) where
     retry_causes None = tt
     retry_causes (Some pair) = either C (list_any (is_retried_as pair.1) works) _ _
         (λ y. put_causes (command.Plain c) (staging (is_retried_as pair.1) Put joined) Retry pair _ read
-            (ap (λ (p : Phase). list_any (is_buried_as pair.1) (works_of p)) is ∙ any_weaker (is_retried_as pair.1) (is_buried_as pair.1) works (retried_buried pair.1) y)) (λ n. tt)
+        (ap (λ (p : Phase). list_any (is_buried_as pair.1) (works_of p)) is ∙ any_weaker (is_retried_as pair.1) (is_buried_as pair.1) works (retried_buried pair.1) y)) (λ n. tt)
 
     release_causes : (key : Bytes) (count : ℤ) (text : Bytes) → action_of c ≡ action.Edit key (edit.Lrem count text) → C (release_of v seat joined ident (released_by ident key (edit.Lrem count text))).changes
     release_causes key count text e = by_own (bytes_eq key (private_key ident) && is_eq (int_cmp count (pos 1))) refl where
@@ -456,11 +456,14 @@ module _ (w : World) (seat now : ℕ) (words : Words) where
       by_own : (b : Bool) → bytes_eq key (private_key ident) && is_eq (int_cmp count (pos 1)) ≡ b → C (release_of v seat joined ident (cond b (Some text) None)).changes
       by_own false own = tt
       by_own true own = either C (list_any (is_done_as text) works) _ _
-          (λ y. (record {
-            key = key;
-            sent = (refl, sent (grind (arith, own)));
-            release = ap (λ (p : Phase). releases p (action_of (plain.Lrem key (pos 1) text))) is ∙ grind (arith, own, y);
-          }, (tt, tt))) (λ n. tt)
+          (λ y. (
+            record {
+              key = key;
+              sent = (refl, sent (grind (arith, own)));
+              release = ap (λ (p : Phase). releases p (action_of (plain.Lrem key (pos 1) text))) is ∙ grind (arith, own, y);
+            },
+            (tt, tt),
+          )) (λ n. tt)
 
     edit_causes : (key : Bytes) (e : Edit) → action_of c ≡ action.Edit key e → C (work_edit v seat joined ident key e).changes
     edit_causes key (edit.Zadd pairs) e = retry_causes (only pairs)

@@ -1,7 +1,7 @@
 -- The changes of the workers' commands are good.
 use Rattle.std.proofs.Common.{◌≡◌, ℕ, List, [], ◌∷◌, refl, sym, ap, subst, ◌∙◌, arith, Bool, true, false, ◌&&◌, length}
 use Rattle.std.specs.Prelude.{pos, nat_lt, Option, Some, None}
-use Rattle.std.specs.List.{AllByRecursion, list_any}
+use Rattle.std.specs.List.{list_any}
 use Rattle.std.specs.Option.{is_some}
 use Rattle.std.proofs.lemmas.Bool.Decides.{nat_tests}
 use Rattle.sk_resp.specs.Spelling.{Bytes}
@@ -234,7 +234,7 @@ retry_good w seat phase (Some pair) is =
     let test : Work → Bool = is_retried_as pair.1 in
     choice w (list_any test (works_of phase)) _ _
     (λ y. good_quiet w _ (put_keeps w seat phase test Retry pair is (λ work jid passes named. follows_newer work.payload pair.1 jid (retried_follows pair.1 work passes) named))
-        (put_quiet Retry pair _ seat (staging test Put phase)) (put_alive w pair _ seat (staging test Put phase)))
+    (put_quiet Retry pair _ seat (staging test Put phase)) (put_alive w pair _ seat (staging test Put phase)))
     (λ n. good_nothing w)
 
 buried_may : (text : Bytes) (work : Work) → is_buried_as text work ≡ true → may_bury work.payload text ≡ true
