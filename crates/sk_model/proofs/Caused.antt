@@ -1,8 +1,8 @@
 -- Each command's moves have causes.
 use Rattle.std.proofs.Common.{◌≡◌, ℕ, zero, suc, List, [], ◌∷◌, ◌++◌, refl, sym, ap, subst, ◌∙◌, inl, inr, arith, Bool, true, false, cond, not, ◌||◌, ◌&&◌, map}
-use Rattle.std.specs.Prelude.{Option, Some, None, Ok, Err, nat_abs, filter}
-use Rattle.std.specs.Option.{is_some}
-use Rattle.std.specs.List.{list_all}
+use Rattle.std.specs.Prelude.{ℤ, pos, Option, Some, None, Ok, Err, length, nat_abs, nat_lt, filter}
+use Rattle.std.specs.Ordering.{int_cmp, is_eq}
+use Rattle.std.specs.List.{list_all, list_any}
 use Rattle.std.specs.Str.{bytes_eq}
 use Rattle.sk_resp.specs.Spelling.{Bytes}
 use Rattle.sk_cmd.specs.Reading.{Read}
@@ -14,9 +14,9 @@ use Rattle.sk_cmd.specs.declared.argument.Scored.TheVariants.{Schedule, Retry, D
 use Rattle.sk_cmd.specs.declared.command.Command.{Command}
 use Rattle.sk_cmd.specs.declared.command.Command.TheVariants as command
 use Rattle.sk_cmd.specs.declared.command.PlainCommand.{PlainCommand}
+use Rattle.sk_cmd.specs.declared.command.PlainCommand.TheVariants as plain
 use Rattle.sk_cmd.specs.declared.command.ScriptCommand.{ScriptCommand}
 use Rattle.sk_cmd.specs.declared.command.ScriptCommand.TheVariants as script
-use Rattle.sk_payload.specs.Follows.{follows}
 use Rattle.sk_payload.specs.Head.{head}
 use Rattle.sk_payload.specs.Member.{is_name}
 use Rattle.sk_payload.specs.declared.head.Head.{Head}
@@ -48,25 +48,28 @@ use Rattle.sk_key.specs.declared.key_class.KeyClass.{KeyClass}
 use Rattle.sk_key.specs.declared.key_class.KeyClass.TheVariants as class
 use Rattle.sk_seats.specs.declared.work.End.TheVariants as end
 use Rattle.sk_seats.specs.declared.phase.Phase.{Phase}
-use Rattle.sk_seats.specs.declared.phase.Phase.TheVariants.{Plain, Idle, Held, Put, Settled}
-use Rattle.sk_seats.specs.Phases.{is_plain as is_plain_seat}
+use Rattle.sk_seats.specs.declared.phase.Phase.TheVariants.{Plain, Joined}
+use Rattle.sk_seats.specs.declared.work.Stage.TheVariants.{Put, Settled}
+use Rattle.sk_seats.specs.declared.work.Work.{Work}
+use Rattle.sk_seats.specs.Phases.{is_plain as is_plain_seat, releasing, staging, works_of}
+use Rattle.sk_seats.specs.Works.{is_buried_as, is_done_as, is_held_as, is_retried_as, most_works}
 use Rattle.sk_counters.specs.Counters.{processed, failed}
 use Rattle.sk_leases.specs.Leased.{is_alive}
 use Rattle.sk_model.specs.Reading.{Words}
 use Rattle.sk_model.specs.World.{World, phase_of, first}
 use Rattle.sk_model.specs.Change.{Carry, Trim, Change, Moves, Passes, Names, Unnames, Turns, Counts, Recovers, Forgets, Makes, changed, perform}
-use Rattle.sk_key.specs.Class.{class_of, queue_of, is_plain, is_queue}
+use Rattle.sk_key.specs.Class.{class_of, queue_of, is_plain, is_queue, private_key}
 use Rattle.sk_model.specs.Outcome.{Outcome}
 use Rattle.sk_model.specs.Room.{is_full as is_store_full, is_too_much}
 use Rattle.sk_model.specs.Queues.{pushes, takes, move_row}
 use Rattle.sk_model.specs.Deletes.{take_all, delete_as, delete_each, may_go}
 use Rattle.sk_model.specs.Sets.{add_as, add_one, add_each, edit_jobs, put_as, put_back}
-use Rattle.sk_model.specs.Seats.{fetched_from, is_for_all, is_release, is_workers, releases, retried, where_plain, where_held, where_same}
+use Rattle.sk_model.specs.Seats.{fetched_from, is_for_all, is_workers, only, released_by, releases, where_plain, where_some}
 use Rattle.sk_model.specs.Jobs.{Sent, bury, buried_by, due_rows, each, kill_row, merge, moment_score, put_dead, revive_as, revive_row, send, surplus, to_queue}
 use Rattle.sk_model.specs.Told.{push_job, push_to, fire_all}
 use Rattle.sk_model.specs.Batches.{all_may_join, are_callbacks, batch_add, batch_of, batch_push, jids_of, join as join_batch, make, push_jobs, tells_stat, unless}
 use Rattle.sk_model.specs.Rescue.{bury_poison, is_poison, left_rows, rescue_row}
-use Rattle.sk_model.specs.Workers.{bury as bury_held, fail, fetch, fetch_row, give, give_row, may_bury, ok, release, retry, work}
+use Rattle.sk_model.specs.Workers.{bury as bury_held, fail, fetch, fetch_row, give, give_row, ok, release_of, retry, work, work_as, work_edit}
 use Rattle.sk_model.specs.Step.{act, by_seat, edit_names, edit_queue, edits, is_script_built, moves, on_plain, outcome, run}
 use Rattle.sk_model.specs.Event.{Event, Ask, Cut, Gives, Happens, Run, Step, after}
 use Rattle.sk_model.specs.Causes.{CausesFrom, HaveCauses, IsRemoval, MovesHaveCauses, removes}
@@ -74,8 +77,10 @@ use Rattle.sk_model.proofs.Marked.{ParentTakes, Sane}
 use Rattle.sk_model.proofs.Fired.{all_quiet, perform-append, quiet-append, quiet_batches}
 use Rattle.sk_model.proofs.Calls.{AllCalled}
 use Rattle.sk_model.proofs.Told.{tells_death}
-use Rattle.sk_model.proofs.Sending.{text_is, trims_quiet}
-use Rattle.sk_model.proofs.Working.{put_quiet, retried_follows}
+use Rattle.sk_model.proofs.Sending.{trims_quiet}
+use Rattle.sk_model.proofs.Texts.{score_is}
+use Rattle.sk_model.proofs.Works.{any_weaker}
+use Rattle.sk_model.proofs.Working.{put_quiet}
 use Rattle.sk_model.proofs.Making.{bid_clear, jobs_quiet, made_called}
 use Rattle.sk_model.proofs.Commands.{lawful}
 use Rattle.sk_model.proofs.Firing.{sane_first}
@@ -89,21 +94,11 @@ either P false one other f g = g refl
 
 in_plain : (P : List Change → Type 0) (phase : Phase) (o : Outcome) → P [] → P o.changes → P (where_plain phase o).changes
 in_plain P Plain o none one = one
-in_plain P (Idle ident) o none one = none
-in_plain P (Held ident held) o none one = none
-in_plain P (Put ident held) o none one = none
-in_plain P (Settled ident held end) o none one = none
+in_plain P (Joined ident works) o none one = none
 
-in_held : (P : List Change → Type 0) (phase : Phase) (o : Bytes → Bytes → Outcome) → P [] → ((ident held : Bytes) → phase ≡ Held ident held → P (o ident held).changes) → P (where_held phase o).changes
-in_held P Plain o none one = none
-in_held P (Idle ident) o none one = none
-in_held P (Held ident held) o none one = one ident held refl
-in_held P (Put ident held) o none one = none
-in_held P (Settled ident held end) o none one = none
-
-in_same : (P : List Change → Type 0) (phase : Phase) (text : Bytes) (o : Bytes → Outcome) → P [] → ((ident : Bytes) → phase ≡ Held ident text → P (o ident).changes) → P (where_same phase text o).changes
-in_same P phase text o none one = in_held P phase _ none
-    (λ ident held is. either P (bytes_eq held text) _ _ (λ y. one ident (is ∙ ap (Held ident) (text_is held text y))) (λ n. none))
+in_some : (P : List Change → Type 0) (phase : Phase) (test : Work → Bool) (o : Bytes → Outcome) → P [] → ((ident : Bytes) → list_any test (works_of phase) ≡ true → P (o ident).changes) → P (where_some phase test o).changes
+in_some P Plain test o none one = none
+in_some P (Joined ident works) test o none one = either P (list_any test works) _ _ (λ y. one ident y) (λ n. none)
 
 -- ## What clients do to keys needs no cause, but where it takes rows away
 
@@ -257,10 +252,11 @@ none_for_all c e = grind (arith, e)
 
 plain_is : (phase : Phase) → is_plain_seat phase ≡ true → phase ≡ Plain
 plain_is Plain e = refl
-plain_is (Idle ident) e = absurd (cc e)
-plain_is (Held ident held) e = absurd (cc e)
-plain_is (Put ident held) e = absurd (cc e)
-plain_is (Settled ident held end) e = absurd (cc e)
+plain_is (Joined ident works) e = absurd (cc e)
+
+-- one command alone comes to an edit of this kind
+lrem_is : (c : PlainCommand) (key : Bytes) (count : ℤ) (text : Bytes) → action_of c ≡ action.Edit key (edit.Lrem count text) → c ≡ plain.Lrem key count text
+lrem_is c key count text e = grind (arith, e)
 
 -- ## Burying
 
@@ -422,36 +418,82 @@ module _ (w : World) (seat now : ℕ) (words : Words) where
   abbrev C : List Change → Type 0
   C = HaveCauses w event false [] v
 
-  fetch_row_causes : (ident : Bytes) (found : Option Row) → C (fetch_row seat ident found).changes
-  fetch_row_causes ident None = tt
-  fetch_row_causes ident (Some row) = (tt, (tt, tt))
+  fetch_row_causes : (phase : Phase) (ident : Bytes) (found : Option Row) → C (fetch_row seat phase ident found).changes
+  fetch_row_causes phase ident None = tt
+  fetch_row_causes phase ident (Some row) = (tt, (tt, tt))
 
-  fetch_causes : (ident : Bytes) (found : Option Bytes) → C (fetch v seat ident found).changes
-  fetch_causes ident None = tt
-  fetch_causes ident (Some queue) = fetch_row_causes ident _
+  fetch_causes : (phase : Phase) (ident : Bytes) (found : Option Bytes) → C (fetch v seat phase ident found).changes
+  fetch_causes phase ident None = tt
+  fetch_causes phase ident (Some queue) = either C (nat_lt (length (works_of phase)) most_works) _ _ (λ y. fetch_row_causes phase ident _) (λ n. tt)
 
   -- a text is put back into a set
-  put_causes : (c : Command) (ident held : Bytes) (set : Scored) (pair : Pair) (found : Option Row) → IsRead words (Ok c) → phase_of w seat ≡ Held ident held → may_bury held pair.1 ≡ true
-      → C (put_as set pair found ∷ Turns seat (Put ident held) ∷ [])
-  put_causes c ident held set pair None read is may = (record { seat = seat; c = c; ident = ident; held = held; sent = (refl, read); phase = is; follows = may }, (tt, tt))
-  put_causes c ident held set pair (Some row) read is may = (tt, (tt, tt))
+  put_causes : (c : Command) (phase : Phase) (set : Scored) (pair : Pair) (found : Option Row) → IsRead words (Ok c) → list_any (is_buried_as pair.1) (works_of (phase_of w seat)) ≡ true
+      → C (put_as set pair found ∷ Turns seat phase ∷ [])
+  put_causes c phase set pair None read may = (record { seat = seat; c = c; sent = (refl, read); held = may }, (tt, tt))
+  put_causes c phase set pair (Some row) read may = (tt, (tt, tt))
 
-  retry_causes : (c : PlainCommand) (ident held : Bytes) (found : Option Pair) → IsRead words (Ok (command.Plain c)) → phase_of w seat ≡ Held ident held → ((pair : Pair) → found ≡ Some pair → follows held pair.1 ≡ true)
-      → C (retry v seat ident held found).changes
-  retry_causes c ident held None read is all = tt
-  retry_causes c ident held (Some pair) read is all = put_causes (command.Plain c) ident held Retry pair _ read is (ap (λ b. b || (bytes_eq held pair.1 && not (is_some (head held)))) (all pair refl))
+  -- ## What a worker does to keys
 
-  release_causes : (c : PlainCommand) (ident held : Bytes) → IsRead words (Ok (command.Plain c)) → releases (phase_of w seat) (action_of c) ≡ true → C (release v seat ident held).changes
-  release_causes c ident held read e = (record { c = c; sent = (refl, read); release = e }, (tt, tt))
+  retried_buried : (text : Bytes) (work : Work) → is_retried_as text work ≡ true → is_buried_as text work ≡ true
+  retried_buried text work passes = grind (arith, passes)
+
+  -- works: those of the seat
+  module _ (c : PlainCommand) (ident : Bytes) (works : List Work) (read : IsRead words (Ok (command.Plain c))) (is : phase_of w seat ≡ Joined ident works) where
+    abbrev joined : Phase
+    joined = Joined ident works
+
+    retry_causes : (found : Option Pair) → C (retry v seat joined found).changes
+    retry_causes None = tt
+    retry_causes (Some pair) = either C (list_any (is_retried_as pair.1) works) _ _
+        (λ y. put_causes (command.Plain c) (staging (is_retried_as pair.1) Put joined) Retry pair _ read
+        (ap (λ (p : Phase). list_any (is_buried_as pair.1) (works_of p)) is ∙ any_weaker (is_retried_as pair.1) (is_buried_as pair.1) works (retried_buried pair.1) y)) (λ n. tt)
+
+    release_causes : (key : Bytes) (count : ℤ) (text : Bytes) → action_of c ≡ action.Edit key (edit.Lrem count text) → C (release_of v seat joined ident (released_by ident key (edit.Lrem count text))).changes
+    release_causes key count text e = by_own (bytes_eq key (private_key ident) && is_eq (int_cmp count (pos 1))) refl where
+      sent : is_eq (int_cmp count (pos 1)) ≡ true → IsRead words (Ok (command.Plain (plain.Lrem key (pos 1) text)))
+      sent one = subst (λ n. IsRead words (Ok (command.Plain (plain.Lrem key n text)))) (score_is count (pos 1) one) (subst (λ (d : PlainCommand). IsRead words (Ok (command.Plain d))) (lrem_is c key count text e) read)
+
+      by_own : (b : Bool) → bytes_eq key (private_key ident) && is_eq (int_cmp count (pos 1)) ≡ b → C (release_of v seat joined ident (cond b (Some text) None)).changes
+      by_own false own = tt
+      by_own true own = either C (list_any (is_done_as text) works) _ _
+          (λ y. (
+            record {
+              key = key;
+              sent = (refl, sent (grind (arith, own)));
+              release = ap (λ (p : Phase). releases p (action_of (plain.Lrem key (pos 1) text))) is ∙ grind (arith, own, y);
+            },
+            (tt, tt),
+          )) (λ n. tt)
+
+    edit_causes : (key : Bytes) (e : Edit) → action_of c ≡ action.Edit key e → C (work_edit v seat joined ident key e).changes
+    edit_causes key (edit.Zadd pairs) e = retry_causes (only pairs)
+    edit_causes key (edit.Lrem count text) e = release_causes key count text e
+    edit_causes key (edit.Push side texts) e = tt
+    edit_causes key (edit.Incrby n) e = tt
+    edit_causes key (edit.Sadd members) e = tt
+    edit_causes key (edit.Srem members) e = tt
+    edit_causes key (edit.Hset pairs) e = tt
+    edit_causes key (edit.Hdel fields) e = tt
+    edit_causes key (edit.Zrem members) e = tt
+    edit_causes key (edit.Zremrangebyrank first last) e = tt
+    edit_causes key (edit.Zremrangebyscore least greatest) e = tt
+
+    as_causes : (a : Action) → action_of c ≡ a → C (work_as v seat joined ident a).changes
+    as_causes (action.Edit key e) is_edit = edit_causes key e is_edit
+    as_causes (action.Move source destination from to) e = fetch_causes joined ident (fetched_from ident (action.Move source destination from to))
+    as_causes action.Ping e = tt
+    as_causes (action.Echo text) e = tt
+    as_causes action.Quit e = tt
+    as_causes (action.Look key look) e = tt
+    as_causes (action.Set key text options) e = tt
+    as_causes (action.Expire key millis) e = tt
+    as_causes (action.Exists keys) e = tt
+    as_causes (action.Delete keys) e = tt
+    as_causes action.Flush e = tt
 
   work_causes : (c : PlainCommand) (phase : Phase) → IsRead words (Ok (command.Plain c)) → phase_of w seat ≡ phase → C (work v seat phase (action_of c)).changes
   work_causes c Plain read is = tt
-  work_causes c (Idle ident) read is = fetch_causes ident (fetched_from ident (action_of c))
-  work_causes c (Held ident held) read is = retry_causes c ident held (retried held (action_of c)) read is (retried_follows held (action_of c))
-  work_causes c (Put ident held) read is =
-      either C (is_release ident held (action_of c)) _ _ (λ y. release_causes c ident held read (ap (λ phase. releases phase (action_of c)) is ∙ y)) (λ n. tt)
-  work_causes c (Settled ident held end) read is =
-      either C (is_release ident held (action_of c)) _ _ (λ y. release_causes c ident held read (ap (λ phase. releases phase (action_of c)) is ∙ y)) (λ n. tt)
+  work_causes c (Joined ident works) read is = as_causes c ident works read is (action_of c) refl
 
   removal : (c : PlainCommand) → IsRead words (Ok (command.Plain c)) → is_plain_seat (phase_of w seat) || is_for_all c ≡ true → action_takes (action_of c) ≡ true → IsRemoval w event
   removal c read may takes =
@@ -464,21 +506,21 @@ module _ (w : World) (seat now : ℕ) (words : Words) where
       (λ n. either C (is_plain_seat (phase_of w seat) || is_for_all c) _ _
       (λ may. causes_tame w event (action_takes (action_of c)) false [] v _ (removal c read may) (act_tame v (action_of c))) (λ n. tt))
 
-  give_row_causes : (ident : Bytes) (h : Head) (found : Option Row) → C (give_row seat ident h found).changes
-  give_row_causes ident h None = (tt, tt)
-  give_row_causes ident h (Some row) = (tt, (tt, tt))
+  give_row_causes : (phase : Phase) (h : Head) (found : Option Row) → C (give_row seat phase h found).changes
+  give_row_causes phase h None = (tt, tt)
+  give_row_causes phase h (Some row) = (tt, (tt, tt))
 
-  give_causes : (ident text : Bytes) (found : Option Head) → C (give v seat ident text found).changes
-  give_causes ident text None = tt
-  give_causes ident text (Some h) = give_row_causes ident h _
+  give_causes : (phase : Phase) (ident text : Bytes) (found : Option Head) → C (give v seat phase ident text found).changes
+  give_causes phase ident text None = tt
+  give_causes phase ident text (Some h) = give_row_causes (releasing (is_held_as text) phase) h _
 
   ok_causes : (text : Bytes) → IsRead words (Ok (command.Script (script.Ok text))) → Sane w.batches → C (ok v seat (phase_of w seat) text).changes
-  ok_causes text read s = in_same C (phase_of w seat) text _ tt (λ ident is.
-      causes_append w event false [] v (Turns seat (Settled ident text end.Returned) ∷ Counts processed ∷ []) _ (tt, (tt, tt))
-      (tell_causes w event Returned _ (head text) s (λ h bid of_text named. record { seat = seat; ident = ident; held = text; h = h; sent = (refl, read); phase = is; head_is = of_text; jid_is = refl; bid_is = named })))
+  ok_causes text read s = in_some C (phase_of w seat) (is_held_as text) _ tt (λ ident some.
+      causes_append w event false [] v (Turns seat (staging (is_held_as text) (Settled end.Returned) (phase_of w seat)) ∷ Counts processed ∷ []) _ (tt, (tt, tt))
+      (tell_causes w event Returned _ (head text) s (λ h bid of_text named. record { seat = seat; text = text; h = h; sent = (refl, read); held = some; head_is = of_text; jid_is = refl; bid_is = named })))
 
   fail_causes : (text : Bytes) → Sane w.batches → C (fail v (phase_of w seat) text).changes
-  fail_causes text s = in_same C (phase_of w seat) text _ tt (λ ident is.
+  fail_causes text s = in_some C (phase_of w seat) (is_held_as text) _ tt (λ ident some.
       causes_append w event false [] v (Counts processed ∷ Counts failed ∷ []) _ (tt, (tt, tt)) (tell_causes w event Reported _ (head text) s (λ h bid of_text named. tt)))
 
   put_buried : (pair : Pair) (found : Option Row) (more : List Change) → some_burial (put_as Dead pair found ∷ more) ≡ true
@@ -486,22 +528,23 @@ module _ (w : World) (seat now : ℕ) (words : Words) where
   put_buried pair (Some row) more = refl
 
   bury_held_causes : (text : Bytes) → IsRead words (Ok (command.Script (script.Bury text))) → Sane w.batches → C (bury_held v seat (phase_of w seat) text).changes
-  bury_held_causes text read s = in_held C (phase_of w seat) _ tt (λ ident held is. either C (may_bury held text) _ _
-      (λ may.
+  bury_held_causes text read s =
       let pair : Pair = (moment_score v, text) in
-      let put : List Change = put_back v Dead pair ∷ Turns seat (Put ident held) ∷ [] in
-      let quiet : all_quiet put ≡ true = put_quiet Dead pair _ seat (Put ident held) in
-      buried_causes w event v text put (put_buried pair (row_of text (rows_at (Set Dead) v.rows)) (Turns seat (Put ident held) ∷ [])) (put_causes (command.Script (script.Bury text)) ident held Dead pair _ read is may) (done_sane v text put quiet s)) (λ n. tt))
+      let phase : Phase = staging (is_buried_as text) Put (phase_of w seat) in
+      let put : List Change = put_back v Dead pair ∷ Turns seat phase ∷ [] in
+      let quiet : all_quiet put ≡ true = put_quiet Dead pair _ seat phase in
+      in_some C (phase_of w seat) (is_buried_as text) _ tt
+      (λ ident some. buried_causes w event v text put (put_buried pair (row_of text (rows_at (Set Dead) v.rows)) (Turns seat phase ∷ [])) (put_causes (command.Script (script.Bury text)) phase Dead pair _ read some) (done_sane v text put quiet s))
 
   run_causes : (c : ScriptCommand) → IsRead words (Ok (command.Script c)) → Sane w.batches → C (run v seat (phase_of w seat) c).changes
   run_causes (script.Beat ident) read s = either C (is_name 255 ident) _ _ (λ y. (tt, tt)) (λ n. tt)
-  run_causes (script.Join ident) read s = in_plain C (phase_of w seat) _ tt (either C (is_alive ident v.moment v.leases) _ _ (λ y. (tt, tt)) (λ n. tt))
-  run_causes (script.Start text) read s = in_same C (phase_of w seat) text _ tt (λ ident is. tt)
+  run_causes (script.Join ident) read s = in_plain C (phase_of w seat) _ tt (either C (is_name 255 ident && is_alive ident v.moment v.leases) _ _ (λ y. (tt, tt)) (λ n. tt))
+  run_causes (script.Start text) read s = in_some C (phase_of w seat) (is_held_as text) _ tt (λ ident some. tt)
   run_causes (script.Ok text) read s = ok_causes text read s
   run_causes (script.Fail text) read s = fail_causes text s
-  run_causes (script.Drop text) read s = in_same C (phase_of w seat) text _ tt (λ ident is. (tt, tt))
+  run_causes (script.Drop text) read s = in_some C (phase_of w seat) (is_held_as text) _ tt (λ ident some. (tt, tt))
   run_causes (script.Bury text) read s = bury_held_causes text read s
-  run_causes (script.Back text) read s = in_same C (phase_of w seat) text _ tt (λ ident is. give_causes ident text (head text))
+  run_causes (script.Back text) read s = in_some C (phase_of w seat) (is_held_as text) _ tt (λ ident some. give_causes (phase_of w seat) ident text (head text))
   run_causes (script.Due set limit) read s = in_plain C (phase_of w seat) _ tt (each_causes w event send (send_caused w event) v (due_rows v set (nat_abs limit)) s)
   run_causes (script.Revive set text) read s = in_plain C (phase_of w seat) _ tt (revive_row_causes w event v _)
   run_causes (script.Kill set text) read s = in_plain C (phase_of w seat) _ tt (kill_row_causes w event v _ s)

@@ -35,7 +35,7 @@ use Rattle.sk_model.proofs.Sending.{all_own, surplus_dead}
 abbrev pub is_tame : Bool → Change → Bool
 is_tame takes (Moves (Take row from)) = takes
 is_tame takes (Moves (Trim row)) = false
-is_tame takes (Moves (Free seat)) = false
+is_tame takes (Moves (Free seat text)) = false
 is_tame takes (Moves (PutBack row)) = false
 is_tame takes (Moves (Add row end Inner)) = false
 is_tame takes (Tells Returned bid jid) = false
@@ -56,7 +56,7 @@ module _ (w : World) (event : Event) where
   cause_tame : (takes : Bool) (b : Bool) (due : List Change) (change : Change) → (takes ≡ true → IsRemoval w event) → is_tame takes change ≡ true → HasCause w event b due change
   cause_tame takes b due (Moves (Take row from)) removal e = removal e
   cause_tame takes b due (Moves (Trim row)) removal e = absurd (cc e)
-  cause_tame takes b due (Moves (Free seat)) removal e = absurd (cc e)
+  cause_tame takes b due (Moves (Free seat text)) removal e = absurd (cc e)
   cause_tame takes b due (Moves (PutBack row)) removal e = absurd (cc e)
   cause_tame takes b due (Moves (Add row end Inner)) removal e = absurd (cc e)
   cause_tame takes b due (Moves (Add row end Outside)) removal e = tt
@@ -88,7 +88,7 @@ module _ (w : World) (event : Event) where
   later_cause : (b c : Bool) (due : List Change) (change : Change) → (b ≡ true → c ≡ true) → HasCause w event b due change → HasCause w event c due change
   later_cause b c due (Moves (Trim row)) more h = (h.0, more h.1)
   later_cause b c due (Moves (Take row from)) more h = h
-  later_cause b c due (Moves (Free seat)) more h = h
+  later_cause b c due (Moves (Free seat text)) more h = h
   later_cause b c due (Moves (PutBack row)) more h = h
   later_cause b c due (Moves (Add row end Inner)) more h = h
   later_cause b c due (Moves (Add row end Outside)) more h = tt
@@ -119,7 +119,7 @@ module _ (w : World) (event : Event) where
   behind_cause b due (Moves (Add row end Inner)) h = absurd (cc h)
   behind_cause b due (Moves (Trim row)) h = h
   behind_cause b due (Moves (Take row from)) h = h
-  behind_cause b due (Moves (Free seat)) h = h
+  behind_cause b due (Moves (Free seat text)) h = h
   behind_cause b due (Moves (PutBack row)) h = h
   behind_cause b due (Moves (Add row end Outside)) h = tt
   behind_cause b due (Moves (Carry row from to score end)) h = tt

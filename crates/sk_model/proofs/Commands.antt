@@ -165,8 +165,8 @@ act_good w (action.Delete keys) = delete_good w keys
 act_good w (action.Move source destination from to) = moves_good w source destination from to (class_of source) (class_of destination)
 act_good w action.Flush = flush_good w
 
-by_seat_good : (w : World) (seat : ℕ) (phase : Phase) (c : PlainCommand) → Good w (by_seat w seat phase c).changes
-by_seat_good w seat phase c = choice w (is_workers (action_of c)) _ _ (λ y. work_good w seat phase (action_of c))
+by_seat_good : (w : World) (seat : ℕ) (phase : Phase) (c : PlainCommand) → phase_of w seat ≡ phase → Good w (by_seat w seat phase c).changes
+by_seat_good w seat phase c is = choice w (is_workers (action_of c)) _ _ (λ y. work_good w seat phase (action_of c) is)
     (λ n. choice w (is_plain_seat phase || is_for_all c) _ _ (λ y. act_good w (action_of c)) (λ n. good_nothing w))
 
 -- a batch's numbers change nothing
@@ -174,35 +174,35 @@ stat_good : (w : World) (found : Option BatchStat) → Good w (tells_stat found)
 stat_good w None = good_nothing w
 stat_good w (Some s) = good_nothing w
 
-run_lawful : (w : World) (seat : ℕ) (phase : Phase) (c : ScriptCommand) → Lawful w (run w seat phase c).changes
-run_lawful w seat phase (script.Beat ident) = (beat_good w ident).lawful
-run_lawful w seat phase (script.Join ident) = (where_plain_good w phase _ (join_good w seat ident)).lawful
-run_lawful w seat phase (script.Start text) = (start_good w phase text).lawful
-run_lawful w seat phase (script.Ok text) = (ok_good w seat phase text).lawful
-run_lawful w seat phase (script.Fail text) = (fail_good w phase text).lawful
-run_lawful w seat phase (script.Drop text) = (drop_good w seat phase text).lawful
-run_lawful w seat phase (script.Bury text) = (bury_good w seat phase text).lawful
-run_lawful w seat phase (script.Back text) = (back_good w seat phase text).lawful
-run_lawful w seat phase (script.Due set limit) = (where_plain_good w phase _ (due_good w set (nat_abs limit))).lawful
-run_lawful w seat phase (script.Revive set text) = (where_plain_good w phase _ (revive_good w set text)).lawful
-run_lawful w seat phase (script.Kill set text) = (where_plain_good w phase _ (kill_good w set text)).lawful
-run_lawful w seat phase script.Rescue = (where_plain_good w phase _ (rescue_good w)).lawful
-run_lawful w seat phase (script.Upush text score) = (good_nothing w).lawful
-run_lawful w seat phase (script.Bpush bid parent complete success death texts) = batch_push_lawful w (batch_of bid parent complete success death) texts
-run_lawful w seat phase (script.Badd bid texts) = batch_add_lawful w bid texts
-run_lawful w seat phase (script.Bstat bid) = (stat_good w (stat bid w.batches)).lawful
-run_lawful w seat phase (script.Lead ident) = (good_nothing w).lawful
-run_lawful w seat phase (script.Cron ident loop slot text) = (good_nothing w).lawful
-run_lawful w seat phase (script.Where jid) = (good_nothing w).lawful
-run_lawful w seat phase script.Status = (good_nothing w).lawful
+run_lawful : (w : World) (seat : ℕ) (phase : Phase) (c : ScriptCommand) → phase_of w seat ≡ phase → Lawful w (run w seat phase c).changes
+run_lawful w seat phase (script.Beat ident) is = (beat_good w ident).lawful
+run_lawful w seat phase (script.Join ident) is = (where_plain_good w phase _ (join_good w seat ident)).lawful
+run_lawful w seat phase (script.Start text) is = (start_good w phase text).lawful
+run_lawful w seat phase (script.Ok text) is = (ok_good w seat phase text is).lawful
+run_lawful w seat phase (script.Fail text) is = (fail_good w phase text).lawful
+run_lawful w seat phase (script.Drop text) is = (drop_good w seat phase text is).lawful
+run_lawful w seat phase (script.Bury text) is = (bury_good w seat phase text is).lawful
+run_lawful w seat phase (script.Back text) is = (back_good w seat phase text is).lawful
+run_lawful w seat phase (script.Due set limit) is = (where_plain_good w phase _ (due_good w set (nat_abs limit))).lawful
+run_lawful w seat phase (script.Revive set text) is = (where_plain_good w phase _ (revive_good w set text)).lawful
+run_lawful w seat phase (script.Kill set text) is = (where_plain_good w phase _ (kill_good w set text)).lawful
+run_lawful w seat phase script.Rescue is = (where_plain_good w phase _ (rescue_good w)).lawful
+run_lawful w seat phase (script.Upush text score) is = (good_nothing w).lawful
+run_lawful w seat phase (script.Bpush bid parent complete success death texts) is = batch_push_lawful w (batch_of bid parent complete success death) texts
+run_lawful w seat phase (script.Badd bid texts) is = batch_add_lawful w bid texts
+run_lawful w seat phase (script.Bstat bid) is = (stat_good w (stat bid w.batches)).lawful
+run_lawful w seat phase (script.Lead ident) is = (good_nothing w).lawful
+run_lawful w seat phase (script.Cron ident loop slot text) is = (good_nothing w).lawful
+run_lawful w seat phase (script.Where jid) is = (good_nothing w).lawful
+run_lawful w seat phase script.Status is = (good_nothing w).lawful
 
 whichever : (w : World) (b : Bool) (one other : Outcome) → Lawful w one.changes → Lawful w other.changes → Lawful w (cond b one other).changes
 whichever w true one other f g = f
 whichever w false one other f g = g
 
 outcome_lawful : (w : World) (seat now : ℕ) (c : Command) → Lawful w (outcome w seat now c).changes
-outcome_lawful w seat now (command.Plain c) = lawful_passes w now _ (by_seat_good (changed w (Passes now)) seat (phase_of w seat) c).lawful
-outcome_lawful w seat now (command.Script c) = whichever w (is_script_built c) _ _ (lawful_passes w now _ (run_lawful (changed w (Passes now)) seat (phase_of w seat) c)) (good_nothing w).lawful
+outcome_lawful w seat now (command.Plain c) = lawful_passes w now _ (by_seat_good (changed w (Passes now)) seat (phase_of w seat) c refl).lawful
+outcome_lawful w seat now (command.Script c) = whichever w (is_script_built c) _ _ (lawful_passes w now _ (run_lawful (changed w (Passes now)) seat (phase_of w seat) c refl)) (good_nothing w).lawful
 
 -- ## What a store owes to the laws
 
@@ -213,7 +213,7 @@ step_sound w seat now c o (inr (may, e)) s = subst (λ (u : Outcome). IsSound (p
 
 -- and where a seat is cut off
 pub cut_sound : (w : World) (seat : ℕ) → IsSound w → IsSound (perform w (cut seat).changes)
-cut_sound w seat s = (good_turn w seat Plain tt).lawful.keeps.sound s
+cut_sound w seat s = (good_turn w seat Plain (λ jid all. tt)).lawful.keeps.sound s
 
 -- ## Events
 
@@ -225,4 +225,4 @@ gives_lawful w seat now (Err fault) o e = subst (λ (u : Outcome). Lawful w u.ch
 -- whatever event comes, and wherever memory runs out
 pub lawful : (w : World) (event : Event) (o : Outcome) → Happens w event o → Lawful w o.changes
 lawful w (Ask seat now words) o (r, is, gives) = gives_lawful w seat now r o gives
-lawful w (Cut seat) o e = subst (λ (u : Outcome). Lawful w u.changes) (sym e) (good_turn w seat Plain tt).lawful
+lawful w (Cut seat) o e = subst (λ (u : Outcome). Lawful w u.changes) (sym e) (good_turn w seat Plain (λ jid all. tt)).lawful

@@ -10,7 +10,7 @@ use Rattle.sk_places.specs.Rows.{is_same}
 use Rattle.sk_batch.specs.Batched.{Batched}
 use Rattle.sk_batch.specs.declared.firing.Kind.TheVariants.{Death}
 use Rattle.sk_seats.specs.declared.phase.Phase.{Phase}
-use Rattle.sk_model.specs.World.{World}
+use Rattle.sk_model.specs.World.{World, phase_of}
 use Rattle.sk_model.specs.Change.{Add, Carry, Take, Trim, PutBack, Free, Change, Moves, Passes, Names, Unnames, Keeps, Turns, Beats, Counts, Recovers, Forgets, changed, perform}
 use Rattle.sk_lives.specs.Lives.{one_if}
 use Rattle.sk_model.specs.Once.{CallsFollow, times, buries, is_dead_set}
@@ -131,12 +131,12 @@ good_take w row from there = good_quiet w _ (keeps_take w row from there) refl (
 pub good_trim : (w : World) (row : Row) → list_any (is_same row) w.rows ≡ true → Good w (Moves (Trim row) ∷ [])
 good_trim w row there = good_quiet w _ (keeps_trim w row there) refl (λ b. refl)
 
--- a seat releases its payload, whatever stands of it
-pub good_free : (w : World) (seat : ℕ) → Good w (Moves (Free seat) ∷ [])
-good_free w seat = good_quiet w _ (keeps_free w seat) refl (λ b. refl)
+-- a seat releases a job of this text, whatever stands of it
+pub good_free : (w : World) (seat : ℕ) (text : Bytes) → Good w (Moves (Free seat text) ∷ [])
+good_free w seat text = good_quiet w _ (keeps_free w seat text) refl (λ b. refl)
 
 -- a seat turns to a phase that it is ready for
-pub good_turn : (w : World) (seat : ℕ) (phase : Phase) → Ready w phase → Good w (Turns seat phase ∷ [])
+pub good_turn : (w : World) (seat : ℕ) (phase : Phase) → Ready w (phase_of w seat) phase → Good w (Turns seat phase ∷ [])
 good_turn w seat phase ready = good_quiet w _ (keeps_turn w seat phase ready) refl (λ b. refl)
 
 pub good_passes : (w : World) (now : ℕ) → Good w (Passes now ∷ [])

@@ -95,12 +95,12 @@ keeps_trim w row there = one_change w (Moves (Trim row)) (λ jid life was live. 
 pub keeps_merge : (w : World) (row other : Row) → row.text ≡ other.text → is_same row other ≡ false → list_any (is_same other) w.rows ≡ true → list_any (is_same row) w.rows ≡ true → KeepsJobs w (Moves (Merge row) ∷ [])
 keeps_merge w row other e apart other_there there = one_change w (Moves (Merge row)) (λ jid life was live. kept_merge w row other jid e apart other_there (was live)) (λ text. omega (arith, copies-take_row text Left row w.rows there))
 
--- a seat releases its payload, whatever stands of it
-pub keeps_free : (w : World) (seat : ℕ) → KeepsJobs w (Moves (Free seat) ∷ [])
-keeps_free w seat = one_change w (Moves (Free seat)) (λ jid life was live. kept_free w seat jid life was live) (λ text. omega (arith, copies-freed text w (phase_of w seat)))
+-- a seat releases a job of this text, whatever stands of it
+pub keeps_free : (w : World) (seat : ℕ) (freed : Bytes) → KeepsJobs w (Moves (Free seat freed) ∷ [])
+keeps_free w seat freed = one_change w (Moves (Free seat freed)) (λ jid life was live. kept_free w seat freed jid life was live) (λ text. omega (arith, copies-freed text freed w (phase_of w seat)))
 
 -- a seat turns to a phase that it is ready for
-pub keeps_turn : (w : World) (seat : ℕ) (phase : Phase) → Ready w phase → KeepsJobs w (Turns seat phase ∷ [])
+pub keeps_turn : (w : World) (seat : ℕ) (phase : Phase) → Ready w (phase_of w seat) phase → KeepsJobs w (Turns seat phase ∷ [])
 keeps_turn w seat phase ready = one_change w (Turns seat phase) (λ jid life was live. kept_turn w seat phase jid ready (was live)) (λ text. omega arith)
 
 pub keeps_passes : (w : World) (now : ℕ) → KeepsJobs w (Passes now ∷ [])

@@ -1,6 +1,7 @@
 pub mod Texts
 pub mod Copies
 pub mod Standing
+pub mod Works
 pub mod Turned
 pub mod Kept
 pub mod Taking

@@ -8,7 +8,11 @@ use Rattle.sk_resp.specs.WordOrder.{text_cmp}
 use Rattle.sk_payload.specs.Head.{head, names}
 use Rattle.sk_payload.specs.declared.head.Head.{Head}
 use Rattle.sk_seats.specs.declared.phase.Phase.{Phase}
-use Rattle.sk_seats.specs.declared.phase.Phase.TheVariants.{Plain, Idle, Held, Put, Settled}
+use Rattle.sk_seats.specs.declared.phase.Phase.TheVariants.{Plain, Joined}
+use Rattle.sk_seats.specs.declared.work.Stage.{Stage}
+use Rattle.sk_seats.specs.declared.work.Stage.TheVariants.{Held, Put, Settled}
+use Rattle.sk_seats.specs.declared.work.Work.{Work}
+use Rattle.sk_seats.specs.Works.{first, is_done_as}
 use Rattle.sk_lives.specs.declared.ending.Ending.{Ending}
 use Rattle.sk_lives.specs.declared.ending.Ending.TheVariants.{Returned, Discarded, Deleted, Trimmed, Muddled}
 use Rattle.sk_lives.specs.declared.origin.Origin.{Origin}
@@ -18,8 +22,8 @@ use Rattle.sk_lives.specs.Totals.{accounted, pushes_in, count_push, count_end}
 use Rattle.sk_model.specs.World.{World, phase_of}
 use Rattle.sk_model.specs.Live.{fresh, is_live, born, count_job, with_end}
 use Rattle.sk_lives.specs.Lives.{jid_of, without_jid, one_if, over, was_live}
-use Rattle.sk_model.specs.Change.{Move, Add, Carry, Take, Trim, Merge, PutBack, Free, Change, Moves, Passes, Names, Unnames, Keeps, Turns, Beats, Counts, Recovers, Forgets, Fire, Makes, Joins, Tells, ending_of, freed, moved, changed}
-use Rattle.sk_model.specs.Life.{Life, Unborn, Live, Ended, IsKept, IsSound, Knows, Balanced, is_distinct, ended, freed_life, life_after}
+use Rattle.sk_model.specs.Change.{Move, Add, Carry, Take, Trim, Merge, PutBack, Free, Change, Moves, Passes, Names, Unnames, Keeps, Turns, Beats, Counts, Recovers, Forgets, Fire, Makes, Joins, Tells, ending_of, freed, freed_at, freed_work, moved, changed}
+use Rattle.sk_model.specs.Life.{Life, Unborn, Live, Ended, IsKept, IsSound, Knows, Balanced, is_distinct, ended, freed_life, life_at, life_of_work, life_after}
 use Rattle.sk_model.proofs.Texts.{bytes_tell}
 use Rattle.sk_model.proofs.Living.{has_jid, has_inserted, has_left, had_before, had_other, length_inserted, length_left, distinct_inserted, distinct_left}
 
@@ -55,19 +59,25 @@ module _ (w : World) (jid : Bytes) (before : Life) (distinct : is_distinct w.liv
   gone_back : (text : Bytes) (how : Ending) → has_jid jid (over (jid_of text) w.live) ≡ true → cond (names text jid) (ended how before) before ≡ Live
   gone_back text how live = let b = over_back (jid_of text) w.live jid distinct live in let n = names_is text jid in let l = was b.0 in grind (arith, b.1, n, l)
 
-  free_back : (phase : Phase) → has_jid jid (freed w phase).live ≡ true → freed_life phase jid before ≡ Live
-  free_back Plain live = was live
-  free_back (Idle ident) live = was live
-  free_back (Held ident held) live = was live
-  free_back (Put ident held) live = was live
-  free_back (Settled ident held end) live = gone_back held (ending_of end) live
+  at_back : (stage : Stage) (ident text : Bytes) → has_jid jid (freed_at stage ident text w).live ≡ true → life_at stage text jid before ≡ Live
+  at_back Held ident text live = was live
+  at_back Put ident text live = was live
+  at_back (Settled end) ident text live = gone_back text (ending_of end) live
+
+  work_back : (ident : Bytes) (found : Option Work) → has_jid jid (freed_work ident w found).live ≡ true → life_of_work jid before found ≡ Live
+  work_back ident None live = was live
+  work_back ident (Some work) live = at_back work.stage ident work.payload live
+
+  free_back : (text : Bytes) (phase : Phase) → has_jid jid (freed text w phase).live ≡ true → freed_life text phase jid before ≡ Live
+  free_back text Plain live = was live
+  free_back text (Joined ident works) live = work_back ident (first (is_done_as text) works) live
 
   -- a job that the world has as live has the life Live, where it had it before
   move_back : (move : Move) → is_live (moved w move) jid ≡ true → life_after w jid before (Moves move) ≡ Live
   move_back (Add row end from) live = let b = born_back w (jid_of row.text) jid distinct live in let n = names_is row.text jid in grind (arith, b, n, was)
   move_back (Take row from) live = gone_back row.text Deleted live
   move_back (Trim row) live = gone_back row.text Trimmed live
-  move_back (Free seat) live = free_back (phase_of w seat) live
+  move_back (Free seat text) live = free_back text (phase_of w seat) live
   move_back (Carry row from to score end) live = was live
   move_back (Merge row) live = was live
   move_back (PutBack row) live = was live
@@ -112,12 +122,18 @@ module _ (w : World) (jid : Bytes) (before : Life) (was : before ≡ Live → is
     by_name true e live = absurd (ended_dead how before live)
     by_name false e live = over_on (jid_of text) w.live jid (sym (names_is text jid) ∙ e) (was live)
 
-  free_on : (phase : Phase) → freed_life phase jid before ≡ Live → has_jid jid (freed w phase).live ≡ true
-  free_on Plain live = was live
-  free_on (Idle ident) live = was live
-  free_on (Held ident held) live = was live
-  free_on (Put ident held) live = was live
-  free_on (Settled ident held end) live = gone_on held (ending_of end) live
+  at_on : (stage : Stage) (ident text : Bytes) → life_at stage text jid before ≡ Live → has_jid jid (freed_at stage ident text w).live ≡ true
+  at_on Held ident text live = was live
+  at_on Put ident text live = was live
+  at_on (Settled end) ident text live = gone_on text (ending_of end) live
+
+  work_on : (ident : Bytes) (found : Option Work) → life_of_work jid before found ≡ Live → has_jid jid (freed_work ident w found).live ≡ true
+  work_on ident None live = was live
+  work_on ident (Some work) live = at_on work.stage ident work.payload live
+
+  free_on : (text : Bytes) (phase : Phase) → freed_life text phase jid before ≡ Live → has_jid jid (freed text w phase).live ≡ true
+  free_on text Plain live = was live
+  free_on text (Joined ident works) live = work_on ident (first (is_done_as text) works) live
 
   add_on : (text : Bytes) → cond (names text jid) (cond (fresh w jid) Live (ended Muddled before)) before ≡ Live → has_jid jid (born w (jid_of text)) ≡ true
   add_on text live = by_name (names text jid) (fresh w jid) refl refl live where
@@ -130,7 +146,7 @@ module _ (w : World) (jid : Bytes) (before : Life) (was : before ≡ Live → is
   move_on (Add row end from) live = add_on row.text live
   move_on (Take row from) live = gone_on row.text Deleted live
   move_on (Trim row) live = gone_on row.text Trimmed live
-  move_on (Free seat) live = free_on (phase_of w seat) live
+  move_on (Free seat text) live = free_on text (phase_of w seat) live
   move_on (Carry row from to score end) live = was live
   move_on (Merge row) live = was live
   move_on (PutBack row) live = was live
@@ -212,12 +228,18 @@ module _ (w : World) (s : IsSound w) where
       let c = count_over how (one_if (was_live (jid_of text) w.live)) w.tally (length (over (jid_of text) w.live)) in
       (over_distinct (jid_of text), omega (arith, c.0, c.1, over_length (jid_of text), s.balanced))
 
-  free_counts : (phase : Phase) → Tallies w (freed w phase)
-  free_counts Plain = (s.distinct, s.balanced)
-  free_counts (Idle ident) = (s.distinct, s.balanced)
-  free_counts (Held ident held) = (s.distinct, s.balanced)
-  free_counts (Put ident held) = (s.distinct, s.balanced)
-  free_counts (Settled ident held end) = end_counts (ending_of end) held
+  at_counts : (stage : Stage) (ident text : Bytes) → Tallies w (freed_at stage ident text w)
+  at_counts Held ident text = (s.distinct, s.balanced)
+  at_counts Put ident text = (s.distinct, s.balanced)
+  at_counts (Settled end) ident text = end_counts (ending_of end) text
+
+  work_counts : (ident : Bytes) (found : Option Work) → Tallies w (freed_work ident w found)
+  work_counts ident None = (s.distinct, s.balanced)
+  work_counts ident (Some work) = at_counts work.stage ident work.payload
+
+  free_counts : (text : Bytes) (phase : Phase) → Tallies w (freed text w phase)
+  free_counts text Plain = (s.distinct, s.balanced)
+  free_counts text (Joined ident works) = work_counts ident (first (is_done_as text) works)
 
   move_counts : (move : Move) → Tallies w (moved w move)
   move_counts (Add row end from) =
@@ -226,7 +248,7 @@ module _ (w : World) (s : IsSound w) where
       (born_distinct (jid_of row.text), omega (arith, c.0, c.1, job_count (jid_of row.text) t, job_pushes (jid_of row.text) t, s.balanced))
   move_counts (Take row from) = end_counts Deleted row.text
   move_counts (Trim row) = end_counts Trimmed row.text
-  move_counts (Free seat) = free_counts (phase_of w seat)
+  move_counts (Free seat text) = free_counts text (phase_of w seat)
   move_counts (Carry row from to score end) = (s.distinct, s.balanced)
   move_counts (Merge row) = (s.distinct, s.balanced)
   move_counts (PutBack row) = (s.distinct, s.balanced)

@@ -24,9 +24,13 @@ use Rattle.sk_cmd.specs.declared.command.PlainCommand.TheVariants as plain
 use Rattle.sk_value.specs.declared.action.Action.TheVariants as action
 use Rattle.sk_value.specs.declared.edit.Edit.TheVariants as edit
 use Rattle.sk_seats.specs.declared.phase.Phase.{Phase}
-use Rattle.sk_seats.specs.declared.phase.Phase.TheVariants.{Plain, Idle, Held, Put, Settled}
+use Rattle.sk_seats.specs.declared.phase.Phase.TheVariants.{Plain, Joined}
+use Rattle.sk_seats.specs.declared.work.Stage.{Stage}
+use Rattle.sk_seats.specs.declared.work.Stage.TheVariants.{Held, Put, Settled}
+use Rattle.sk_seats.specs.declared.work.Work.{Work}
+use Rattle.sk_seats.specs.Works.{first as first_work, is_done_as}
 use Rattle.sk_model.specs.World.{World, phase_of}
-use Rattle.sk_model.specs.Change.{Add, Carry, Take, Trim, Merge, PutBack, Free, Fire, Change, Moves, Passes, Names, Unnames, Keeps, Turns, Beats, Counts, Recovers, Forgets, Makes, Joins, Tells, changed, freed, perform}
+use Rattle.sk_model.specs.Change.{Add, Carry, Take, Trim, Merge, PutBack, Free, Fire, Change, Moves, Passes, Names, Unnames, Keeps, Turns, Beats, Counts, Recovers, Forgets, Makes, Joins, Tells, changed, freed, freed_at, freed_work, perform}
 use Rattle.sk_model.specs.Outcome.{Outcome, tells}
 use Rattle.sk_model.specs.Seats.{releases}
 use Rattle.sk_model.specs.Step.{Steps, may_starve, outcome}
@@ -165,15 +169,21 @@ own_words_never_starve w seat now words t own is run = from_own (is_own words) o
 
 -- ## The limits stay
 
-freed_limits : (w : World) (phase : Phase) → (freed w phase).limits ≡ w.limits
-freed_limits w Plain = refl
-freed_limits w (Idle ident) = refl
-freed_limits w (Held ident held) = refl
-freed_limits w (Put ident held) = refl
-freed_limits w (Settled ident held end) = refl
+at_limits : (ident text : Bytes) (w : World) (stage : Stage) → (freed_at stage ident text w).limits ≡ w.limits
+at_limits ident text w Held = refl
+at_limits ident text w Put = refl
+at_limits ident text w (Settled end) = refl
+
+work_limits : (ident : Bytes) (w : World) (found : Option Work) → (freed_work ident w found).limits ≡ w.limits
+work_limits ident w None = refl
+work_limits ident w (Some work) = at_limits ident work.payload w work.stage
+
+freed_limits : (text : Bytes) (w : World) (phase : Phase) → (freed text w phase).limits ≡ w.limits
+freed_limits text w Plain = refl
+freed_limits text w (Joined ident works) = work_limits ident w (first_work (is_done_as text) works)
 
 changed_limits : (w : World) (change : Change) → (changed w change).limits ≡ w.limits
-changed_limits w (Moves (Free seat)) = freed_limits w (phase_of w seat)
+changed_limits w (Moves (Free seat text)) = freed_limits text w (phase_of w seat)
 changed_limits w (Moves (Add row end from)) = refl
 changed_limits w (Moves (Carry row from to score end)) = refl
 changed_limits w (Moves (Take row from)) = refl

@@ -41,7 +41,7 @@ same_score x = go (int_cmp x x) (int_ranks x x) where
   go Equal same = refl
   go Greater above = absurd (omega (arith, ints, above))
 
-score_is : (x y : ℤ) → is_eq (int_cmp x y) ≡ true → x ≡ y
+pub score_is : (x y : ℤ) → is_eq (int_cmp x y) ≡ true → x ≡ y
 score_is x y e = go (int_cmp x y) (int_ranks x y) e where
   go : (r : Ordering) → MatchOrdering r (x <ℤ y) (x ≡ y) (y <ℤ x) → is_eq r ≡ true → x ≡ y
   go Less below e = absurd (cc e)

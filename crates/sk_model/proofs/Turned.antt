@@ -10,7 +10,7 @@ use Rattle.std.specs.BTreeMap.{is_at, insert_entry}
 use Rattle.std.specs.Ordering.{nat_cmp, is_eq}
 use Rattle.sk_resp.specs.Spelling.{Bytes}
 use Rattle.sk_seats.specs.declared.phase.Phase.{Phase}
-use Rattle.sk_seats.specs.declared.phase.Phase.TheVariants.{Plain, Idle, Held, Put, Settled}
+use Rattle.sk_seats.specs.declared.phase.Phase.TheVariants.{Plain, Joined}
 use Rattle.sk_seats.specs.Phases.{Phases, phase_in, or_plain, turned, has, some_has}
 
 -- a seat's payload is seen among all
@@ -36,10 +36,7 @@ inserted phases seat other phase = ap or_plain (put_in phases seat other phase) 
 -- the seat that turned has its new phase, and every other seat its own
 pub phase_turned : (phases : Phases) (seat other : ℕ) (phase : Phase) → phase_in (turned seat phase phases) other ≡ cond (is_eq (nat_cmp other seat)) phase (phase_in phases other)
 phase_turned phases seat other Plain = ap or_plain (dropped phases seat other) ∙ either (is_eq (nat_cmp other seat)) None Plain (lookup (is_at (nat_cmp other)) phases) refl
-phase_turned phases seat other (Idle ident) = inserted phases seat other (Idle ident)
-phase_turned phases seat other (Held ident text) = inserted phases seat other (Held ident text)
-phase_turned phases seat other (Put ident text) = inserted phases seat other (Put ident text)
-phase_turned phases seat other (Settled ident text end) = inserted phases seat other (Settled ident text end)
+phase_turned phases seat other (Joined ident works) = inserted phases seat other (Joined ident works)
 
 -- ## Seats in order
 

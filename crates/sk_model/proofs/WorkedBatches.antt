@@ -9,7 +9,7 @@ use Rattle.sk_resp.specs.Reply.{wire}
 use Rattle.sk_resp.specs.declared.reply.Reply.{Reply}
 use Rattle.sk_resp.specs.declared.reply.Reply.TheVariants as reply
 use Rattle.sk_resp.specs.declared.refusal.Refusal.{Refusal}
-use Rattle.sk_resp.specs.declared.refusal.Refusal.TheVariants.{OutOfTurn, NoBatch, RepeatedBid, Settled, BadPayload, RepeatedJid, Full}
+use Rattle.sk_resp.specs.declared.refusal.Refusal.TheVariants.{NoBatch, RepeatedBid, Settled, BadPayload, RepeatedJid, Full}
 use Rattle.sk_resp.specs.declared.say.Say.TheVariants as say
 use Rattle.sk_payload.specs.Head.{head, head_of_value, head_of_object}
 use Rattle.sk_payload.specs.Follows.{follows}
@@ -198,8 +198,8 @@ buried = refl
 
 -- A burying reports the job too. A batch dies once, and the second burying fires nothing.
 killed : replies (first limits) (pushes p [] seven [] nine (p1 ∷ []) ∷ beats ∷ joins ∷ fetches ∷ worker (Plain (Zadd retries ((pos 0, failed) ∷ []))) ∷ releases p1 ∷ client (Script (script.Kill Retry p1)) ∷ client (Script (script.Kill Retry failed)) ∷ waiting ∷ client (Script (script.Revive Dead failed)) ∷ fetches ∷ fetches ∷ returns nine ∷ [])
-    ≡ texts [] ∷ ok ∷ ok ∷ reply.Bulk p1 ∷ number 1 ∷ number 1 ∷ report 0 0 [] ∷ report 0 1 (p ∷ complete ∷ p ∷ death ∷ []) ∷ texts (nine ∷ seven ∷ []) ∷ number 1 ∷ reply.Bulk seven ∷ refused OutOfTurn ∷ refused OutOfTurn ∷ []
-unfolding put came replies limits number texts ok report refused complete death p seven nine p1 failed retries client pushes q waiting w1 list worker beats joins fetches releases returns follows serde_json_on_literals head head_of_value head_of_object is_utf8 chars digits class_of edit_at edit_list lib.Utf8.encode date_of year_from month_from
+    ≡ texts [] ∷ ok ∷ ok ∷ reply.Bulk p1 ∷ number 1 ∷ number 1 ∷ report 0 0 [] ∷ report 0 1 (p ∷ complete ∷ p ∷ death ∷ []) ∷ texts (nine ∷ seven ∷ []) ∷ number 1 ∷ reply.Bulk seven ∷ reply.Bulk nine ∷ texts [] ∷ []
+unfolding put came replies limits number texts ok report complete death p seven nine p1 failed retries client pushes q waiting w1 list worker beats joins fetches releases returns follows serde_json_on_literals head head_of_value head_of_object is_utf8 chars digits class_of edit_at edit_list lib.Utf8.encode date_of year_from month_from
 killed = refl
 
 -- ## Rescue

@@ -1,5 +1,5 @@
 -- Worked commands of workers, computed from the definitions.
-use Rattle.std.proofs.Common.{◌≡◌, ℕ, ℤ, ◌*◌, List, [], ◌∷◌, refl, true, false}
+use Rattle.std.proofs.Common.{◌≡◌, ℕ, zero, suc, ℤ, ◌*◌, List, [], ◌∷◌, refl, true, false}
 use Rattle.std.specs.Prelude.{codes, pos, negsuc, map}
 use Rattle.std.specs.Str.{is_utf8, chars}
 use Rattle.std.specs.Fmt.{digits}
@@ -8,7 +8,7 @@ use Rattle.sk_resp.specs.Spelling.{Bytes, bulk}
 use Rattle.sk_resp.specs.Reply.{wire}
 use Rattle.sk_resp.specs.declared.reply.Reply.{Reply}
 use Rattle.sk_resp.specs.declared.reply.Reply.TheVariants as reply
-use Rattle.sk_resp.specs.declared.refusal.Refusal.TheVariants.{NotWorker, OutOfTurn, NoProcess, BadPayload, ManagedKey}
+use Rattle.sk_resp.specs.declared.refusal.Refusal.TheVariants.{NotWorker, OutOfTurn, HandsFull, NoProcess, BadPayload, ManagedKey}
 use Rattle.sk_resp.specs.declared.say.Say.{Say}
 use Rattle.sk_resp.specs.declared.say.Say.TheVariants as say
 use Rattle.sk_payload.specs.Head.{head, head_of_value, head_of_object}
@@ -144,6 +144,63 @@ cut_off : replies (first limits) (By 0 0 (Plain (Lpush q (job ∷ []))) ∷ beat
 unfolding put came replies limits number texts tells q w1 list job beats joins fetches releases serde_json_on_literals head head_of_value head_of_object is_utf8 chars digits class_of edit_at edit_list lib.Utf8.encode date_of year_from month_from
 cut_off = refl
 
+-- ## Several jobs in a worker's hands
+
+-- Each job is at a stage of its own. The second is released while the first is still held, and the first is given back.
+several : replies (first limits) (By 0 0 (Plain (Lpush q (job ∷ other_job ∷ []))) ∷ beats 1 ∷ joins 1 ∷ fetches 1 ∷ fetches 1 ∷ By 1 0 (Script (script.Ok other_job)) ∷ releases 1 job ∷ releases 1 other_job ∷ By 1 0 (Script (script.Ok other_job))
+    ∷ By 1 0 (Script (script.Start job)) ∷ By 1 0 (Script (script.Back job)) ∷ By 1 0 (Script (script.Start job)) ∷ By 0 0 (Plain (Lrange q (pos 0) (negsuc 0))) ∷ [])
+    ≡ number 2 ∷ tells say.Ok ∷ tells say.Ok ∷ reply.Bulk job ∷ reply.Bulk other_job ∷ nothing_due ∷ tells (say.Refused OutOfTurn) ∷ number 1 ∷ tells (say.Refused OutOfTurn)
+    ∷ tells say.Ok ∷ number 1 ∷ tells (say.Refused OutOfTurn) ∷ texts (job ∷ []) ∷ []
+unfolding put came replies limits number texts tells nothing_due q w1 list job other_job beats joins fetches releases serde_json_on_literals head head_of_value head_of_object is_utf8 chars digits class_of edit_at edit_list lib.Utf8.encode date_of year_from month_from
+several = refl
+
+-- Of two works of one text a command is about the first that it fits. One is settled, one fails, and each takes a row of its own.
+same_text : replies (first limits) (By 0 0 (Plain (Lpush q (job ∷ job ∷ []))) ∷ beats 1 ∷ joins 1 ∷ fetches 1 ∷ fetches 1 ∷ By 1 0 (Script (script.Drop job)) ∷ By 1 0 (Plain (Zadd retries ((at_second 1, failed) ∷ []))) ∷ By 1 0 (Script (script.Start job))
+    ∷ releases 1 job ∷ By 0 0 (Plain (Llen list)) ∷ releases 1 job ∷ releases 1 job ∷ By 0 0 (Plain (Llen list)) ∷ By 0 0 (Plain (Zrange retries (pos 0) (negsuc 0) false)) ∷ [])
+    ≡ number 2 ∷ tells say.Ok ∷ tells say.Ok ∷ reply.Bulk job ∷ reply.Bulk job ∷ tells say.Ok ∷ number 1 ∷ tells (say.Refused OutOfTurn)
+    ∷ number 1 ∷ number 1 ∷ number 1 ∷ tells (say.Refused OutOfTurn) ∷ number 0 ∷ texts (failed ∷ []) ∷ []
+unfolding put came replies limits number texts tells at_second q w1 list retries job failed beats joins fetches releases follows serde_json_on_literals head head_of_value head_of_object is_utf8 chars digits class_of edit_at edit_list lib.Utf8.encode date_of year_from month_from
+same_text = refl
+
+-- What is put back or buried is told of the first that it follows, whatever was fetched before it.
+fitting : replies (first limits) (By 0 0 (Plain (Lpush q (other_job ∷ codes "x" ∷ job ∷ []))) ∷ beats 1 ∷ joins 1 ∷ fetches 1 ∷ fetches 1 ∷ fetches 1 ∷ By 1 0 (Plain (Zadd retries ((at_second 1, failed) ∷ []))) ∷ By 1 0 (Script (script.Bury failed)) ∷ By 1 7 (Script (script.Bury (codes "x")))
+    ∷ releases 1 other_job ∷ releases 1 job ∷ releases 1 (codes "x") ∷ By 1 0 (Script (script.Ok other_job)) ∷ releases 1 other_job ∷ By 0 0 (Plain (Llen list)) ∷ By 0 0 (Plain (Zscore (codes "dead") (codes "x"))) ∷ [])
+    ≡ number 3 ∷ tells say.Ok ∷ tells say.Ok ∷ reply.Bulk other_job ∷ reply.Bulk (codes "x") ∷ reply.Bulk job ∷ number 1 ∷ tells (say.Refused OutOfTurn) ∷ report 0 1
+    ∷ tells (say.Refused OutOfTurn) ∷ number 1 ∷ number 1 ∷ nothing_due ∷ number 1 ∷ number 0 ∷ reply.Bulk (codes "0.007") ∷ []
+unfolding put came replies limits number texts tells nothing_due at_second report q w1 list retries job failed other_job beats joins fetches releases follows serde_json_on_literals head head_of_value head_of_object is_utf8 chars digits class_of edit_at edit_list lib.Utf8.encode date_of year_from month_from
+fitting = refl
+
+-- A cut lets all go, and leaves their rows.
+cut_with_several : replies (first limits) (By 0 0 (Plain (Lpush q (job ∷ other_job ∷ []))) ∷ beats 1 ∷ joins 1 ∷ fetches 1 ∷ fetches 1 ∷ By 1 0 (Script (script.Drop job)) ∷ Off 1 ∷ joins 1 ∷ releases 1 job ∷ By 1 0 (Script (script.Start other_job)) ∷ By 0 0 (Plain (Lrange list (pos 0) (negsuc 0))) ∷ [])
+    ≡ number 2 ∷ tells say.Ok ∷ tells say.Ok ∷ reply.Bulk job ∷ reply.Bulk other_job ∷ tells say.Ok ∷ tells say.Ok ∷ tells say.Ok ∷ tells (say.Refused OutOfTurn) ∷ tells (say.Refused OutOfTurn) ∷ texts (other_job ∷ job ∷ []) ∷ []
+unfolding put came replies limits number texts tells q w1 list job other_job beats joins fetches releases serde_json_on_literals head head_of_value head_of_object is_utf8 chars digits class_of edit_at edit_list lib.Utf8.encode date_of year_from month_from
+cut_with_several = refl
+
+-- as often as this many
+times : ℕ → Event → List Event → List Event
+times zero e events = events
+times (suc n) e events = e ∷ times n e events
+
+-- the reply of the last
+last_reply : World → List Event → Reply
+last_reply w [] = tells say.Ok
+last_reply w (e ∷ []) = (came w e).reply
+last_reply w (e ∷ more ∷ events) = last_reply (perform w (came w e).changes) (more ∷ events)
+
+a : Bytes
+a = codes "a"
+
+-- what comes of these events once sixteen of twenty jobs were fetched
+Full : List Event → Reply → Type 0
+Full events reply = last_reply (first (record { rows = 20; bytes = 20; batches = 0 })) (beats 1 ∷ joins 1 ∷ times 20 (By 0 0 (Plain (Lpush q (a ∷ [])))) (times 16 (fetches 1) events)) ≡ reply
+
+-- A seat with sixteen jobs fetches no more, and from what is no queue's name not either, before it has released one of them.
+sixteen : Full [] (reply.Bulk a) × Full (fetches 1 ∷ []) (tells (say.Refused HandsFull)) × Full (By 1 0 (Plain (Lmove (codes "queue:") list Right Left)) ∷ []) (tells (say.Refused OutOfTurn))
+    × Full (By 1 0 (Script (script.Drop a)) ∷ fetches 1 ∷ []) (tells (say.Refused HandsFull)) × Full (By 1 0 (Script (script.Drop a)) ∷ releases 1 a ∷ fetches 1 ∷ []) (reply.Bulk a)
+    × Full (By 1 0 (Script (script.Drop a)) ∷ releases 1 a ∷ fetches 1 ∷ fetches 1 ∷ []) (tells (say.Refused HandsFull))
+unfolding put Full came last_reply times number texts tells a q w1 list beats joins fetches releases serde_json_on_literals head head_of_value head_of_object is_utf8 chars digits class_of edit_at edit_list lib.Utf8.encode date_of year_from month_from
+sixteen = (refl, refl, refl, refl, refl, refl)
+
 -- ## A rescue
 
 rescues : ℕ → Event
@@ -171,15 +228,11 @@ dies now events = beats 1 ∷ joins 1 ∷ fetches 1 ∷ Off 1 ∷ rescues now �
 
 -- what the rescue after three such deaths tells
 Third : ℕ → Reply → Type 0
-Third now reply = last_reply (first limits) (By 0 0 (Plain (Lpush q (job ∷ []))) ∷ dies 60000 (dies 120000 (dies now []))) ≡ reply where
-  last_reply : World → List Event → Reply
-  last_reply w [] = tells say.Ok
-  last_reply w (e ∷ []) = (came w e).reply
-  last_reply w (e ∷ more ∷ events) = last_reply (perform w (came w e).changes) (more ∷ events)
+Third now reply = last_reply (first limits) (By 0 0 (Plain (Lpush q (job ∷ []))) ∷ dies 60000 (dies 120000 (dies now []))) ≡ reply
 
 -- the third recovery within 72 hours is the last
 poison : Third 180000 (report 0 1) × Third 259260000 (report 0 1) × Third 259260001 (report 1 0)
-unfolding put Third came limits number texts tells report q w1 list job beats joins fetches rescues dies serde_json_on_literals head head_of_value head_of_object is_utf8 chars digits class_of edit_at edit_list lib.Utf8.encode date_of year_from month_from
+unfolding put Third came last_reply limits number texts tells report q w1 list job beats joins fetches rescues dies serde_json_on_literals head head_of_value head_of_object is_utf8 chars digits class_of edit_at edit_list lib.Utf8.encode date_of year_from month_from
 poison = (refl, refl, refl)
 
 -- ## Lives
@@ -203,6 +256,11 @@ lives_on = (refl, refl, refl)
 in_hands : Becomes (By 0 0 (Plain Flushall) ∷ By 0 0 (Plain (Lpush q (job ∷ []))) ∷ []) (Ended Deleted) × Becomes (By 0 0 (Plain Flushall) ∷ By 1 0 (Script (script.Ok job)) ∷ releases 1 job ∷ By 0 0 (Plain (Lpush q (job ∷ []))) ∷ []) Live
 unfolding put Becomes came life_of limits q w1 list job beats joins fetches releases serde_json_on_literals head head_of_value head_of_object is_utf8 chars digits class_of edit_at edit_list lib.Utf8.encode date_of year_from month_from
 in_hands = (refl, refl)
+
+-- So it is with the second of two, whichever job is asked about.
+second_in_hands : life_of (first limits) (codes "k") Unborn (By 0 0 (Plain (Lpush q (job ∷ other_job ∷ []))) ∷ beats 1 ∷ joins 1 ∷ fetches 1 ∷ fetches 1 ∷ By 0 0 (Plain Flushall) ∷ By 0 0 (Plain (Lpush q (other_job ∷ []))) ∷ []) ≡ Ended Deleted
+unfolding put came life_of limits q w1 list job other_job beats joins fetches serde_json_on_literals head head_of_value head_of_object is_utf8 chars digits class_of edit_at edit_list lib.Utf8.encode date_of year_from month_from
+second_in_hands = refl
 
 -- ## The counters
 

@@ -1,5 +1,5 @@
 -- What a command does to the world: a list of changes, one after another. Rows change by moves alone.
-use Rattle.std.specs.Prelude.{ℕ, ℤ, List, [], ◌∷◌, min, max}
+use Rattle.std.specs.Prelude.{ℕ, ℤ, List, [], ◌∷◌, Option, Some, None, min, max}
 use Rattle.sk_base.specs.Score.{last_moment}
 use Rattle.sk_resp.specs.Spelling.{Bytes}
 use Rattle.sk_cmd.specs.declared.argument.Side.{Side}

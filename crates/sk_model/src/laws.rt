@@ -9,8 +9,8 @@ ghost use Rattle.sk_model.specs.Starving.{LimitsStay, OwnWordsNeverStarve, Relea
 
 /// After every step of every run each live job stands: some row names it. A job is live where it was freshly pushed, no row and no worker's
 /// seat naming it then, and since then neither released by a worker that was done with it, nor deleted by a client, nor trimmed from the dead
-/// set, nor pushed again under its own id. Moves, fetches, retries and cuts keep it, wherever they fall and wherever memory runs out: while a
-/// seat that has put a failed job back still has the old payload to release, a newer row of the job stands.
+/// set, nor pushed again under its own id. Moves, fetches, retries and cuts keep it, wherever they fall and wherever memory runs out: for each
+/// old payload that a seat has put back and still has to release, a newer row of the job stands, whatever else the seat has in its hands.
 pub fn live_jobs_stand()
     ensures { Conserve }
 {}
@@ -58,8 +58,9 @@ pub fn callbacks_follow()
 
 /// Whatever takes a row away, puts a text back or is the store's own push has its cause. Rows are taken away by a client's DEL, LREM, ZREM,
 /// ZREMRANGEBYRANK, ZREMRANGEBYSCORE or FLUSHALL alone. The dead set is trimmed only after a text came into it in the same event. A row is
-/// released by the seat alone that put its payload back or is done with it, and a text put back by one that holds its payload. The store's own
-/// push is the callback of the firing just before it. That a job returned, a batch is told by the SK.OK of a seat that held a payload of it.
+/// released by the seat alone that put a payload of its text back or is done with it, and a text put back by one that holds a payload which it
+/// follows. The store's own push is the callback of the firing just before it. That a job returned, a batch is told by the SK.OK of a seat that
+/// held a payload of it.
 pub fn moves_have_causes()
     ensures { MovesHaveCauses }
 {}
@@ -74,7 +75,7 @@ pub fn events_are_served_or_starve()
     ensures { ServedOrStarved }
 {}
 
-/// A worker's release always comes about: neither to read its words nor to do it is memory wanted.
+/// A worker's release always comes about, whichever of the jobs in its hands it is: neither to read its words nor to do it is memory wanted.
 pub fn releases_never_starve()
     ensures { ReleasesNeverStarve }
 {}
