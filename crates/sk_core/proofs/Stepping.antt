@@ -1,6 +1,6 @@
 -- What an action, a worker's command, a script and a step come to, from a world that is the same.
 use Rattle.std.proofs.Common.{◌≡◌, ℕ, ℤ, refl, sym, ap, subst, ◌∙◌, arith, pos, ◌&&◌, Bool, true, false}
-use Rattle.std.specs.Prelude.{Result, IfOk, cond}
+use Rattle.std.specs.Prelude.{List, Some, None, Result, IfOk, cond}
 use Rattle.std.specs.Ordering.{int_cmp, is_eq}
 use Rattle.std.specs.Str.{bytes_eq}
 use Rattle.std.proofs.lemmas.Slice.Eq.{bytes_eq-Decides}
@@ -18,13 +18,14 @@ use Rattle.sk_value.specs.declared.edit.Edit.TheVariants as edit
 use Rattle.sk_key.specs.declared.key_class.KeyClass.{KeyClass}
 use Rattle.sk_key.specs.declared.key_class.KeyClass.TheVariants as class
 use Rattle.sk_seats.specs.declared.phase.Phase.{Phase}
-use Rattle.sk_seats.specs.declared.phase.Phase.TheVariants.{Plain, Idle, Held, Put, Settled}
+use Rattle.sk_seats.specs.declared.phase.Phase.TheVariants.{Plain, Joined}
 use Rattle.sk_model.specs.Change.{Passes, passed, changed, perform}
+use Rattle.sk_seats.specs.declared.work.Work.{Work}
 use Rattle.sk_key.specs.Class.{class_of, ident_of, is_private, private_key}
 use Rattle.sk_model.specs.Covered.{IsCovered}
 use Rattle.sk_model.specs.declared.limits.Limits.{Limits}
 use Rattle.sk_model.specs.Outcome.{Comes, Outcome, tells}
-use Rattle.sk_model.specs.Seats.{is_release, is_workers, releases, works_on}
+use Rattle.sk_model.specs.Seats.{has_done, is_workers, releases, releases_by, works_on}
 use Rattle.sk_model.specs.Step.{Steps, act, at_moment, by_seat, is_script_built, run, script_outcome}
 use Rattle.sk_model.specs.Workers.{work}
 use Rattle.sk_model.specs.World.{World, first, phase_of}
@@ -74,21 +75,18 @@ takes : (k : KeyClass) (count : ℤ) (text : Bytes) → is_private k ≡ true �
 takes k count text e = grind (arith, e)
 
 -- a release is a worker's command
-no_release : (ident held : Bytes) (a : Action) → is_workers a ≡ false → is_release ident held a ≡ false
-no_release ident held (action.Edit key (edit.Lrem count text)) other = by_key (bytes_eq key (private_key ident)) refl where
-  by_key : (b : Bool) → bytes_eq key (private_key ident) ≡ b → b && (is_eq (int_cmp count (pos 1)) && bytes_eq text held) ≡ false
+no_release : (ident : Bytes) (works : List Work) (a : Action) → is_workers a ≡ false → releases_by ident works a ≡ false
+no_release ident works (action.Edit key (edit.Lrem count text)) other = by_key (bytes_eq key (private_key ident)) refl where
+  by_key : (b : Bool) → bytes_eq key (private_key ident) ≡ b → has_done works (cond (b && is_eq (int_cmp count (pos 1))) (Some text) None) ≡ false
   by_key true same =
       let is : key ≡ private_key ident = (bytes_eq-Decides key (private_key ident)).0 same in
       absurd (cc (takes (class_of key) count text (ap (λ k. is_private (class_of k)) is ∙ listed ident), other))
   by_key false same = refl
-no_release ident held a other = grind (arith, other)
+no_release ident works a other = grind (arith, other)
 
 pub releases_not : (phase : Phase) (a : Action) → is_workers a ≡ false → releases phase a ≡ false
 releases_not Plain a other = refl
-releases_not (Idle ident) a other = refl
-releases_not (Held ident held) a other = refl
-releases_not (Put ident held) a other = no_release ident held a other
-releases_not (Settled ident held end) a other = no_release ident held a other
+releases_not (Joined ident works) a other = no_release ident works a other
 
 -- ## The step
 

@@ -167,7 +167,7 @@ impl Parts {
             ScriptCommand::Fail(text) => fail(alloc, moment, seats, stock, seat, &text),
             ScriptCommand::Drop(text) => Ok(discard(seats, seat, &text)),
             ScriptCommand::Bury(text) => bury(alloc, moment, seats, stock, seat, text),
-            ScriptCommand::Back(text) => back(&mut stock.places, seats, seat, &text),
+            ScriptCommand::Back(text) => back(alloc, &mut stock.places, seats, seat, &text),
             ScriptCommand::Due(set, limit) => {
                 send(
                     alloc,

@@ -1,5 +1,5 @@
 -- Which jobs are kept after a change.
-use Rattle.std.proofs.Common.{◌≡◌, ℕ, ℤ, List, sym, ap, subst, refl, ◌∙◌, arith, Bool, true, false, cond}
+use Rattle.std.proofs.Common.{◌≡◌, ℕ, ℤ, sym, ap, subst, refl, ◌∙◌, arith, Bool, true, false, cond}
 use Rattle.std.specs.Prelude.{Option, Some, None}
 use Rattle.std.specs.List.{AllByRecursion, list_any}
 use Rattle.std.specs.Ordering.{nat_cmp, is_eq}

@@ -162,6 +162,14 @@ same_text : replies (first limits) (By 0 0 (Plain (Lpush q (job ∷ job ∷ []))
 unfolding put came replies limits number texts tells at_second q w1 list retries job failed beats joins fetches releases follows serde_json_on_literals head head_of_value head_of_object is_utf8 chars digits class_of edit_at edit_list lib.Utf8.encode date_of year_from month_from
 same_text = refl
 
+-- What is put back or buried is told of the first that it follows, whatever was fetched before it.
+fitting : replies (first limits) (By 0 0 (Plain (Lpush q (other_job ∷ codes "x" ∷ job ∷ []))) ∷ beats 1 ∷ joins 1 ∷ fetches 1 ∷ fetches 1 ∷ fetches 1 ∷ By 1 0 (Plain (Zadd retries ((at_second 1, failed) ∷ []))) ∷ By 1 0 (Script (script.Bury failed)) ∷ By 1 7 (Script (script.Bury (codes "x")))
+    ∷ releases 1 other_job ∷ releases 1 job ∷ releases 1 (codes "x") ∷ By 1 0 (Script (script.Ok other_job)) ∷ releases 1 other_job ∷ By 0 0 (Plain (Llen list)) ∷ By 0 0 (Plain (Zscore (codes "dead") (codes "x"))) ∷ [])
+    ≡ number 3 ∷ tells say.Ok ∷ tells say.Ok ∷ reply.Bulk other_job ∷ reply.Bulk (codes "x") ∷ reply.Bulk job ∷ number 1 ∷ tells (say.Refused OutOfTurn) ∷ report 0 1
+    ∷ tells (say.Refused OutOfTurn) ∷ number 1 ∷ number 1 ∷ nothing_due ∷ number 1 ∷ number 0 ∷ reply.Bulk (codes "0.007") ∷ []
+unfolding put came replies limits number texts tells nothing_due at_second report q w1 list retries job failed other_job beats joins fetches releases follows serde_json_on_literals head head_of_value head_of_object is_utf8 chars digits class_of edit_at edit_list lib.Utf8.encode date_of year_from month_from
+fitting = refl
+
 -- A cut lets all go, and leaves their rows.
 cut_with_several : replies (first limits) (By 0 0 (Plain (Lpush q (job ∷ other_job ∷ []))) ∷ beats 1 ∷ joins 1 ∷ fetches 1 ∷ fetches 1 ∷ By 1 0 (Script (script.Drop job)) ∷ Off 1 ∷ joins 1 ∷ releases 1 job ∷ By 1 0 (Script (script.Start other_job)) ∷ By 0 0 (Plain (Lrange list (pos 0) (negsuc 0))) ∷ [])
     ≡ number 2 ∷ tells say.Ok ∷ tells say.Ok ∷ reply.Bulk job ∷ reply.Bulk other_job ∷ tells say.Ok ∷ tells say.Ok ∷ tells say.Ok ∷ tells (say.Refused OutOfTurn) ∷ tells (say.Refused OutOfTurn) ∷ texts (other_job ∷ job ∷ []) ∷ []

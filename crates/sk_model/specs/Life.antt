@@ -1,7 +1,7 @@
 -- The life of a job, as the moves of a run make it. Nothing here knows of lists and indexes.
-use Rattle.std.specs.Prelude.{◌≡◌, ◌↔◌, ℕ, ◌+◌, List, [], ◌∷◌, length, Option, Some, None, Bool, true, not, ◌&&◌, nat_lt, cond}
+use Rattle.std.specs.Prelude.{◌≡◌, ◌↔◌, ℕ, List, [], ◌∷◌, length, Option, Some, None, Bool, true, not, ◌&&◌, nat_lt, cond}
 use Rattle.std.specs.BTreeMap.{is_at}
-use Rattle.std.specs.List.{AllByRecursion, list_any, count_by}
+use Rattle.std.specs.List.{AllByRecursion, list_any}
 use Rattle.sk_resp.specs.Spelling.{Bytes}
 use Rattle.sk_payload.specs.Head.{head, names}
 use Rattle.sk_payload.specs.declared.head.Head.{Head}

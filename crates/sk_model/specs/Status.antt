@@ -1,5 +1,5 @@
 -- SK.STATUS: the numbers that the store tells of itself, as a page.
-use Rattle.std.specs.Prelude.{ℕ, [], Option, length, map, unwrap_or}
+use Rattle.std.specs.Prelude.{ℕ, length, map, unwrap_or}
 use Rattle.std.specs.List.{count_by}
 use Rattle.sk_resp.specs.declared.reply.Reply.TheVariants as reply
 use Rattle.sk_cmd.specs.declared.argument.Scored.TheVariants.{Schedule, Retry, Dead}

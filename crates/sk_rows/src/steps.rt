@@ -5,7 +5,7 @@ use sk_core::Core;
 use sk_model::Limits;
 use sk_pipe::SHIPPED_LIMITS;
 use sk_resp::{Word, Words, write_reply};
-use sk_seats::Phase;
+use sk_seats::{Phase, Stage};
 use sk_status::{page, tally_text};
 use std::alloc::Global;
 use std::io;
@@ -74,14 +74,27 @@ fn read_limits(words: &[String]) -> io::Result<Limits> {
     })
 }
 
-fn name_of(phase: &Phase) -> &'static str {
-    match phase {
-        Phase::Plain => "plain",
-        Phase::Idle(_) => "idle",
-        Phase::Held(_, _) => "held",
-        Phase::Put(_, _) => "put",
-        Phase::Settled(_, _, _) => "settled",
+fn name_of(stage: Stage) -> &'static str {
+    match stage {
+        Stage::Held => "held",
+        Stage::Put => "put",
+        Stage::Settled(_) => "settled",
     }
+}
+
+// Appends `plain`, or `joined` and the stage of each job in the seat's hands, in order of fetching.
+fn write_phase(phase: &Phase, out: &mut Vec<u8>) -> io::Result<()> {
+    match phase {
+        Phase::Plain => out.extend_from_slice(b"plain")?,
+        Phase::Joined(_, works) => {
+            out.extend_from_slice(b"joined")?;
+            for work in works.list() {
+                out.push(b' ')?;
+                out.extend_from_slice(name_of(work.stage).as_bytes())?;
+            }
+        }
+    }
+    Ok(())
 }
 
 // Appends the page, the tally, and a line for each of the first seats.
@@ -89,8 +102,10 @@ fn write_numbers(alloc: Global, store: &Core, out: &mut Vec<u8>) -> io::Result<(
     out.extend_from_slice(&page(alloc, &store.numbers()?)?)?;
     out.extend_from_slice(&tally_text(alloc, &store.tally())?)?;
     for seat in 0..SEATS {
-        let line = format!(in alloc; "seat {seat} {}\n", name_of(store.phase(seat)))?;
-        out.extend_from_slice(line.as_bytes())?;
+        let begin = format!(in alloc; "seat {seat} ")?;
+        out.extend_from_slice(begin.as_bytes())?;
+        write_phase(store.phase(seat), out)?;
+        out.push(b'\n')?;
     }
     Ok(())
 }

@@ -1,6 +1,6 @@
 // The jobs in a worker's hands, in order of fetching. There is room for all of them from the first on, so that no edit takes memory.
 ghost use Rattle.std.specs.Prelude.{◌≡◌, ◌<◌, ◌≤◌, ◌++◌, ◌∷◌, [], Bool, IfOk, IfSome, Some, length, nat_lt, not};
-ghost use Rattle.sk_seats.specs.Works.{held, is_buried_as, is_done_as, is_held_as, is_held as is_held_stage, is_retried_as, may_bury, most_works, staged, without};
+ghost use Rattle.sk_seats.specs.Works.{first, held, is_buried_as, is_done_as, is_held_as, is_held as is_held_stage, is_retried_as, may_bury, most_works, staged, without};
 ghost use Rattle.std.specs.List.{position};
 ghost use Rattle.sk_seats.specs.declared.work.Work.{Work};
 
@@ -79,6 +79,14 @@ impl Works {
         ensures { result.now ≡ self.now }
     {
         &self.list
+    }
+
+    /// The work at an index, the first that passes some test.
+    pub fn get(&self, at: usize) -> &Work
+        requires { at < length self.now }
+        ensures { (test : Work → Bool) → position test self.now ≡ Some at → first test self.now ≡ Some result.now }
+    {
+        &self.list[at]
     }
 
     /// The index of the first that is held, of this text.
