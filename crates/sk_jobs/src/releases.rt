@@ -16,7 +16,6 @@ use crate::calls::word_of;
 use crate::hands::find_held;
 use sk_base::Score;
 use sk_cmd::Side;
-use sk_payload::Payload;
 use sk_places::{Ending, Place, Places};
 use sk_resp::{Memory, Refusal, Reply, Text, Word};
 use sk_seats::{End, Phase, Seats, Stage, Work};
