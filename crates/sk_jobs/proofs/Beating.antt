@@ -18,9 +18,13 @@ use Rattle.sk_places.specs.declared.row.Place.TheVariants.{Set}
 use Rattle.sk_places.specs.declared.row.Row.{Row}
 use Rattle.sk_places.specs.Rows.{row_of, rows_at}
 use Rattle.sk_seats.specs.declared.phase.Phase.{Phase}
-use Rattle.sk_seats.specs.declared.phase.Phase.TheVariants.{Plain, Idle, Held, Put, Settled}
+use Rattle.sk_seats.specs.declared.phase.Phase.TheVariants.{Plain, Joined}
+use Rattle.sk_seats.specs.declared.work.Stage.{Stage}
+use Rattle.sk_seats.specs.declared.work.Stage.TheVariants.{Held, Put, Settled}
+use Rattle.sk_seats.specs.declared.work.Work.{Work}
+use Rattle.sk_seats.specs.Works.{first, is_done_as}
 use Rattle.sk_model.specs.World.{World, phase_of}
-use Rattle.sk_model.specs.Change.{Add, Beats, Carry, Change, Counts, Fire, Forgets, Free, Joins, Keeps, Makes, Merge, Move, Moves, Names, Passes, PutBack, Recovers, Take, Tells, Trim, Turns, Unnames, changed, freed, moved, perform}
+use Rattle.sk_model.specs.Change.{Add, Beats, Carry, Change, Counts, Fire, Forgets, Free, Joins, Keeps, Makes, Merge, Move, Moves, Names, Passes, PutBack, Recovers, Take, Tells, Trim, Turns, Unnames, changed, freed, freed_at, freed_work, moved, perform}
 use Rattle.sk_model.specs.Jobs.{Sent, bury, each, merge, put_dead, surplus, to_queue}
 use Rattle.sk_model.specs.Rescue.{bury_poison, is_poison, rescue_row}
 use Rattle.sk_model.specs.Told.{call, fire_all, push_to, tell, tell_in, tell_of}
@@ -44,12 +48,18 @@ is_calm (Tells event bid jid) = true
 abbrev pub beats_of : World → List Lease
 beats_of w = w.leases.beats
 
-freed_beats : (w : World) (phase : Phase) → beats_of (freed w phase) ≡ beats_of w
-freed_beats w Plain = refl
-freed_beats w (Idle ident) = refl
-freed_beats w (Held ident text) = refl
-freed_beats w (Put ident text) = refl
-freed_beats w (Settled ident text end) = refl
+at_beats : (stage : Stage) (ident text : Bytes) (w : World) → beats_of (freed_at stage ident text w) ≡ beats_of w
+at_beats Held ident text w = refl
+at_beats Put ident text w = refl
+at_beats (Settled end) ident text w = refl
+
+work_beats : (ident : Bytes) (w : World) (found : Option Work) → beats_of (freed_work ident w found) ≡ beats_of w
+work_beats ident w None = refl
+work_beats ident w (Some work) = at_beats work.stage ident work.payload w
+
+freed_beats : (text : Bytes) (w : World) (phase : Phase) → beats_of (freed text w phase) ≡ beats_of w
+freed_beats text w Plain = refl
+freed_beats text w (Joined ident works) = work_beats ident w (first (is_done_as text) works)
 
 moved_beats : (w : World) (move : Move) → beats_of (moved w move) ≡ beats_of w
 moved_beats w (Add row end from) = refl
@@ -58,7 +68,7 @@ moved_beats w (Take row from) = refl
 moved_beats w (Trim row) = refl
 moved_beats w (Merge row) = refl
 moved_beats w (PutBack row) = refl
-moved_beats w (Free seat) = freed_beats w (phase_of w seat)
+moved_beats w (Free seat text) = freed_beats text w (phase_of w seat)
 moved_beats w (Fire bid kind) = refl
 
 changed_beats : (w : World) (change : Change) → is_calm change ≡ true → beats_of (changed w change) ≡ beats_of w

@@ -1,5 +1,5 @@
 -- What scripts come to.
-use Rattle.std.proofs.Common.{◌≡◌, ◌∙◌, ℕ, true, List, ap, refl, subst, sym}
+use Rattle.std.proofs.Common.{◌≡◌, ◌∙◌, ℕ, List, ap, refl, subst, sym}
 use Rattle.std.specs.Prelude.{Option, Some, None}
 use Rattle.sk_resp.specs.declared.reply.Reply.{Reply}
 use Rattle.sk_places.specs.declared.row.Row.{Row}
@@ -7,14 +7,9 @@ use Rattle.sk_resp.specs.Spelling.{Bytes}
 use Rattle.sk_batch.specs.declared.event.Event.{Event}
 use Rattle.sk_value.specs.Answer.{texts}
 use Rattle.sk_model.specs.World.{World}
-use Rattle.sk_seats.specs.declared.phase.Phase.{Phase}
-use Rattle.sk_seats.specs.declared.phase.Phase.TheVariants.{Held}
 use Rattle.sk_seats.specs.Phases.{Phases}
-use Rattle.sk_model.specs.Seats.{where_same}
-use Rattle.sk_model.specs.Workers.{bury as bury_by, bury_text, may_bury}
 use Rattle.sk_model.specs.Told.{and_tell, fired_texts, tell}
 use Rattle.sk_model.proofs.Good.{perform-append}
-use Rattle.sk_model.proofs.Texts.{same_bytes}
 use Rattle.sk_jobs.specs.declared.stock.Stock.{Stock}
 use Rattle.sk_jobs.specs.Calls.{IsTold}
 use Rattle.sk_jobs.specs.Stocked.{at, begun_in, committed_in}
@@ -35,10 +30,6 @@ told_comes v mid new e text changes names reply is told named = record {
   new_is = told.world ∙ ap (λ u. perform u (tell e u text).changes) is ∙ sym (perform-append v changes (tell e (perform v changes) text).changes);
 }
 
--- what a seat may do with the very text that it holds
-pub same_is : (phase : Phase) (ident text : Bytes) (o : Bytes → Outcome) → phase ≡ Held ident text → where_same phase text o ≡ o ident
-same_is phase ident text o e = rw (e, same_bytes text) refl
-
 -- what was done in a step that is closed then came about, and then the seats turned
 pub closed_comes : (w : World) (m : ℕ) (old begun done new : Stock) (p next q : Phases) (o : World → Outcome) (reply : Reply) → begun ≡ begun_in old → new ≡ committed_in done → q ≡ next
     → Comes (at w m begun p) (o (at w m begun p)) reply (at w m done next) → Comes (at w m old p) (o (at w m old p)) reply (at w m new q)
@@ -46,7 +37,3 @@ closed_comes w m old begun done new p next q o reply e f g comes =
     subst (λ ph. Comes (at w m old p) (o (at w m old p)) reply (at w m new ph)) (sym g)
     (subst (λ s. Comes (at w m old p) (o (at w m old p)) reply (at w m s next)) (sym f)
     (subst (λ s. Comes (at w m s p) (o (at w m s p)) reply (at w m done next)) e comes))
-
--- what the burying of a text comes to that the seat may bury
-pub bury_is : (v : World) (seat : ℕ) (phase : Phase) (ident own text : Bytes) → phase ≡ Held ident own → may_bury own text ≡ true → bury_by v seat phase text ≡ reports (bury_text v seat ident own text)
-bury_is v seat phase ident own text is may = rw (is, may) refl

@@ -1,12 +1,16 @@
 -- Worlds that share what a worker's command changes.
-use Rattle.std.specs.Prelude.{ℕ, List, [], ◌∷◌, Option, Some, None}
-use Rattle.sk_zset.specs.Pair.{Pair}
+use Rattle.std.specs.Prelude.{◌≡◌, ◌<◌, ℕ, [], Some, Bool, length}
+use Rattle.std.specs.List.{position}
+use Rattle.sk_resp.specs.Spelling.{Bytes}
 use Rattle.sk_places.specs.Placed.{Placed, ended_job}
 use Rattle.sk_leases.specs.Leased.{Leased}
 use Rattle.sk_seats.specs.declared.phase.Phase.{Phase}
-use Rattle.sk_seats.specs.declared.phase.Phase.TheVariants.{Plain, Idle, Held, Put, Settled}
+use Rattle.sk_seats.specs.declared.phase.Phase.TheVariants.{Plain, Joined}
+use Rattle.sk_seats.specs.declared.work.Stage.{Stage}
+use Rattle.sk_seats.specs.declared.work.Stage.TheVariants.{Held, Put, Settled}
+use Rattle.sk_seats.specs.declared.work.Work.{Work}
 use Rattle.sk_model.specs.Change.{ending_of}
-use Rattle.sk_seats.specs.Phases.{Phases}
+use Rattle.sk_seats.specs.Phases.{Phases, works_of}
 use Rattle.sk_model.specs.World.{World}
 
 -- a world at a moment
@@ -29,15 +33,21 @@ leased_at w moment leases = record w { moment = moment; leases = leases }
 abbrev pub joined_at : World → ℕ → Leased → Phases → World
 joined_at w moment leases phases = record w { moment = moment; leases = leases; phases = phases }
 
--- the only one of pairs
-abbrev pub only : List Pair → Option Pair
-only (pair ∷ []) = Some pair
-only other = None
+-- what is known of the jobs once a work of this text, at this stage, is released
+abbrev pub ended_at : Stage → Bytes → Placed → Placed
+ended_at Held text p = p
+ended_at Put text p = p
+ended_at (Settled end) text p = ended_job (ending_of end) text p
 
--- what is known of the jobs once a seat in this phase has released its own
-abbrev pub ended_by : Phase → Placed → Placed
-ended_by Plain p = p
-ended_by (Idle ident) p = p
-ended_by (Held ident held) p = p
-ended_by (Put ident held) p = p
-ended_by (Settled ident held end) p = ended_job (ending_of end) held p
+abbrev pub ended_by : Work → Placed → Placed
+ended_by work p = ended_at work.stage work.payload p
+
+-- the process of a worker's seat
+abbrev pub ident_in : Phase → Bytes
+ident_in Plain = []
+ident_in (Joined ident works) = ident
+
+-- the first work of the seat that passes stands at this index
+pub record IsFound (test : Work → Bool) (phase : Phase) (at : ℕ) : Type 0 where
+  pub is : position test (works_of phase) ≡ Some at
+  pub within : at < length (works_of phase)

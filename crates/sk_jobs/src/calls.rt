@@ -150,8 +150,8 @@ pub fn tell(
     }
 }
 
-// A text as a word.
-fn word_of(alloc: Global, text: &Text) -> Result<Word, Memory>
+/// A text as a word.
+pub fn word_of(alloc: Global, text: &Text) -> Result<Word, Memory>
     ensures { IfOk result (λ word. word ≡ text.now) }
 {
     Ok(Word::new(text.text().as_bytes().to_vec(alloc)?))

@@ -1,20 +1,32 @@
 // LMOVE queue:name sq:ident RIGHT LEFT from a worker's seat (Sidekiq's wiki, "Reliability"): super_fetch.
-ghost use Rattle.std.specs.Prelude.{◌≡◌, IfOk, OnErr, Some};
+ghost use Rattle.std.specs.Prelude.{◌≡◌, IfOk, OnErr, Some, false, length, nat_lt, not};
 ghost use Rattle.sk_model.specs.Outcome.{Comes};
-ghost use Rattle.sk_seats.specs.Phases.{phase_in};
+ghost use Rattle.sk_seats.specs.Phases.{is_plain, phase_in, works_of};
+ghost use Rattle.sk_seats.specs.Works.{most_works};
 ghost use Rattle.sk_model.specs.Workers.{fetch};
 ghost use Rattle.sk_model.specs.World.{World};
-ghost use Rattle.sk_seats.specs.declared.phase.Phase.TheVariants as Phase;
 ghost use Rattle.sk_jobs.specs.Seated.{with_seats};
 
 use sk_base::Score;
 use sk_cmd::Side;
 use sk_places::{Place, Places};
-use sk_resp::{Memory, Reply, Text, Word};
-use sk_seats::{Seats, Turn};
+use sk_resp::{Memory, Refusal, Reply, Text, Word};
+use sk_seats::{Phase, Seats};
+use sk_value::refused;
 
-/// The job at the right end of the queue goes to the left of the private list of the seat's process, and the seat holds a copy of it. Its text is
-/// copied for the reply, and isn't parsed again. The copies are made first, so that the job is never in the seat's hands alone.
+// The seat has as many jobs in its hands as it may have.
+fn are_hands_full(phase: &Phase) -> bool
+    ensures { result ≡ not (nat_lt (length (works_of phase.now)) most_works) }
+{
+    match phase {
+        Phase::Plain => false,
+        Phase::Joined(_, works) => works.are_full(),
+    }
+}
+
+/// The job at the right end of the queue goes to the left of the private list of the seat's process, and the seat holds a copy of it, unless its
+/// hands are full. Its text is copied for the reply, and isn't parsed again. The copies are made first, so that the job is never in the seat's
+/// hands alone.
 pub fn fetch(
     places: &mut Places,
     seats: &mut Seats,
@@ -22,11 +34,14 @@ pub fn fetch(
     ident: Word,
     queue: Text,
 ) -> Result<Reply, Memory>
-    requires { phase_in seats.old seat ≡ Phase.Idle ident }
-    ensures ok { IfOk result (λ reply. (w : World) → Comes (with_seats w places.old.stands seats.old) (fetch (with_seats w places.old.stands seats.old) seat ident (Some queue)) reply (with_seats w places.new.stands seats.new)) }
+    requires { is_plain (phase_in seats.old seat) ≡ false }
+    ensures ok { IfOk result (λ reply. (w : World) → Comes (with_seats w places.old.stands seats.old) (fetch (with_seats w places.old.stands seats.old) seat (phase_in seats.old seat) ident (Some queue)) reply (with_seats w places.new.stands seats.new)) }
     ensures step { places.new.stood ≡ places.old.stood }
     ensures err { OnErr result ((places.new ≡ places.old) × (seats.new ≡ seats.old)) }
 {
+    if are_hands_full(seats.get(seat)) {
+        return Ok(refused(Refusal::HandsFull));
+    }
     let queue = Place::Queue(queue);
     let Some((_, payload)) = places.end(&queue, Side::Right) else {
         return Ok(Reply::Null);
@@ -35,6 +50,6 @@ pub fn fetch(
     let held = payload.copy()?;
     let (list, score) = (Place::Private(ident), Score::of_moment(0));
     places.shift(&queue, Side::Right, list, score, Side::Left)?;
-    seats.turn(seat, Turn::Hold(held));
+    seats.hold(seat, held);
     Ok(Reply::Bulk(text))
 }

@@ -6,6 +6,7 @@ mod burials;
 mod calls;
 mod dead;
 mod fetches;
+mod hands;
 mod processes;
 mod releases;
 mod report;

@@ -8,7 +8,7 @@ ghost use Rattle.sk_model.specs.Workers.{beat, join};
 ghost use Rattle.sk_model.specs.World.{World};
 ghost use Rattle.sk_jobs.specs.Seated.{joined_at, leased_at};
 
-use sk_key::is_name;
+use sk_key::{is_name, name_text};
 use sk_leases::Leases;
 use sk_resp::{Memory, Refusal, Reply, Say, Word};
 use sk_seats::{Phase, Seats};
@@ -41,10 +41,10 @@ pub fn join(
 {
     match seats.get(seat) {
         Phase::Plain => {
-            if !leases.alive(&ident, moment) {
+            if !is_name(ident.bytes()) || !leases.alive(&ident, moment) {
                 return Ok(refused(Refusal::NoProcess));
             }
-            seats.join(seat, ident)?;
+            seats.join(seat, name_text(ident))?;
             Ok(Reply::Say(Say::Ok))
         }
         _ => Ok(refused(Refusal::OutOfTurn)),

@@ -1,25 +1,27 @@
-// How a worker lets go of its job: LREM sq:ident 1 payload, and SK.BACK payload. The job has stood in the private list all the while.
-ghost use Rattle.std.specs.Prelude.{◌≡◌, ◌⊎◌, IfOk, None, OnErr, option_map};
-ghost use Rattle.sk_resp.specs.Spelling.{Bytes};
+// How a worker lets go of a job: LREM sq:ident 1 payload, and SK.BACK payload. The job has stood in the private list all the while.
+ghost use Rattle.std.specs.Prelude.{◌≡◌, IfOk, List, None, OnErr, Some, option_map};
 ghost use Rattle.sk_payload.specs.Head.{head};
 ghost use Rattle.sk_model.specs.Outcome.{Comes};
 ghost use Rattle.sk_seats.specs.Phases.{phase_in};
-ghost use Rattle.sk_model.specs.Workers.{back, release};
+ghost use Rattle.sk_seats.specs.Works.{is_held_as};
+ghost use Rattle.sk_model.specs.Workers.{back, release_of};
 ghost use Rattle.sk_model.specs.World.{World};
-ghost use Rattle.sk_seats.specs.declared.work.End.{End};
+ghost use Rattle.sk_seats.specs.declared.phase.Phase.TheVariants as Phase;
+ghost use Rattle.sk_seats.specs.declared.work.Work.{Work};
 ghost use Rattle.sk_model.specs.Change.{ending_of};
 ghost use Rattle.sk_undo.specs.Steps.{edited};
-ghost use Rattle.sk_jobs.specs.Seated.{ended_by, with_seats};
+ghost use Rattle.sk_jobs.specs.Seated.{IsFound, ended_by, ident_in, with_seats};
 
-use crate::runs::tells_of;
+use crate::calls::word_of;
+use crate::hands::find_held;
 use sk_base::Score;
 use sk_cmd::Side;
 use sk_lives::Ending;
-use sk_payload::Payload;
 use sk_places::{Place, Places};
 use sk_resp::{Memory, Refusal, Reply, Text, Word};
-use sk_seats::{End, Phase, Seats, Turn};
+use sk_seats::{End, Phase, Seats, Stage, Work};
 use sk_value::{one_if, refused};
+use std::alloc::Global;
 
 // How a worker that is done with a job ends it.
 fn ending_of(end: End) -> Ending
@@ -31,56 +33,76 @@ fn ending_of(end: End) -> Ending
     }
 }
 
-// A seat that is done with its job ends it.
-fn end_job(places: &mut Places, phase: &Phase)
+// A seat that is done with a job ends it.
+fn end_job(places: &mut Places, work: &Work)
     requires { places.old.stood ≡ None }
-    ensures { places.new ≡ edited (ended_by phase.now places.old.stands) places.old }
+    ensures { places.new ≡ edited (ended_by work.now places.old.stands) places.old }
 {
-    if let Phase::Settled(_, payload, end) = phase {
-        places.end_job(payload, ending_of(*end));
+    if let Stage::Settled(end) = work.stage {
+        places.end_job(&work.payload, ending_of(end));
     }
 }
 
-/// The release: of the rows of the seat's text in the private list of its process the leftmost goes, and the seat is idle. The answer tells whether
-/// there was one, which a rescue may have taken. Takes no memory.
+/// The release of the first job of this text that the seat has put back or is done with: of the rows of the text in the private list of its process
+/// the leftmost goes. It is out of turn where the seat has none. The answer tells whether there was a row, which a rescue may have taken. Takes no
+/// memory.
 pub fn release(places: &mut Places, seats: &mut Seats, seat: u32, ident: Word, text: &Word) -> Reply
     requires closed { places.old.stood ≡ None }
-    requires done { (phase_in seats.old seat ≡ Phase.Put ident text.now) ⊎ ((end : End) × (phase_in seats.old seat ≡ Phase.Settled ident text.now end)) }
-    ensures done { (w : World) → Comes (with_seats w places.old.stands seats.old) (release (with_seats w places.old.stands seats.old) seat ident text.now) result (with_seats w places.new.stands seats.new) }
+    requires joined { (works : List Work) × (phase_in seats.old seat ≡ Phase.Joined ident works) }
+    ensures done { (w : World) → Comes (with_seats w places.old.stands seats.old) (release_of (with_seats w places.old.stands seats.old) seat (phase_in seats.old seat) ident (Some text.now)) result (with_seats w places.new.stands seats.new) }
     ensures closed { places.new.stood ≡ None }
 {
+    let Phase::Joined(_, works) = seats.get(seat) else {
+        unreachable!();
+    };
+    let Some(at) = works.find_done(text.bytes()) else {
+        return refused(Refusal::OutOfTurn);
+    };
     let list = Place::Private(ident);
     let was = places.find(&list, text.bytes()).is_some();
-    end_job(places, seats.get(seat));
+    end_job(places, works.get(at));
     places.take_copy(&list, text);
-    seats.turn(seat, Turn::Release);
+    seats.release(seat, at);
     one_if(was)
 }
 
-// The process of a seat that holds a job, and the queue that the job's head names.
-fn way_back(phase: &Phase) -> Result<Option<(Word, Text)>, Memory>
-    ensures { IfOk result (λ way. (ident text : Bytes) → phase.now ≡ Phase.Held ident text → way ≡ option_map (λ h. (ident, h.queue)) (head text)) }
+// The process of a seat that holds a job of this text, and the queue that the job's head names.
+fn way_back(
+    alloc: Global,
+    phase: &Phase,
+    text: &Word,
+    at: usize,
+) -> Result<Option<(Word, Text)>, Memory>
+    requires { IsFound (is_held_as text.now) phase.now at }
+    ensures { IfOk result (λ way. way ≡ option_map (λ h. (ident_in phase.now, h.queue)) (head text.now)) }
 {
-    let Phase::Held(ident, payload) = phase else {
+    let Phase::Joined(ident, works) = phase else {
+        unreachable!();
+    };
+    let Some(head) = works.get(at).payload.head() else {
         return Ok(None);
     };
-    let Some(head) = payload.head() else {
-        return Ok(None);
-    };
-    Ok(Some((ident.copy()?, head.queue.copy()?)))
+    Ok(Some((word_of(alloc, ident)?, head.queue.copy()?)))
 }
 
-/// SK.BACK: the job that the seat holds goes back to the right end of its queue, and is fetched first. It is refused without a head. The answer
-/// tells whether it was still in the private list.
-pub fn back(places: &mut Places, seats: &mut Seats, seat: u32, text: &Word) -> Result<Reply, Memory>
+/// SK.BACK: the first job of this text that the seat holds goes back to the right end of its queue, and is fetched first. It is refused without a
+/// head. The answer tells whether it was still in the private list.
+pub fn back(
+    alloc: Global,
+    places: &mut Places,
+    seats: &mut Seats,
+    seat: u32,
+    text: &Word,
+) -> Result<Reply, Memory>
     ensures ok { IfOk result (λ reply. (w : World) → Comes (with_seats w places.old.stands seats.old) (back (with_seats w places.old.stands seats.old) seat (phase_in seats.old seat) text.now) reply (with_seats w places.new.stands seats.new)) }
     ensures step { places.new.stood ≡ places.old.stood }
     ensures err { OnErr result ((places.new ≡ places.old) × (seats.new ≡ seats.old)) }
 {
-    if let Err(refusal) = tells_of(seats.get(seat), text) {
-        return Ok(refused(refusal));
-    }
-    let Some((ident, queue)) = way_back(seats.get(seat))? else {
+    let at = match find_held(seats.get(seat), text) {
+        Ok(at) => at,
+        Err(refusal) => return Ok(refused(refusal)),
+    };
+    let Some((ident, queue)) = way_back(alloc, seats.get(seat), text, at)? else {
         return Ok(refused(Refusal::BadPayload));
     };
     let was = places.shift_text(
@@ -90,6 +112,6 @@ pub fn back(places: &mut Places, seats: &mut Seats, seat: u32, text: &Word) -> R
         Score::of_moment(0),
         Side::Right,
     )?;
-    seats.turn(seat, Turn::Release);
+    seats.release(seat, at);
     Ok(one_if(was))
 }

@@ -1,7 +1,6 @@
 // ZADD retry score payload from a worker's seat: the text of a job that has failed waits for its next run.
 ghost use Rattle.std.specs.Prelude.{◌≡◌, IfOk, OnErr, OnOk, Some, false, not};
 ghost use Rattle.std.specs.Option.{is_some};
-ghost use Rattle.sk_resp.specs.Spelling.{Bytes};
 ghost use Rattle.sk_places.specs.Rows.{row_of, rows_at};
 ghost use Rattle.sk_places.specs.declared.row.Place.TheVariants.{Set};
 ghost use Rattle.sk_model.specs.Change.{changed};
@@ -10,16 +9,17 @@ ghost use Rattle.sk_seats.specs.Phases.{Phases, is_plain, phase_in};
 ghost use Rattle.sk_model.specs.Sets.{put_back};
 ghost use Rattle.sk_model.specs.Workers.{retry};
 ghost use Rattle.sk_model.specs.World.{World};
-ghost use Rattle.sk_seats.specs.declared.phase.Phase.TheVariants as Phase;
 ghost use Rattle.sk_jobs.specs.Seated.{with_seats};
 
+use crate::hands::find_retried;
 use sk_base::Score;
 use sk_cmd::{Scored, Side};
 use sk_payload::Payload;
 use sk_places::{Place, Places};
-use sk_resp::{Memory, Reply};
-use sk_seats::{Seats, Turn};
-use sk_value::one_if;
+use sk_resp::{Memory, Reply, Word};
+use sk_seats::{Seats, Stage};
+use sk_value::{one_if, refused};
+use std::alloc::Global;
 
 /// The payload goes into the set, and a text that is there gets the score. The answer tells whether it is new.
 pub fn put_back(
@@ -42,20 +42,27 @@ pub fn put_back(
     Ok(true)
 }
 
-/// The text of the failed job goes into `retry`, and the seat has still to release the job that it holds. The answer tells how many are new.
+/// The text of a failed job goes into `retry`, where it follows a job that the seat holds. The seat has still to release that job. The answer tells
+/// how many are new. The text is parsed here, once.
 pub fn retry(
+    alloc: Global,
     places: &mut Places,
     seats: &mut Seats,
     seat: u32,
-    pair: (Score, Payload),
+    pair: (Score, Word),
 ) -> Result<Reply, Memory>
     requires { is_plain (phase_in seats.old seat) ≡ false }
-    ensures ok { IfOk result (λ reply. (w : World) (ident held : Bytes) → phase_in seats.old seat ≡ Phase.Held ident held → Comes (with_seats w places.old.stands seats.old) (retry (with_seats w places.old.stands seats.old) seat ident held (Some pair)) reply (with_seats w places.new.stands seats.new)) }
+    ensures ok { IfOk result (λ reply. (w : World) → Comes (with_seats w places.old.stands seats.old) (retry (with_seats w places.old.stands seats.old) seat (phase_in seats.old seat) (Some pair)) reply (with_seats w places.new.stands seats.new)) }
     ensures step { places.new.stood ≡ places.old.stood }
     ensures err { OnErr result ((places.new ≡ places.old) × (seats.new ≡ seats.old)) }
 {
-    let (score, payload) = pair;
+    let (score, text) = pair;
+    let payload = Payload::of(alloc, text)?;
+    let at = match find_retried(seats.get(seat), &payload) {
+        Ok(at) => at,
+        Err(refusal) => return Ok(refused(refusal)),
+    };
     let new = put_back(places, Scored::Retry, score, payload)?;
-    seats.turn(seat, Turn::PutBack);
+    seats.stage(seat, at, Stage::Put);
     Ok(one_if(new))
 }

@@ -1,65 +1,50 @@
 // What a worker tells of the run of its job: SK.START payload, SK.FAIL payload, SK.OK payload, SK.DROP payload.
-ghost use Rattle.std.specs.Prelude.{◌≡◌, ◌∷◌, ◌≤◌, [], ℕ, IfOk, IfErr, OnErr};
+ghost use Rattle.std.specs.Prelude.{◌≡◌, ◌∷◌, ◌≤◌, [], ℕ, IfOk, OnErr};
 ghost use Rattle.sk_base.specs.Score.{last_moment};
 ghost use Rattle.sk_resp.specs.Spelling.{Bytes};
 ghost use Rattle.sk_batch.specs.declared.event.Event.TheVariants as event;
 ghost use Rattle.sk_counters.specs.Counters.{failed, processed};
 ghost use Rattle.sk_places.specs.Placed.{Placed};
 ghost use Rattle.sk_model.specs.Change.{Counts, Turns};
-ghost use Rattle.sk_model.specs.Outcome.{Comes, Outcome, refuses};
+ghost use Rattle.sk_model.specs.Outcome.{Comes};
 ghost use Rattle.sk_seats.specs.Phases.{Phases, phase_in, turned};
-ghost use Rattle.sk_model.specs.Seats.{where_same};
 ghost use Rattle.sk_model.specs.Told.{and_tell};
 ghost use Rattle.sk_model.specs.Workers.{drop, fail, ok, start};
 ghost use Rattle.sk_model.specs.World.{World};
 ghost use Rattle.sk_jobs.specs.Calls.{Alike, member_of};
-ghost use Rattle.sk_jobs.specs.Seated.{with_seats};
+ghost use Rattle.sk_seats.specs.Works.{is_held_as};
+ghost use Rattle.sk_seats.specs.declared.phase.Phase.{Phase};
+ghost use Rattle.sk_jobs.specs.Seated.{IsFound, with_seats};
 ghost use Rattle.sk_jobs.specs.Stocked.{IsClosed, KeepsStep, at};
 
 use crate::calls::{member_of, tell};
+use crate::hands::find_held;
 use crate::stock::Stock;
 use sk_batch::{Event, Member};
 use sk_counters::Counted;
-use sk_resp::{Memory, Refusal, Reply, Say, Word};
-use sk_seats::{End, Phase, Seats, Turn};
+use sk_resp::{Memory, Reply, Say, Word};
+use sk_seats::{End, Phase, Seats, Stage};
 use sk_value::{as_reply, refused};
 use std::alloc::Global;
 
-/// A worker's seat tells of the very text that it holds, and of no other. Else this is the refusal.
-pub fn tells_of(phase: &Phase, text: &Word) -> Result<(), Refusal>
-    ensures held { IfOk result (λ held. (ident : Bytes) × (phase.now ≡ Phase.Held ident text.now)) }
-    ensures refused { IfErr result (λ refusal. (o : Bytes → Outcome) → where_same phase.now text.now o ≡ refuses refusal) }
-{
-    match phase {
-        Phase::Plain => Err(Refusal::NotWorker),
-        Phase::Held(_, payload) => {
-            if payload.text().bytes() == text.bytes() {
-                Ok(())
-            } else {
-                Err(Refusal::OutOfTurn)
-            }
-        }
-        _ => Err(Refusal::OutOfTurn),
-    }
-}
-
-/// SK.START: the job that the seat holds is about to run.
+/// SK.START: a job that the seat holds is about to run.
 pub fn start(seats: &Seats, seat: u32, text: &Word) -> Reply
     ensures { (w : World) → Comes w (start (phase_in seats.now seat) text.now) result w }
 {
-    match tells_of(seats.get(seat), text) {
-        Ok(()) => Reply::Say(Say::Ok),
+    match find_held(seats.get(seat), text) {
+        Ok(_) => Reply::Say(Say::Ok),
         Err(refusal) => refused(refusal),
     }
 }
 
-// The member that the job of a seat's payload is, where its head names a batch.
-fn member_at(alloc: Global, phase: &Phase) -> Result<Option<Member>, Memory>
-    ensures { IfOk result (λ member. (ident text : Bytes) → phase.now ≡ Phase.Held ident text → member ≡ member_of text) }
+// The member that a job of this text in the seat's hands is, where its head names a batch.
+fn member_at(alloc: Global, phase: &Phase, text: &Word, at: usize) -> Result<Option<Member>, Memory>
+    requires { IsFound (is_held_as text.now) phase.now at }
+    ensures { IfOk result (λ member. member ≡ member_of text.now) }
 {
     match phase {
-        Phase::Held(_, payload) => member_of(alloc, payload),
-        _ => Ok(None),
+        Phase::Plain => unreachable!(),
+        Phase::Joined(_, works) => member_of(alloc, &works.get(at).payload),
     }
 }
 
@@ -81,7 +66,7 @@ fn fail_open(
     as_reply(alloc, fired)
 }
 
-/// SK.FAIL: the job that the seat holds has raised. The answer names what its batch fired.
+/// SK.FAIL: a job that the seat holds has raised. The answer names what its batch fired.
 pub fn fail(
     alloc: Global,
     moment: u64,
@@ -96,10 +81,11 @@ pub fn fail(
     ensures closed { IsClosed stock.new }
     ensures err { OnErr result (stock.new ≡ stock.old) }
 {
-    if let Err(refusal) = tells_of(seats.get(seat), text) {
-        return Ok(refused(refusal));
-    }
-    let member = member_at(alloc, seats.get(seat))?;
+    let at = match find_held(seats.get(seat), text) {
+        Ok(at) => at,
+        Err(refusal) => return Ok(refused(refusal)),
+    };
+    let member = member_at(alloc, seats.get(seat), text, at)?;
     stock.begin();
     let done = fail_open(alloc, moment, seats, stock, member);
     stock.close(done)
@@ -114,7 +100,7 @@ fn succeed_open(
     member: Option<Member>,
 ) -> Result<Reply, Memory>
     requires { moment ≤ last_moment }
-    ensures ok { IfOk result (λ reply. (w : World) (phases : Phases) (seat : ℕ) (ident text : Bytes) → member ≡ member_of text → Alike (turned seat (Phase.Settled ident text End.Returned) phases) seats.now → Comes (at w moment stock.old phases) (and_tell event.Returned (at w moment stock.old phases) text (Turns seat (Phase.Settled ident text End.Returned) ∷ Counts processed ∷ [])) reply (at w moment stock.new (turned seat (Phase.Settled ident text End.Returned) phases))) }
+    ensures ok { IfOk result (λ reply. (w : World) (phases : Phases) (seat : ℕ) (phase : Phase) (text : Bytes) → member ≡ member_of text → Alike (turned seat phase phases) seats.now → Comes (at w moment stock.old phases) (and_tell event.Returned (at w moment stock.old phases) text (Turns seat phase ∷ Counts processed ∷ [])) reply (at w moment stock.new (turned seat phase phases))) }
     ensures step { KeepsStep stock.old stock.new }
 {
     stock.counters.raise(Counted::Processed, moment)?;
@@ -122,7 +108,7 @@ fn succeed_open(
     as_reply(alloc, fired)
 }
 
-/// SK.OK: the job that the seat holds has returned, and the seat has still to release it. The answer names what its batch fired.
+/// SK.OK: the first job of this text that the seat holds has returned, and the seat has still to release it. The answer names what its batch fired.
 pub fn succeed(
     alloc: Global,
     moment: u64,
@@ -137,24 +123,26 @@ pub fn succeed(
     ensures closed { IsClosed stock.new }
     ensures err { OnErr result ((stock.new ≡ stock.old) × (seats.new ≡ seats.old)) }
 {
-    if let Err(refusal) = tells_of(seats.get(seat), text) {
-        return Ok(refused(refusal));
-    }
-    let member = member_at(alloc, seats.get(seat))?;
+    let at = match find_held(seats.get(seat), text) {
+        Ok(at) => at,
+        Err(refusal) => return Ok(refused(refusal)),
+    };
+    let member = member_at(alloc, seats.get(seat), text, at)?;
     stock.begin();
     let done = succeed_open(alloc, moment, seats, stock, member);
     let reply = stock.close(done)?;
-    seats.turn(seat, Turn::Settle(End::Returned));
+    seats.stage(seat, at, Stage::Settled(End::Returned));
     Ok(reply)
 }
 
-/// SK.DROP: the job that the seat holds is given up, and the seat has still to release it. Takes no memory.
+/// SK.DROP: the first job of this text that the seat holds is given up, and the seat has still to release it. Takes no memory.
 pub fn discard(seats: &mut Seats, seat: u32, text: &Word) -> Reply
     ensures { (w : World) (p : Placed) → Comes (with_seats w p seats.old) (drop seat (phase_in seats.old seat) text.now) result (with_seats w p seats.new) }
 {
-    if let Err(refusal) = tells_of(seats.get(seat), text) {
-        return refused(refusal);
-    }
-    seats.turn(seat, Turn::Settle(End::Discarded));
+    let at = match find_held(seats.get(seat), text) {
+        Ok(at) => at,
+        Err(refusal) => return refused(refusal),
+    };
+    seats.stage(seat, at, Stage::Settled(End::Discarded));
     Reply::Say(Say::Ok)
 }
