@@ -4,7 +4,7 @@
     oracle.py DIRECTORY PROGRAM COUNT SEED
 
 DIRECTORY holds the oracle, PROGRAM is the command that reads an input of `pipe`. The worked rows come first, then COUNT random
-inputs from the seed SEED on. The oracle knows its stages by a number.
+inputs from the seed SEED on. The oracle knows its stages by a number, and the rule of sixteen jobs a seat by a switch.
 """
 import sys
 
@@ -15,8 +15,9 @@ import fuzz
 import rows
 
 BUILT = '7'
+SIXTEEN = 'r15'
 
 sys.exit(
-    rows.main(['--program', program, '--stage', 'R' + BUILT])
-    or fuzz.main(['--program', program, '--profile', 'r' + BUILT, '--count', count, '--seed', seed])
+    rows.main(['--program', program, '--stage', 'R' + BUILT, '--' + SIXTEEN])
+    or fuzz.main(['--program', program, '--profile', f'r{BUILT}+{SIXTEEN}', '--count', count, '--seed', seed])
 )
