@@ -4,7 +4,7 @@
     oracle.py DIRECTORY PROGRAM COUNT SEED
 
 DIRECTORY holds the oracle, PROGRAM is the command that reads an input of `pipe`. The worked rows come first, then COUNT random
-inputs from the seed SEED on. The oracle knows its stages by a number.
+inputs from the seed SEED on. The oracle knows its stages by a number, and the rule of sixteen jobs a seat by a switch.
 """
 import sys
 
@@ -15,6 +15,7 @@ import fuzz
 import rows
 
 BUILT = '7'
+SIXTEEN = 'r15'
 
 # Rules that came later and are built: retries for a time, and deaths that rise.
 LATER = ['r15', 'r16']
