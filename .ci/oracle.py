@@ -15,7 +15,6 @@ import fuzz
 import rows
 
 BUILT = '7'
-SIXTEEN = 'r15'
 
 # Rules that came later and are built: retries for a time, and deaths that rise.
 LATER = ['r15', 'r16']
