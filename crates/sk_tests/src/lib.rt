@@ -13,3 +13,5 @@ mod requests;
 mod streams;
 #[cfg(test)]
 mod undo;
+#[cfg(test)]
+mod zset;

@@ -2,34 +2,43 @@
 use Rattle.std.proofs.Common.{◌≡◌, ℕ, zero, suc, Bool, true, false, not, cond, List, [], ◌∷◌, ◌++◌, ◌<◌, length, take, drop, refl, sym, arith, ap, ◌+◌, ◌∙◌}
 use Rattle.std.proofs.lemmas.List.{take-append-drop}
 use Rattle.std.specs.List.{insert, remove, position_or_len, list_any}
-use Rattle.std.specs.declared.cmp.Ordering.{Ordering}
-use Rattle.std.specs.declared.cmp.Ordering.TheVariants.{Less, Equal, Greater}
-use Rattle.std.specs.Ordering.{nat_cmp, ordering_reverse}
+use Rattle.std.specs.declared.cmp.Ordering.TheVariants.{Equal}
+use Rattle.std.specs.Ordering.{is_eq, nat_cmp}
 use Rattle.std.specs.Cmp.{IsTotalOrder}
 use Rattle.std.specs.Cmp.Lexicographic.{slice_cmp}
 use Rattle.std.specs.Str.{bytes_eq}
 use Rattle.std.proofs.lemmas.Cmp.{then_total, on_total, int_cmp_total, nat_list_cmp_total}
 use Rattle.std.proofs.lemmas.Bool.Decides.{nat_tests}
+use Rattle.std.proofs.lemmas.Map.Text.{is_eq-slice_cmp}
+use Rattle.std.proofs.lemmas.Slice.Eq.{bytes_eq-Decides}
 use Rattle.sk_zset.specs.Pair.{Pair, pair_cmp, precedes, names}
-use Rattle.sk_zset.specs.Pairs.{has, put, without, without_ranks}
+use Rattle.sk_zset.specs.Pairs.{has, without, without_ranks}
 use Rattle.sk_zset.specs.Order.{is_first, is_ordered}
 
 pub pair_total : IsTotalOrder pair_cmp
 pair_total = then_total (on_total (λ p. p.0) int_cmp_total) (on_total (λ p. p.1) nat_list_cmp_total)
 
-cmp_same : (xs ys : List ℕ) → slice_cmp nat_cmp xs ys ≡ Equal → bytes_eq ys xs ≡ true
-cmp_same [] [] h = refl
-cmp_same [] (y ∷ ys) h = grind (arith, h)
-cmp_same (x ∷ xs) [] h = grind (arith, h)
-cmp_same (x ∷ xs) (y ∷ ys) h = grind (arith, nat_tests, h, cmp_same xs ys)
+pub same_bytes : (xs ys : List ℕ) → bytes_eq xs ys ≡ true → xs ≡ ys
+same_bytes xs ys = (bytes_eq-Decides xs ys).0
 
-flips : (o : Ordering) → o ≡ ordering_reverse (ordering_reverse o)
-flips Less = refl
-flips Equal = refl
-flips Greater = refl
+pub names_flip : (xs ys : List ℕ) → bytes_eq xs ys ≡ bytes_eq ys xs
+names_flip [] [] = refl
+names_flip [] (y ∷ ys) = refl
+names_flip (x ∷ xs) [] = refl
+names_flip (x ∷ xs) (y ∷ ys) = grind (arith, nat_tests, names_flip xs ys)
 
-pub precedes_other : (p q : Pair) → precedes p q ≡ false → names p.1 q ≡ false → precedes q p ≡ true
-precedes_other p q h n = let a = pair_total.antisymm q p in let s = cmp_same p.1 q.1 in grind (arith, a, s, h, n)
+pub cmp_same : (xs ys : List ℕ) → slice_cmp nat_cmp xs ys ≡ Equal → bytes_eq ys xs ≡ true
+cmp_same xs ys h = names_flip ys xs ∙ sym (is_eq-slice_cmp xs ys) ∙ ap is_eq h
+
+-- one of two pairs of two members stands before the other
+pub precedes_flips : (p q : Pair) → names p.1 q ≡ false → precedes p q ≡ not (precedes q p)
+precedes_flips p q n = let a = pair_total.antisymm q p in let s = cmp_same p.1 q.1 in grind (arith, a, s, n)
+
+precedes_other : (p q : Pair) → precedes p q ≡ false → names p.1 q ≡ false → precedes q p ≡ true
+precedes_other p q h n = let f = precedes_flips p q n in grind (arith, f, h)
+
+pub precedes_not : (p q : Pair) → precedes p q ≡ true → precedes q p ≡ false
+precedes_not p q h = let a = pair_total.antisymm q p in grind (arith, a, h)
 
 pub precedes_trans : (p q r : Pair) → precedes p q ≡ true → precedes q r ≡ true → precedes p r ≡ true
 precedes_trans p q r h k = let t = pair_total.trans p q r in grind (arith, t, h, k)
@@ -56,12 +65,6 @@ ordered_remove [] (suc i) h = refl
 ordered_remove (r ∷ ps) zero h = grind (arith, h)
 ordered_remove (r ∷ ps) (suc i) h = grind (arith, h, ordered_remove ps i, first_remove r ps i)
 
-names_flip : (xs ys : List ℕ) → bytes_eq xs ys ≡ bytes_eq ys xs
-names_flip [] [] = refl
-names_flip [] (y ∷ ys) = refl
-names_flip (x ∷ xs) [] = refl
-names_flip (x ∷ xs) (y ∷ ys) = grind (arith, nat_tests, names_flip xs ys)
-
 other_first : (p q : Pair) (ps : List Pair) → has p.1 (q ∷ ps) ≡ false → (names p.1 q ≡ false) × (names q.1 p ≡ false) × (has p.1 ps ≡ false)
 other_first p q ps n = let f = names_flip p.1 q.1 in (grind (arith, n), grind (arith, n, f), grind (arith, n))
 
@@ -83,35 +86,13 @@ ordered_put p (q ∷ ps) h n =
     put_one p q ps (position_or_len (precedes p) ps) (precedes p q) refl h n (ordered_put p ps g o.2)
 
 -- the member's one pair is taken out
-none_first : (p : Pair) (ps : List Pair) (m : List ℕ) → is_first p ps ≡ true → bytes_eq p.1 m ≡ true → p.1 ≡ m → has m ps ≡ false
+pub none_first : (p : Pair) (ps : List Pair) (m : List ℕ) → is_first p ps ≡ true → bytes_eq p.1 m ≡ true → p.1 ≡ m → has m ps ≡ false
 none_first p [] m f e s = refl
 none_first p (q ∷ ps) m f e s = grind (arith, f, e, s, none_first p ps m)
-
-same_bytes : (xs ys : List ℕ) → bytes_eq xs ys ≡ true → xs ≡ ys
-same_bytes [] [] h = refl
-same_bytes [] (y ∷ ys) h = grind (arith, h)
-same_bytes (x ∷ xs) [] h = grind (arith, h)
-same_bytes (x ∷ xs) (y ∷ ys) h = grind (arith, nat_tests, h, same_bytes xs ys)
-
-pub has_not : (m : List ℕ) (ps : List Pair) → is_ordered ps ≡ true → has m (remove ps (position_or_len (names m) ps)) ≡ false
-has_not m [] h = refl
-has_not m (q ∷ ps) h = gone (bytes_eq q.1 m) refl (λ g. has_not m ps g)
-  where
-    gone : (b : Bool) → bytes_eq q.1 m ≡ b → (is_ordered ps ≡ true → has m (remove ps (position_or_len (names m) ps)) ≡ false) → has m (remove (q ∷ ps) (cond (not b) (1 + position_or_len (names m) ps) 0)) ≡ false
-    gone true e r = let f : is_first q ps ≡ true = grind (arith, h) in none_first q ps m f e (same_bytes q.1 m e)
-    gone false e r = let g : is_ordered ps ≡ true = grind (arith, h) in let s : 1 + position_or_len (names m) ps ≡ suc (position_or_len (names m) ps) = omega arith in ap (λ j. has m (remove (q ∷ ps) j)) s ∙ grind (arith, e, r g)
 
 pub ordered_without : (m : List ℕ) (ps : List Pair) → is_ordered ps ≡ true → is_ordered (without m ps) ≡ true
 unfolding without
 ordered_without m ps h = ordered_remove ps (position_or_len (names m) ps) h
-
-has_without : (m : List ℕ) (ps : List Pair) → is_ordered ps ≡ true → has m (without m ps) ≡ false
-unfolding without
-has_without m ps h = has_not m ps h
-
-pub ordered_added : (p : Pair) (ps : List Pair) → is_ordered ps ≡ true → is_ordered (put p (without p.1 ps)) ≡ true
-unfolding put
-ordered_added p ps h = ordered_put p (without p.1 ps) (ordered_without p.1 ps h) (has_without p.1 ps h)
 
 -- one pair fewer of those that are taken out from a rank on
 pub without_ranks_step : (ps : List Pair) (first count : ℕ) → first < length ps → without_ranks first (suc count) ps ≡ without_ranks first count (remove ps first)
@@ -125,30 +106,3 @@ without_ranks_step (p ∷ ps) (suc first) count h =
 -- nothing is taken out
 pub without_ranks_none : (ps : List Pair) (first : ℕ) → without_ranks first 0 ps ≡ ps
 without_ranks_none ps first = let e : first + 0 ≡ first = omega arith in ap (λ n. take first ps ++ drop n ps) e ∙ take-append-drop first ps
-
-first_drop : (q : Pair) (ps : List Pair) (n : ℕ) → is_first q ps ≡ true → is_first q (drop n ps) ≡ true
-first_drop q ps zero f = f
-first_drop q [] (suc n) f = refl
-first_drop q (r ∷ ps) (suc n) f = first_drop q ps n (grind (arith, f))
-
-first_parts : (q : Pair) (ps : List Pair) (a n : ℕ) → is_first q ps ≡ true → is_first q (take a ps ++ drop (a + n) ps) ≡ true
-first_parts q ps zero n f = first_drop q ps (0 + n) f
-first_parts q [] (suc a) n f = let e : suc a + n ≡ suc (a + n) = omega arith in ap (λ m. is_first q (drop m [])) e
-first_parts q (r ∷ ps) (suc a) n f =
-    let e : suc a + n ≡ suc (a + n) = omega arith in
-    let g : is_first q ps ≡ true = grind (arith, f) in
-    ap (λ m. is_first q (r ∷ (take a ps ++ drop m (r ∷ ps)))) e ∙ grind (arith, f, first_parts q ps a n g)
-
-ordered_drop : (ps : List Pair) (n : ℕ) → is_ordered ps ≡ true → is_ordered (drop n ps) ≡ true
-ordered_drop ps zero h = h
-ordered_drop [] (suc n) h = refl
-ordered_drop (p ∷ ps) (suc n) h = ordered_drop ps n (grind (arith, h))
-
-pub ordered_without_ranks : (ps : List Pair) (first count : ℕ) → is_ordered ps ≡ true → is_ordered (without_ranks first count ps) ≡ true
-ordered_without_ranks ps zero count h = ordered_drop ps (0 + count) h
-ordered_without_ranks [] (suc a) count h = let e : suc a + count ≡ suc (a + count) = omega arith in ap (λ m. is_ordered (drop m [])) e
-ordered_without_ranks (p ∷ ps) (suc a) count h =
-    let e : suc a + count ≡ suc (a + count) = omega arith in
-    let g : is_ordered ps ≡ true = grind (arith, h) in
-    let f : is_first p ps ≡ true = grind (arith, h) in
-    ap (λ m. is_ordered (p ∷ (take a ps ++ drop m (p ∷ ps)))) e ∙ grind (arith, first_parts p ps a count f, ordered_without_ranks ps a count g)

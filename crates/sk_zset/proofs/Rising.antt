@@ -1,4 +1,4 @@
--- In an ordered list a test of scores, and that of what stands behind a pair, passes from some place on.
+-- In an ordered list a test of scores, and that of what doesn't stand before a pair, passes from some place on.
 use Rattle.std.proofs.Common.{◌≡◌, Bool, true, not, List, [], ◌∷◌, refl, arith}
 use Rattle.std.proofs.lemmas.Int.{ints}
 use Rattle.sk_base.specs.declared.bound.Bound.{Bound}
@@ -19,8 +19,8 @@ module _ (t : Pair → Bool) (up : (p q : Pair) → precedes p q ≡ true → t 
   rising [] h = refl
   rising (p ∷ ps) h = grind (arith, h, all_behind p ps, rising ps)
 
-pub rises_behind : (p : Pair) (ps : List Pair) → is_ordered ps ≡ true → rises (precedes p) ps ≡ true
-rises_behind p ps h = rising (precedes p) (λ q r a b. precedes_trans p q r b a) ps h
+pub rises_from : (p : Pair) (ps : List Pair) → is_ordered ps ≡ true → rises (λ q. not (precedes q p)) ps ≡ true
+rises_from p ps h = rising (λ q. not (precedes q p)) (λ q r a b. let t = precedes_trans q r p a in grind (arith, b, t)) ps h
 
 below_up : (b : Bound) (p q : Pair) → precedes p q ≡ true → not (is_below b p.0) ≡ true → not (is_below b q.0) ≡ true
 below_up Low p q a h = refl

@@ -2,3 +2,4 @@ pub mod Bounds
 pub mod Order
 pub mod Pair
 pub mod Pairs
+pub mod Scores

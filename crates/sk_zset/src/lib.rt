@@ -2,6 +2,7 @@
 #![tactic(auto)]
 
 mod bounds;
+mod by_bytes;
 mod copies;
 mod edits;
 mod find;

@@ -1,6 +1,7 @@
-// A sorted set over a list with undo of pairs, in order. A member is looked for in one place (`find`); ranks and bounds of scores are found by place.
-ghost use Rattle.std.specs.Prelude.{◌≡◌, ◌-◌, ◌<◌, ◌≤◌, ◌^◌, ℕ, ℤ, nat_lt, true, not, cond, List, [], ◌∷◌, drop, filter, length, option_map, slice_get, take, None, Some, IfOk, IsSome, OnErr, OnOk};
-ghost use Rattle.std.specs.List.{count_by};
+// A sorted set over a list with undo of pairs, in order, and a map with undo from each member to its score: a member's score is looked up, and its
+// pair is then found by both. Each edit is one of the list and one of the map.
+ghost use Rattle.std.specs.Prelude.{◌≡◌, ◌+◌, ◌-◌, ◌<◌, ◌≤◌, ◌^◌, ℕ, ℤ, nat_lt, true, not, cond, List, [], ◌∷◌, drop, filter, length, option_map, slice_get, slice_index_or, take, None, Some, IfOk, IfSome, IsSome, OnErr, OnOk};
+ghost use Rattle.std.specs.List.{count_by, remove};
 ghost use Rattle.sk_undo.specs.Steps.{begun, closed, committed, edited, undone};
 ghost use Rattle.sk_zset.specs.Bounds.{is_below, is_between};
 ghost use Rattle.sk_zset.specs.Order.{InOrder};
@@ -8,12 +9,13 @@ ghost use Rattle.sk_zset.specs.Pairs.{added, first_due, has, lowest_above, pair_
 
 use crate::Memory;
 use crate::bounds::{compare, count_below, range_of};
+use crate::by_bytes::ByBytes;
 use crate::copies::copy_part;
-use crate::edits::{add_pair, drop_member, take_member, take_part};
+use crate::edits::{add_pair, drop_pair};
 use crate::find::place_of;
 use sk_base::{Bound, Score};
 use sk_resp::Word;
-use sk_undo::UndoList;
+use sk_undo::{UndoList, UndoMap};
 use std::alloc::Global;
 use std::marker::Model;
 
@@ -22,6 +24,7 @@ use std::marker::Model;
 #[derive(Drop)]
 pub struct ZSet {
     pairs: UndoList<Score, Word>,
+    scores: UndoMap<Word, Score>,
 }
 
 impl Model for ZSet {
@@ -31,11 +34,11 @@ impl Model for ZSet {
 
     ghost Value = { Steps (List Pair) };
 
-    ghost use Rattle.sk_zset.specs.Order.{InOrder};
+    ghost use Rattle.sk_zset.specs.Scores.{IsTied};
 
     ghost view = { λ z. z.pairs.list };
 
-    ghost invariant = { λ z. InOrder z.pairs.list };
+    ghost invariant = { λ z. IsTied z.pairs.list z.scores.list };
 }
 
 impl ZSet {
@@ -45,6 +48,7 @@ impl ZSet {
     {
         ZSet {
             pairs: UndoList::new(alloc),
+            scores: UndoMap::new(alloc),
         }
     }
 
@@ -58,59 +62,100 @@ impl ZSet {
     }
 
     /// Adds a pair, and answers whether its member is new (`ZADD`). A member that was there gets the new score.
-    #[tactic(auto, using(crate::proofs::Order::ordered_added))]
     pub fn add(&mut self, score: Score, member: Word) -> Result<bool, Memory>
         ensures answer { IfOk result (λ new. new ≡ not (has member self.old.stands)) }
         ensures ok { OnOk result (self.new ≡ edited (added (score, member) self.old.stands) self.old) }
         ensures err { OnErr result (self.new ≡ self.old) }
     {
+        let was = self.score(member.bytes());
+        if was == Some(score) {
+            return Ok(false);
+        }
+        let name = member.copy()?;
         self.pairs.reserve(2)?;
-        Ok(add_pair(&mut self.pairs, score, member))
+        self.scores.reserve(1)?;
+        add_pair(&mut self.pairs, was, score, member);
+        self.scores.put(name, score);
+        Ok(was.is_none())
     }
 
     /// Takes the member's pair out and gives it to the caller. Takes no memory.
-    #[tactic(auto, using(crate::proofs::Order::ordered_without))]
+    #[tactic(auto, unfolding(crate::specs::Pairs::without))]
     pub fn take(&mut self, member: &[u8]) -> Option<(Score, Word)>
         requires { self.old.stood ≡ None }
         ensures pair { result ≡ pair_of member.now self.old.stands }
         ensures rest { self.new ≡ edited (without member.now self.old.stands) self.old }
     {
-        take_member(&mut self.pairs, member)
+        match self.place_of(member) {
+            Some(at) => Some(self.take_at(at)),
+            None => None,
+        }
+    }
+
+    // Takes the pair at a rank out and gives it to the caller.
+    fn take_at(&mut self, at: usize) -> (Score, Word)
+        requires within { at < length self.old.stands }
+        requires closed { self.old.stood ≡ None }
+        ensures pair { result ≡ slice_index_or self.old.stands at result }
+        ensures rest { self.new ≡ edited (remove self.old.stands at) self.old }
+    {
+        let _len = self.scores.len(); // its contract says that the members are in order
+        let pair = self.pairs.take(at);
+        self.scores.take(&pair.1);
+        pair
+    }
+
+    // Takes out so many pairs from a rank on.
+    #[tactic(auto, using(crate::proofs::Order::without_ranks_none))]
+    fn take_part(&mut self, first: usize, count: usize)
+        requires within { first + count ≤ length self.old.stands }
+        requires closed { self.old.stood ≡ None }
+        ensures { self.new ≡ edited (without_ranks first count self.old.stands) self.old }
+    {
+        let mut left = count;
+        while left > 0 {
+            self.take_at(first);
+            left -= 1;
+        }
     }
 
     /// Takes the member's pair out, and answers whether there was one. An open step keeps the pair until it is closed.
-    #[tactic(auto, using(crate::proofs::Order::ordered_without))]
     pub fn drop_out(&mut self, member: &[u8]) -> Result<bool, Memory>
         ensures answer { IfOk result (λ was. was ≡ has member.now self.old.stands) }
         ensures ok { OnOk result (self.new ≡ edited (without member.now self.old.stands) self.old) }
         ensures err { OnErr result (self.new ≡ self.old) }
     {
+        let was = self.score(member);
+        let _len = self.scores.len(); // its contract says that the members are in order
         self.pairs.reserve(1)?;
-        Ok(drop_member(&mut self.pairs, member))
+        self.scores.reserve(1)?;
+        drop_pair(&mut self.pairs, was, member);
+        Ok(self.scores.remove(&ByBytes { bytes: member }))
     }
 
-    /// The member's score (`ZSCORE`).
+    /// The member's score (`ZSCORE`). Logarithmic.
     pub fn score(&self, member: &[u8]) -> Option<Score>
         ensures { result ≡ score_of member.now self.now.stands }
     {
-        let at = place_of(&self.pairs, member);
-        if at < self.pairs.len() {
-            Some(self.pairs.get(at).0)
-        } else {
-            None
+        self.scores.get(&ByBytes { bytes: member }).copied()
+    }
+
+    // The rank of the member's pair.
+    fn place_of(&self, member: &[u8]) -> Option<usize>
+        ensures is { result ≡ rank member.now self.now.stands }
+        ensures within { IfSome result (λ at. at < length self.now.stands) }
+    {
+        match self.score(member) {
+            Some(score) => Some(place_of(&self.pairs, score, member)),
+            None => None,
         }
     }
 
-    /// How many pairs stand before the member's.
+    /// How many pairs stand before the member's. Logarithmic.
     pub fn rank(&self, member: &[u8]) -> Option<u64>
         ensures { result ≡ rank member.now self.now.stands }
     {
-        let at = place_of(&self.pairs, member);
-        if at < self.pairs.len() {
-            Some(at as u64)
-        } else {
-            None
-        }
+        self.place_of(member).map(|at| at as u64)
     }
 
     /// The pair at a rank.
@@ -156,7 +201,6 @@ impl ZSet {
     }
 
     /// Takes out at most `count` pairs from the rank `first` on, and answers how many they were (`ZREMRANGEBYRANK`). Takes no memory.
-    #[tactic(auto, using(crate::proofs::Order::ordered_without_ranks))]
     pub fn remove_ranks(&mut self, first: u64, count: u64) -> u64
         requires { self.old.stood ≡ None }
         ensures count { result ≡ length (part first count self.old.stands) }
@@ -165,31 +209,29 @@ impl ZSet {
         let len = self.pairs.len();
         let from = len.min(first as usize);
         let size = (len - from).min(count as usize);
-        take_part(&mut self.pairs, from, size);
+        self.take_part(from, size);
         size as u64
     }
 
     /// Takes out the pairs with a score within the bounds, and answers how many they were (`ZREMRANGEBYSCORE`). Takes no memory.
-    #[tactic(auto, using(crate::proofs::Order::ordered_without_ranks))]
     pub fn remove_scores(&mut self, low: Bound, high: Bound) -> u64
         requires { self.old.stood ≡ None }
         ensures count { result ≡ count_by (is_between low high) self.old.stands }
         ensures rest { self.new ≡ edited (filter (λ p. not (is_between low high p)) self.old.stands) self.old }
     {
         let (first, end) = range_of(&self.pairs, low, high);
-        take_part(&mut self.pairs, first, end - first);
+        self.take_part(first, end - first);
         (end - first) as u64
     }
 
     /// Takes the first pair out and gives it to the caller, where there are more than `keep`. Takes no memory.
-    #[tactic(auto, using(crate::proofs::Order::ordered_remove))]
     pub fn trim_low(&mut self, keep: u64) -> Option<(Score, Word)>
         requires { self.old.stood ≡ None }
         ensures pair { result ≡ lowest_above keep self.old.stands }
         ensures rest { self.new ≡ edited (trimmed keep self.old.stands) self.old }
     {
         if keep < self.pairs.len() as u64 {
-            Some(self.pairs.take(0))
+            Some(self.take_at(0))
         } else {
             None
         }
@@ -216,6 +258,7 @@ impl ZSet {
         ensures { self.new ≡ begun self.old }
     {
         self.pairs.begin();
+        self.scores.begin();
     }
 
     /// Closes the step, and what stood at its begin stands again. Takes no memory.
@@ -224,6 +267,7 @@ impl ZSet {
         ensures { self.new ≡ undone self.old }
     {
         self.pairs.undo();
+        self.scores.undo();
     }
 
     /// Closes the step, and what stands now stays. Takes no memory.
@@ -232,5 +276,6 @@ impl ZSet {
         ensures { self.new ≡ committed self.old }
     {
         self.pairs.commit();
+        self.scores.commit();
     }
 }
