@@ -1,7 +1,6 @@
 //! Where the store's jobs stand: the rows of its queues and of its sets of jobs, as one list; and which jobs are live.
 #![tactic(auto)]
 
-mod by_bytes;
 mod copies;
 mod ending;
 mod find;

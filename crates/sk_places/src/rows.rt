@@ -20,7 +20,6 @@ ghost use Rattle.sk_places.specs.Rows.{pair_of, place_cmp, put_row, rows_of, sta
 ghost use Rattle.sk_places.specs.Segments.{IsSegment, is_text};
 ghost use Rattle.sk_places.specs.Wanted.{picks};
 
-use crate::by_bytes::ByBytes;
 use crate::copies::{Pairs, Texts};
 use crate::index::{add_job, drop_job, job_of, take_job};
 use crate::row::{Place, Spot};
@@ -32,6 +31,7 @@ use sk_cmd::{Scored, Side};
 use sk_payload::Payload;
 use sk_resp::{Memory, Word};
 use sk_undo::{UndoList, UndoMultiset};
+use sk_zset::ByBytes;
 use std::alloc::Global;
 use std::marker::Model;
 

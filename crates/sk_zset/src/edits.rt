@@ -38,12 +38,7 @@ fn put_pair(pairs: &mut UndoList<Score, Word>, score: Score, member: Word)
 
 /// Gives the member, which had the score `was`, this score.
 #[tactic(auto, using(crate::proofs::Order::ordered_without, crate::proofs::Scores::has_without))]
-pub fn add_pair(
-    pairs: &mut UndoList<Score, Word>,
-    was: Option<Score>,
-    score: Score,
-    member: Word,
-)
+pub fn add_pair(pairs: &mut UndoList<Score, Word>, was: Option<Score>, score: Score, member: Word)
     requires room { 1 < pairs.old.room }
     requires ordered { is_ordered pairs.old.list.stands ≡ true }
     requires was { score_of member pairs.old.list.stands ≡ was }

@@ -8,5 +8,6 @@ mod edits;
 mod find;
 mod zset;
 
+pub use by_bytes::ByBytes;
 pub use std::alloc::AllocError as Memory;
 pub use zset::ZSet;
