@@ -1,0 +1,126 @@
+#!/usr/bin/env python3
+"""Counts the processor's instructions of one more round of a workload, by valgrind's callgrind over the proved program.
+
+Such a count is exact, also on a busy machine. A workload is run with n rounds and with 2n, and the difference is divided by n, so that what
+comes before the rounds is left out. Each count has a bar, the number that we want to reach; the script ends with status 1 where one is missed
+by more than a tenth. Nothing is installed. Wanted: python3 and valgrind.
+
+    bench/instructions.py             the workloads on small stores, in a minute
+    bench/instructions.py --large     with 100,000 rows and with 10,000 members besides, in two or three
+"""
+
+import concurrent.futures
+import os
+import re
+import subprocess
+import sys
+import tempfile
+
+TOP = os.path.dirname(os.path.dirname(os.path.abspath(__file__)))
+PROGRAM = os.path.join(TOP, 'bin', 'sidekiq')
+NOW = b'1700000000000'
+
+
+def command(*words):
+    return b'*%d\r\n' % len(words) + b''.join(b'$%d\r\n%s\r\n' % (len(word), word) for word in words)
+
+
+def job(n, batch=b''):
+    """A job of 118 bytes, or a member of a batch."""
+    return b'{"args":[1],%s"class":"Note","created_at":%s,"jid":"%024d","queue":"default","retry":true}' % (batch, NOW, n)
+
+
+def filled(queue, count):
+    """So many jobs that stand in a queue, and stay there."""
+    jobs = [job(10_000_000 + n) for n in range(count)]
+    return b''.join(command(b'LPUSH', queue, *jobs[at:at + 100]) for at in range(0, count, 100))
+
+
+def joined():
+    return command(b'SK.NOW', NOW) + command(b'SK.BEAT', b'w') + command(b'SK.AS', b'1') + command(b'SK.JOIN', b'w')
+
+
+def run(text):
+    """A job is fetched, started, done and released."""
+    return (command(b'LMOVE', b'queue:default', b'sq:w', b'RIGHT', b'LEFT') + command(b'SK.START', text)
+            + command(b'SK.OK', text) + command(b'LREM', b'sq:w', b'1', text))
+
+
+def lists(rows, rounds):
+    return filled(b'queue:low', rows) + b''.join(
+        command(b'LPUSH', b'queue:default', job(n)) + command(b'LMOVE', b'queue:default', b'queue:low', b'RIGHT', b'LEFT')
+        + command(b'PING') for n in range(rounds))
+
+
+def cycle(rows, rounds):
+    return filled(b'queue:low', rows) + joined() + b''.join(
+        command(b'LPUSH', b'queue:default', job(n)) + run(job(n)) for n in range(rounds))
+
+
+def schedule(rows, rounds):
+    return b''.join(command(b'ZADD', b'schedule', b'%d' % (1_700_000_000 + n * 7919 % 100_003), job(n)) for n in range(rows + rounds))
+
+
+def sorted_set(rows, rounds):
+    return b''.join(command(b'ZADD', b'z', b'%d' % (n * 7919 % 100_003), b'member-%d' % n) for n in range(rows + rounds))
+
+
+def members(count):
+    return [job(n, b'"bid":"b",') for n in range(count)]
+
+
+def pushed(_, rounds):
+    return command(b'SK.BPUSH', b'b', b'', b'', b'', b'', *members(rounds))
+
+
+def batch(count, rounds):
+    jobs = members(count)
+    made = [command(b'SK.BPUSH', b'b', b'', b'', b'', b'', *jobs[:1_000])]
+    made += [command(b'SK.BADD', b'b', *jobs[at:at + 1_000]) for at in range(1_000, count, 1_000)]
+    return b''.join(made) + joined() + b''.join(run(text) for text in jobs[:rounds])
+
+
+# What is counted, of how many rows or members, in how many rounds, and the bar. The large ones come last.
+WORKLOADS = [
+    ('a round of LPUSH, LMOVE and PING, 3,000 rows', lists, 3_000, 300, 25_000),
+    ('a job pushed, fetched, started, done, released, 10 rows', cycle, 10, 300, 36_000),
+    ('the same, 1,000 rows', cycle, 1_000, 300, 36_000),
+    ('ZADD of one more job on a schedule of 1,000', schedule, 1_000, 100, 30_000),
+    ('the same, of 10,000', schedule, 10_000, 20, 33_000),
+    ('ZADD of one more pair in a sorted set of 10,000', sorted_set, 10_000, 300, 30_000),
+    ('SK.BPUSH of 2,000 jobs, a member', pushed, 0, 1_000, 40_000),
+    ('a member fetched, started, done, released, of 100', batch, 100, 50, 45_000),
+]
+LARGE = [
+    ('a job pushed, fetched, started, done, released, 100,000 rows', cycle, 100_000, 300, 36_000),
+    ('a member fetched, started, done, released, of 10,000', batch, 10_000, 50, 45_000),
+]
+
+
+def instructions(text):
+    with tempfile.TemporaryDirectory() as folder:
+        done = subprocess.run(
+            ['valgrind', '--tool=callgrind', f'--callgrind-out-file={folder}/out', os.path.join(TOP, 'crates/sidekiq/out/sidekiq'), 'pipe'],
+            input=text, stdout=subprocess.DEVNULL, stderr=subprocess.PIPE, check=True)
+        return int(re.search(rb'Collected : (\d+)', done.stderr).group(1))
+
+
+def counted(workload):
+    name, made, size, rounds, bar = workload
+    return name, (instructions(made(size, 2 * rounds)) - instructions(made(size, rounds))) // rounds, bar
+
+
+def main():
+    subprocess.run([PROGRAM, 'pipe'], stdin=subprocess.DEVNULL, stdout=subprocess.DEVNULL, check=True)     # builds it, where it is stale
+    wanted = WORKLOADS + (LARGE if '--large' in sys.argv[1:] else [])
+    missed = 0
+    with concurrent.futures.ThreadPoolExecutor(os.cpu_count()) as pool:
+        for name, count, bar in pool.map(counted, wanted):
+            is_missed = 10 * count > 11 * bar
+            missed += is_missed
+            print(f'{count:>12,}  {"MISSED" if is_missed else "ok":6}  bar {bar:>7,}  {name}', flush=True)
+    print(f'{missed} of {len(wanted)} bars missed')
+    return missed > 0
+
+
+sys.exit(main())
