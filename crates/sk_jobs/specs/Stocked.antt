@@ -1,8 +1,10 @@
 -- What scripts change, as a part of the world, and the step that is open over all of it.
 use Rattle.std.specs.Prelude.{◌≡◌, ℕ, None, IsSome}
+use Rattle.sk_resp.specs.declared.reply.Reply.{Reply}
 use Rattle.sk_undo.specs.Steps.{begun, committed, undone}
 use Rattle.sk_seats.specs.Phases.{Phases}
 use Rattle.sk_model.specs.Covered.{IsCovered}
+use Rattle.sk_model.specs.Outcome.{Comes, Outcome}
 use Rattle.sk_model.specs.World.{World}
 use Rattle.sk_jobs.specs.declared.stock.Stock.{Stock}
 
@@ -19,6 +21,11 @@ at w moment s phases = record w {
   counters = s.counters.stands;
   phases = phases;
 }
+
+-- In every world with this stock and these seats the command came to its outcome, with this reply, and left those.
+abbrev pub ComesStocked : (World → Outcome) → ℕ → Stock → Phases → Reply → Stock → Phases → Type 0
+ComesStocked command moment s phases reply t turned =
+    (w : World) → Comes (at w moment s phases) (command (at w moment s phases)) reply (at w moment t turned)
 
 -- the callbacks that were pushed are no more than were fired of the batches
 abbrev pub AreCovered : Stock → Type 0

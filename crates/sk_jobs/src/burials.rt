@@ -10,7 +10,7 @@ ghost use Rattle.sk_seats.specs.declared.work.Stage.TheVariants as Stage;
 ghost use Rattle.sk_model.specs.Workers.{bury, bury_text};
 ghost use Rattle.sk_model.specs.World.{World};
 ghost use Rattle.sk_jobs.specs.Calls.{Alike};
-ghost use Rattle.sk_jobs.specs.Stocked.{AreCovered, IsClosed, KeepsStep, at};
+ghost use Rattle.sk_jobs.specs.Stocked.{ComesStocked, AreCovered, IsClosed, KeepsStep, at};
 
 use crate::calls::member_of;
 use crate::dead::bury_put;
@@ -62,7 +62,7 @@ pub fn bury(
     requires early { moment ≤ last_moment }
     requires closed { IsClosed stock.old }
     requires covered { AreCovered stock.old }
-    ensures ok { IfOk result (λ reply. (w : World) → Comes (at w moment stock.old seats.old) (bury (at w moment stock.old seats.old) seat (phase_in seats.old seat) text) reply (at w moment stock.new seats.new)) }
+    ensures ok { IfOk result (λ reply. ComesStocked (λ w. bury w seat (phase_in seats.old seat) text) moment stock.old seats.old reply stock.new seats.new) }
     ensures closed { IsClosed stock.new }
     ensures err { OnErr result ((stock.new ≡ stock.old) × (seats.new ≡ seats.old)) }
 {

@@ -5,7 +5,7 @@ ghost use Rattle.sk_seats.specs.Phases.{is_plain, phase_in, works_of};
 ghost use Rattle.sk_seats.specs.Works.{most_works};
 ghost use Rattle.sk_model.specs.Workers.{fetch};
 ghost use Rattle.sk_model.specs.World.{World};
-ghost use Rattle.sk_jobs.specs.Seated.{with_seats};
+ghost use Rattle.sk_jobs.specs.Seated.{ComesSeated, with_seats};
 
 use sk_base::Score;
 use sk_cmd::Side;
@@ -35,7 +35,7 @@ pub fn fetch(
     queue: Text,
 ) -> Result<Reply, Memory>
     requires { is_plain (phase_in seats.old seat) ≡ false }
-    ensures ok { IfOk result (λ reply. (w : World) → Comes (with_seats w places.old.stands seats.old) (fetch (with_seats w places.old.stands seats.old) seat (phase_in seats.old seat) ident (Some queue)) reply (with_seats w places.new.stands seats.new)) }
+    ensures ok { IfOk result (λ reply. ComesSeated (λ w. fetch w seat (phase_in seats.old seat) ident (Some queue)) places.old.stands seats.old reply places.new.stands seats.new) }
     ensures step { places.new.stood ≡ places.old.stood }
     ensures err { OnErr result ((places.new ≡ places.old) × (seats.new ≡ seats.old)) }
 {

@@ -10,7 +10,7 @@ ghost use Rattle.sk_seats.specs.declared.phase.Phase.TheVariants as Phase;
 ghost use Rattle.sk_seats.specs.declared.work.Work.{Work};
 ghost use Rattle.sk_model.specs.Change.{ending_of};
 ghost use Rattle.sk_undo.specs.Steps.{edited};
-ghost use Rattle.sk_jobs.specs.Seated.{IsFound, ended_by, ident_in, with_seats};
+ghost use Rattle.sk_jobs.specs.Seated.{ComesSeated, IsFound, ended_by, ident_in, with_seats};
 
 use crate::calls::word_of;
 use crate::hands::find_held;
@@ -48,7 +48,7 @@ fn end_job(places: &mut Places, work: &Work)
 pub fn release(places: &mut Places, seats: &mut Seats, seat: u32, ident: Word, text: &Word) -> Reply
     requires closed { places.old.stood ≡ None }
     requires joined { (works : List Work) × (phase_in seats.old seat ≡ Phase.Joined ident works) }
-    ensures done { (w : World) → Comes (with_seats w places.old.stands seats.old) (release_of (with_seats w places.old.stands seats.old) seat (phase_in seats.old seat) ident (Some text.now)) result (with_seats w places.new.stands seats.new) }
+    ensures done { ComesSeated (λ w. release_of w seat (phase_in seats.old seat) ident (Some text.now)) places.old.stands seats.old result places.new.stands seats.new }
     ensures closed { places.new.stood ≡ None }
 {
     let Phase::Joined(_, works) = seats.get(seat) else {
@@ -93,7 +93,7 @@ pub fn back(
     seat: u32,
     text: &Word,
 ) -> Result<Reply, Memory>
-    ensures ok { IfOk result (λ reply. (w : World) → Comes (with_seats w places.old.stands seats.old) (back (with_seats w places.old.stands seats.old) seat (phase_in seats.old seat) text.now) reply (with_seats w places.new.stands seats.new)) }
+    ensures ok { IfOk result (λ reply. ComesSeated (λ w. back w seat (phase_in seats.old seat) text.now) places.old.stands seats.old reply places.new.stands seats.new) }
     ensures step { places.new.stood ≡ places.old.stood }
     ensures err { OnErr result ((places.new ≡ places.old) × (seats.new ≡ seats.old)) }
 {

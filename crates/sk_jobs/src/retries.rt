@@ -9,7 +9,7 @@ ghost use Rattle.sk_seats.specs.Phases.{Phases, is_plain, phase_in};
 ghost use Rattle.sk_model.specs.Sets.{put_back};
 ghost use Rattle.sk_model.specs.Workers.{retry};
 ghost use Rattle.sk_model.specs.World.{World};
-ghost use Rattle.sk_jobs.specs.Seated.{with_seats};
+ghost use Rattle.sk_jobs.specs.Seated.{ComesSeated, with_seats};
 
 use crate::hands::find_retried;
 use sk_base::Score;
@@ -52,7 +52,7 @@ pub fn retry(
     pair: (Score, Word),
 ) -> Result<Reply, Memory>
     requires { is_plain (phase_in seats.old seat) ≡ false }
-    ensures ok { IfOk result (λ reply. (w : World) → Comes (with_seats w places.old.stands seats.old) (retry (with_seats w places.old.stands seats.old) seat (phase_in seats.old seat) (Some pair)) reply (with_seats w places.new.stands seats.new)) }
+    ensures ok { IfOk result (λ reply. ComesSeated (λ w. retry w seat (phase_in seats.old seat) (Some pair)) places.old.stands seats.old reply places.new.stands seats.new) }
     ensures step { places.new.stood ≡ places.old.stood }
     ensures err { OnErr result ((places.new ≡ places.old) × (seats.new ≡ seats.old)) }
 {

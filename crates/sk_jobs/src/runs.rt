@@ -13,7 +13,7 @@ ghost use Rattle.sk_model.specs.Workers.{drop, fail, ok, start};
 ghost use Rattle.sk_model.specs.World.{World};
 ghost use Rattle.sk_jobs.specs.Calls.{Alike, member_of};
 ghost use Rattle.sk_jobs.specs.Seated.{with_seats, IsFound};
-ghost use Rattle.sk_jobs.specs.Stocked.{AreCovered, IsClosed, KeepsStep, at};
+ghost use Rattle.sk_jobs.specs.Stocked.{ComesStocked, AreCovered, IsClosed, KeepsStep, at};
 ghost use Rattle.sk_seats.specs.Works.{is_held_as};
 ghost use Rattle.sk_seats.specs.declared.phase.Phase.{Phase};
 
@@ -79,7 +79,7 @@ pub fn fail(
     requires early { moment ≤ last_moment }
     requires closed { IsClosed stock.old }
     requires covered { AreCovered stock.old }
-    ensures ok { IfOk result (λ reply. (w : World) → Comes (at w moment stock.old seats.now) (fail (at w moment stock.old seats.now) (phase_in seats.now seat) text.now) reply (at w moment stock.new seats.now)) }
+    ensures ok { IfOk result (λ reply. ComesStocked (λ w. fail w (phase_in seats.now seat) text.now) moment stock.old seats.now reply stock.new seats.now) }
     ensures closed { IsClosed stock.new }
     ensures err { OnErr result (stock.new ≡ stock.old) }
 {
@@ -123,7 +123,7 @@ pub fn succeed(
     requires early { moment ≤ last_moment }
     requires closed { IsClosed stock.old }
     requires covered { AreCovered stock.old }
-    ensures ok { IfOk result (λ reply. (w : World) → Comes (at w moment stock.old seats.old) (ok (at w moment stock.old seats.old) seat (phase_in seats.old seat) text.now) reply (at w moment stock.new seats.new)) }
+    ensures ok { IfOk result (λ reply. ComesStocked (λ w. ok w seat (phase_in seats.old seat) text.now) moment stock.old seats.old reply stock.new seats.new) }
     ensures closed { IsClosed stock.new }
     ensures err { OnErr result ((stock.new ≡ stock.old) × (seats.new ≡ seats.old)) }
 {

@@ -9,7 +9,7 @@ ghost use Rattle.sk_model.specs.World.{World};
 ghost use Rattle.sk_seats.specs.declared.phase.Phase.TheVariants as Phase;
 ghost use Rattle.sk_seats.specs.declared.work.Work.{Work};
 ghost use Rattle.sk_value.specs.declared.action.Action.TheVariants as Action;
-ghost use Rattle.sk_jobs.specs.Seated.{with_seats};
+ghost use Rattle.sk_jobs.specs.Seated.{ComesSeated, with_seats};
 
 use crate::fetches::fetch;
 use crate::releases::release;
@@ -71,7 +71,7 @@ pub fn work(
     action: Action,
 ) -> Result<Reply, Memory>
     requires { places.old.stood ≡ None }
-    ensures ok { IfOk result (λ reply. (w : World) → Comes (with_seats w places.old.stands seats.old) (work (with_seats w places.old.stands seats.old) seat (phase_in seats.old seat) action) reply (with_seats w places.new.stands seats.new)) }
+    ensures ok { IfOk result (λ reply. ComesSeated (λ w. work w seat (phase_in seats.old seat) action) places.old.stands seats.old reply places.new.stands seats.new) }
     ensures closed { places.new.stood ≡ None }
     ensures err { OnErr result ((places.new ≡ places.old) × (seats.new ≡ seats.old)) }
     ensures release { OnErr result (releases (phase_in seats.old seat) action ≡ false) }
