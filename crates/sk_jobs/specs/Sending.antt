@@ -10,6 +10,12 @@ use Rattle.sk_model.specs.World.{World}
 use Rattle.sk_model.specs.Change.{perform}
 use Rattle.sk_model.specs.Jobs.{Sent}
 use Rattle.sk_model.specs.Told.{fired_texts}
+use Rattle.sk_resp.specs.declared.reply.Reply.{Reply}
+use Rattle.sk_seats.specs.Phases.{Phases}
+use Rattle.sk_model.specs.Outcome.{Comes, Outcome}
+use Rattle.sk_jobs.specs.Calls.{Alike}
+use Rattle.sk_jobs.specs.Stocked.{at}
+use Rattle.sk_jobs.specs.declared.stock.Stock.{Stock}
 use Rattle.sk_jobs.specs.declared.report.Report.{Report}
 
 -- a world at a moment, with these rows and names, and the jobs that are live
@@ -23,6 +29,16 @@ pub record IsSent (old new : World) (report : Report) (sent : Sent) : Type 0 whe
   pub fired : report.fired.items ≡ fired_texts sent.firings
   pub trimmed : report.trimmed.items ≡ sent.trimmed
   pub world : new ≡ perform old sent.changes
+
+-- In every world with this stock, and with seats that have the same jobs in their hands, the command came to its outcome.
+abbrev pub ComesAlike : (World → Outcome) → ℕ → Stock → Phases → Reply → Stock → Type 0
+ComesAlike command moment s seats reply t =
+    (w : World) (phases : Phases) → Alike phases seats → Comes (at w moment s phases) (command (at w moment s phases)) reply (at w moment t phases)
+
+-- The same of what is sent on, and of the report of it.
+abbrev pub SentAlike : (World → Sent) → ℕ → Stock → Phases → Report → Stock → Type 0
+SentAlike sent moment s seats report t =
+    (w : World) (phases : Phases) → Alike phases seats → IsSent (at w moment s phases) (at w moment t phases) report (sent (at w moment s phases))
 
 -- ## Rows that others leave alone
 

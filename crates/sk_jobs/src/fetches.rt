@@ -1,11 +1,9 @@
 // LMOVE queue:name sq:ident RIGHT LEFT from a worker's seat (Sidekiq's wiki, "Reliability"): super_fetch.
 ghost use Rattle.std.specs.Prelude.{◌≡◌, IfOk, OnErr, Some, false, length, nat_lt, not};
-ghost use Rattle.sk_model.specs.Outcome.{Comes};
 ghost use Rattle.sk_seats.specs.Phases.{is_plain, phase_in, works_of};
 ghost use Rattle.sk_seats.specs.Works.{most_works};
 ghost use Rattle.sk_model.specs.Workers.{fetch};
-ghost use Rattle.sk_model.specs.World.{World};
-ghost use Rattle.sk_jobs.specs.Seated.{ComesSeated, with_seats};
+ghost use Rattle.sk_jobs.specs.Seated.{ComesSeated};
 
 use sk_base::Score;
 use sk_cmd::Side;

@@ -1,16 +1,14 @@
 // How a worker lets go of a job: LREM sq:ident 1 payload, and SK.BACK payload. The job has stood in the private list all the while.
 ghost use Rattle.std.specs.Prelude.{◌≡◌, IfOk, List, None, OnErr, Some, option_map};
 ghost use Rattle.sk_payload.specs.Head.{head};
-ghost use Rattle.sk_model.specs.Outcome.{Comes};
 ghost use Rattle.sk_seats.specs.Phases.{phase_in};
 ghost use Rattle.sk_seats.specs.Works.{is_held_as};
 ghost use Rattle.sk_model.specs.Workers.{back, release_of};
-ghost use Rattle.sk_model.specs.World.{World};
 ghost use Rattle.sk_seats.specs.declared.phase.Phase.TheVariants as Phase;
 ghost use Rattle.sk_seats.specs.declared.work.Work.{Work};
 ghost use Rattle.sk_model.specs.Change.{ending_of};
 ghost use Rattle.sk_undo.specs.Steps.{edited};
-ghost use Rattle.sk_jobs.specs.Seated.{ComesSeated, IsFound, ended_by, ident_in, with_seats};
+ghost use Rattle.sk_jobs.specs.Seated.{ComesSeated, IsFound, ended_by, ident_in};
 
 use crate::calls::word_of;
 use crate::hands::find_held;

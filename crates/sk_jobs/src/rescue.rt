@@ -10,13 +10,12 @@ ghost use Rattle.sk_places.specs.declared.row.Place.{Place};
 ghost use Rattle.sk_places.specs.declared.row.Place.TheVariants.{Private, Set};
 ghost use Rattle.sk_places.specs.declared.row.Row.{Row};
 ghost use Rattle.sk_model.specs.Jobs.{each};
-ghost use Rattle.sk_model.specs.Outcome.{Comes};
 ghost use Rattle.sk_seats.specs.Phases.{Phases};
 ghost use Rattle.sk_model.specs.Rescue.{bury_poison, left_rows, rescue, rescue_row};
 ghost use Rattle.sk_model.specs.World.{World};
 ghost use Rattle.sk_jobs.specs.Calls.{Alike};
 ghost use Rattle.sk_jobs.specs.Rescuing.{IsNext, IsPassed};
-ghost use Rattle.sk_jobs.specs.Sending.{IsAside, IsSent, rows_in};
+ghost use Rattle.sk_jobs.specs.Sending.{ComesAlike, SentAlike, IsAside, IsSent, rows_in};
 ghost use Rattle.sk_jobs.specs.Stocked.{AreCovered, KeepsStep, at};
 
 use crate::calls::member_of;
@@ -105,7 +104,7 @@ fn rescue_list(
 ) -> Result<Report, Memory>
     requires early { moment ≤ last_moment }
     requires covered { AreCovered stock.old }
-    ensures ok { IfOk result (λ report. (w : World) (phases : Phases) → Alike phases seats.now → IsSent (at w moment stock.old phases) (at w moment stock.new phases) report (each rescue_row (at w moment stock.old phases) (rows_at (Private ident) stock.old.places.stands.rows))) }
+    ensures ok { IfOk result (λ report. SentAlike (λ w. each rescue_row w (rows_at (Private ident) stock.old.places.stands.rows)) moment stock.old seats.now report stock.new) }
     ensures few { IfOk result (λ report. report.moved + report.buried ≡ length (rows_at (Private ident) stock.old.places.stands.rows)) }
     ensures left { OnOk result ((test : Place → Bool) (others : List Row) → IsAside test → rows_in test stock.old.places.stands.rows ≡ rows_at (Private ident) stock.old.places.stands.rows ++ others → rows_in test stock.new.places.stands.rows ≡ others) }
     ensures covered { OnOk result (AreCovered stock.new) }
@@ -148,7 +147,7 @@ fn rescue_all(
 ) -> Result<Report, Memory>
     requires early { moment ≤ last_moment }
     requires covered { AreCovered stock.old }
-    ensures ok { IfOk result (λ report. (w : World) (phases : Phases) → Alike phases seats.now → IsSent (at w moment stock.old phases) (at w moment stock.new phases) report (each rescue_row (at w moment stock.old phases) (left_rows (at w moment stock.old phases)))) }
+    ensures ok { IfOk result (λ report. SentAlike (λ w. each rescue_row w (left_rows w)) moment stock.old seats.now report stock.new) }
     ensures few { IfOk result (λ report. report.moved + report.buried < 2 ^ 63) }
     ensures step { KeepsStep stock.old stock.new }
 {
@@ -166,7 +165,7 @@ fn rescue_all(
 pub fn rescue(alloc: Global, moment: u64, seats: &Seats, stock: &mut Stock) -> Result<Reply, Memory>
     requires early { moment ≤ last_moment }
     requires covered { AreCovered stock.old }
-    ensures ok { IfOk result (λ reply. (w : World) (phases : Phases) → Alike phases seats.now → Comes (at w moment stock.old phases) (rescue (at w moment stock.old phases)) reply (at w moment stock.new phases)) }
+    ensures ok { IfOk result (λ reply. ComesAlike rescue moment stock.old seats.now reply stock.new) }
     ensures step { KeepsStep stock.old stock.new }
 {
     let report = rescue_all(alloc, moment, seats, stock)?;

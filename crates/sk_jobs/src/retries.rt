@@ -4,7 +4,6 @@ ghost use Rattle.std.specs.Option.{is_some};
 ghost use Rattle.sk_places.specs.Rows.{row_of, rows_at};
 ghost use Rattle.sk_places.specs.declared.row.Place.TheVariants.{Set};
 ghost use Rattle.sk_model.specs.Change.{changed};
-ghost use Rattle.sk_model.specs.Outcome.{Comes};
 ghost use Rattle.sk_seats.specs.Phases.{Phases, is_plain, phase_in};
 ghost use Rattle.sk_model.specs.Sets.{put_back};
 ghost use Rattle.sk_model.specs.Workers.{retry};

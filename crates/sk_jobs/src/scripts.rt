@@ -9,13 +9,12 @@ ghost use Rattle.sk_places.specs.declared.row.Place.TheVariants.{Set};
 ghost use Rattle.sk_places.specs.declared.row.Row.{Row};
 ghost use Rattle.sk_model.specs.Jobs.{due, each, kill, kill_row, moment_score, reports, revive, send};
 ghost use Rattle.sk_model.specs.Outcome.{Comes};
-ghost use Rattle.sk_seats.specs.Phases.{Phases, phase_in};
+ghost use Rattle.sk_seats.specs.Phases.{phase_in};
 ghost use Rattle.sk_model.specs.Seats.{where_plain};
 ghost use Rattle.sk_model.specs.World.{World};
-ghost use Rattle.sk_jobs.specs.Calls.{Alike};
 ghost use Rattle.sk_jobs.specs.Scripts.{sent};
-ghost use Rattle.sk_jobs.specs.Sending.{with_moment};
-ghost use Rattle.sk_jobs.specs.Stocked.{AreCovered, IsClosed, KeepsStep, at};
+ghost use Rattle.sk_jobs.specs.Sending.{ComesAlike, with_moment};
+ghost use Rattle.sk_jobs.specs.Stocked.{ComesStocked, AreCovered, IsClosed, KeepsStep, at};
 
 use crate::calls::member_of;
 use crate::dead::bury;
@@ -67,7 +66,7 @@ fn send_due(
     requires early { moment ≤ last_moment }
     requires alive { is_eq (place_cmp (Set Dead) (Set set)) ≡ false }
     requires covered { AreCovered stock.old }
-    ensures ok { IfOk result (λ reply. (w : World) (phases : Phases) → Alike phases seats.now → Comes (at w moment stock.old phases) (reports (each send (at w moment stock.old phases) (take (nat_abs limit) (filter (λ (row : Row). is_le (int_cmp row.score (moment_score (at w moment stock.old phases)))) (rows_at (Set set) stock.old.places.stands.rows))))) reply (at w moment stock.new phases)) }
+    ensures ok { IfOk result (λ reply. ComesAlike (λ w. reports (each send w (take (nat_abs limit) (filter (λ (row : Row). is_le (int_cmp row.score (moment_score w))) (rows_at (Set set) stock.old.places.stands.rows))))) moment stock.old seats.now reply stock.new) }
     ensures step { KeepsStep stock.old stock.new }
 {
     let _count = stock.places.len(&Place::Set(set)); // for what it says of their number
@@ -87,7 +86,7 @@ fn due(
 ) -> Result<Reply, Memory>
     requires early { moment ≤ last_moment }
     requires covered { AreCovered stock.old }
-    ensures ok { IfOk result (λ reply. (w : World) (phases : Phases) → Alike phases seats.now → Comes (at w moment stock.old phases) (due (at w moment stock.old phases) set (nat_abs limit)) reply (at w moment stock.new phases)) }
+    ensures ok { IfOk result (λ reply. ComesAlike (λ w. due w set (nat_abs limit)) moment stock.old seats.now reply stock.new) }
     ensures step { KeepsStep stock.old stock.new }
 {
     match set {
@@ -109,7 +108,7 @@ fn bury_one(
     requires early { moment ≤ last_moment }
     requires alive { is_eq (place_cmp (Set Dead) (Set set)) ≡ false }
     requires covered { AreCovered stock.old }
-    ensures ok { IfOk result (λ reply. (w : World) (phases : Phases) → Alike phases seats.now → Comes (at w moment stock.old phases) (kill_row (at w moment stock.old phases) (row_of text.now (rows_at (Set set) stock.old.places.stands.rows))) reply (at w moment stock.new phases)) }
+    ensures ok { IfOk result (λ reply. ComesAlike (λ w. kill_row w (row_of text.now (rows_at (Set set) stock.old.places.stands.rows))) moment stock.old seats.now reply stock.new) }
     ensures step { KeepsStep stock.old stock.new }
 {
     let place = Place::Set(set);
@@ -132,7 +131,7 @@ fn kill(
 ) -> Result<Reply, Memory>
     requires early { moment ≤ last_moment }
     requires covered { AreCovered stock.old }
-    ensures ok { IfOk result (λ reply. (w : World) (phases : Phases) → Alike phases seats.now → Comes (at w moment stock.old phases) (kill (at w moment stock.old phases) set text.now) reply (at w moment stock.new phases)) }
+    ensures ok { IfOk result (λ reply. ComesAlike (λ w. kill w set text.now) moment stock.old seats.now reply stock.new) }
     ensures step { KeepsStep stock.old stock.new }
 {
     match set {
@@ -170,7 +169,7 @@ fn send_open(
 ) -> Result<Reply, Memory>
     requires early { moment ≤ last_moment }
     requires covered { AreCovered stock.old }
-    ensures ok { IfOk result (λ reply. (w : World) (phases : Phases) → Alike phases seats.now → Comes (at w moment stock.old phases) (sent (at w moment stock.old phases) script) reply (at w moment stock.new phases)) }
+    ensures ok { IfOk result (λ reply. ComesAlike (λ w. sent w script) moment stock.old seats.now reply stock.new) }
     ensures step { KeepsStep stock.old stock.new }
 {
     match script {
@@ -192,7 +191,7 @@ fn send_whole(
     requires early { moment ≤ last_moment }
     requires closed { IsClosed stock.old }
     requires covered { AreCovered stock.old }
-    ensures ok { IfOk result (λ reply. (w : World) → Comes (at w moment stock.old seats.now) (sent (at w moment stock.old seats.now) script) reply (at w moment stock.new seats.now)) }
+    ensures ok { IfOk result (λ reply. ComesStocked (λ w. sent w script) moment stock.old seats.now reply stock.new seats.now) }
     ensures closed { IsClosed stock.new }
     ensures err { OnErr result (stock.new ≡ stock.old) }
 {
@@ -213,7 +212,7 @@ pub fn send(
     requires early { moment ≤ last_moment }
     requires closed { IsClosed stock.old }
     requires covered { AreCovered stock.old }
-    ensures ok { IfOk result (λ reply. (w : World) → Comes (at w moment stock.old seats.now) (where_plain (phase_in seats.now seat) (sent (at w moment stock.old seats.now) script)) reply (at w moment stock.new seats.now)) }
+    ensures ok { IfOk result (λ reply. ComesStocked (λ w. where_plain (phase_in seats.now seat) (sent w script)) moment stock.old seats.now reply stock.new seats.now) }
     ensures closed { IsClosed stock.new }
     ensures err { OnErr result (stock.new ≡ stock.old) }
 {

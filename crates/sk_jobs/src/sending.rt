@@ -1,5 +1,5 @@
 // Jobs that are sent from a set on, one after another: each to the left end of the queue that its head names. One without a head is buried.
-ghost use Rattle.std.specs.Prelude.{◌≡◌, ◌∷◌, ◌<◌, ◌≤◌, ◌+◌, ◌^◌, Bool, pos, false, List, IfOk, OnOk, length, take};
+ghost use Rattle.std.specs.Prelude.{◌≡◌, ◌∷◌, ◌<◌, ◌≤◌, ◌+◌, ◌^◌, pos, false, List, IfOk, OnOk, length, take};
 ghost use Rattle.std.specs.Ordering.{is_eq};
 ghost use Rattle.sk_base.specs.Score.{last_moment};
 ghost use Rattle.sk_cmd.specs.declared.argument.Scored.TheVariants.{Dead};
@@ -13,7 +13,7 @@ ghost use Rattle.sk_model.specs.Jobs.{each, send};
 ghost use Rattle.sk_seats.specs.Phases.{Phases};
 ghost use Rattle.sk_model.specs.World.{World};
 ghost use Rattle.sk_jobs.specs.Calls.{Alike};
-ghost use Rattle.sk_jobs.specs.Sending.{IsSent};
+ghost use Rattle.sk_jobs.specs.Sending.{SentAlike, IsSent};
 ghost use Rattle.sk_jobs.specs.Stocked.{AreCovered, KeepsStep, at};
 
 use crate::dead::bury;
@@ -86,7 +86,7 @@ pub fn send_front(
     requires some { count ≤ length (rows_at (Set set) stock.old.places.stands.rows) }
     requires few { count < 2 ^ 63 }
     requires covered { AreCovered stock.old }
-    ensures ok { IfOk result (λ report. (w : World) (phases : Phases) → Alike phases seats.now → IsSent (at w moment stock.old phases) (at w moment stock.new phases) report (each send (at w moment stock.old phases) (take count (rows_at (Set set) stock.old.places.stands.rows)))) }
+    ensures ok { IfOk result (λ report. SentAlike (λ w. each send w (take count (rows_at (Set set) stock.old.places.stands.rows))) moment stock.old seats.now report stock.new) }
     ensures few { IfOk result (λ report. report.moved + report.buried ≡ count) }
     ensures step { KeepsStep stock.old stock.new }
 {

@@ -1,15 +1,12 @@
 // What a worker's commands on keys do: LMOVE to a private list, ZADD on `retry`, LREM on a private list.
 ghost use Rattle.std.specs.Prelude.{◌≡◌, IfOk, None, OnErr, false, Some};
 ghost use Rattle.std.specs.Option.{MatchOption};
-ghost use Rattle.sk_model.specs.Outcome.{Comes};
 ghost use Rattle.sk_seats.specs.Phases.{phase_in};
-ghost use Rattle.sk_model.specs.Seats.{fetched_from, only, released_by, releases, releases_by};
-ghost use Rattle.sk_model.specs.Workers.{work, work_as, work_edit};
-ghost use Rattle.sk_model.specs.World.{World};
+ghost use Rattle.sk_model.specs.Seats.{fetched_from, only, released_by, releases};
+ghost use Rattle.sk_model.specs.Workers.{work};
 ghost use Rattle.sk_seats.specs.declared.phase.Phase.TheVariants as Phase;
-ghost use Rattle.sk_seats.specs.declared.work.Work.{Work};
 ghost use Rattle.sk_value.specs.declared.action.Action.TheVariants as Action;
-ghost use Rattle.sk_jobs.specs.Seated.{ComesSeated, with_seats};
+ghost use Rattle.sk_jobs.specs.Seated.{ComesSeated};
 
 use crate::fetches::fetch;
 use crate::releases::release;
