@@ -1,0 +1,9 @@
+//! What carries requests to a store and brings its replies: a link, a request that wants an answer of a kind, and a link over a connection.
+#![tactic(auto)]
+
+mod asking;
+mod link;
+
+pub use asking::{Answer, AskFault, ask};
+pub use link::{Link, LinkFault};
+pub use std::alloc::AllocError as Memory;
