@@ -4,3 +4,4 @@ pub mod Head
 pub mod Reading
 pub mod Follows
 pub mod Failed
+pub mod Digest
