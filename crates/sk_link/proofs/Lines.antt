@@ -171,11 +171,11 @@ stuck law part line [] is_line p u tail text more is e =
     elim (ends_where text u.part) [
       | inl h ↦ within law u.part (u.byte ∷ (u.more ++ tail)) text more b is u.reads.part h
       | inr h ↦ u.stuck (record {
-          texts = text ∷ [];
-          more = drop (length u.part + 1) text;
-          each = (is, tt);
-          is = front_of u.part (u.more ++ tail) text more u.byte b h ∙ sym (append-nil text);
-        })
+        texts = text ∷ [];
+        more = drop (length u.part + 1) text;
+        each = (is, tt);
+        is = front_of u.part (u.more ++ tail) text more u.byte b h ∙ sym (append-nil text);
+      })
     ]
 stuck law part line (t ∷ ts) is_line p u tail text more is e =
     let behind_it : Bytes = (joined ts ++ u.part) ++ u.byte ∷ u.more in

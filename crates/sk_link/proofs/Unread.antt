@@ -64,8 +64,8 @@ pub stuck_in : (kept bytes now : Bytes) (at n : ℕ) → now ≡ kept ++ take at
 stuck_in kept bytes now at n is stuck =
     let front : IsStuck (kept ++ take (at + n) bytes) = subst (λ t. IsStuck t) (lines_add kept bytes now at n is) stuck in
     subst (λ t. IsStuck t)
-      (append_assoc kept (take (at + n) bytes) (drop (at + n) bytes) ∙ ap (λ t. kept ++ t) (take-append-drop (at + n) bytes))
-      (stuck_on (kept ++ take (at + n) bytes) (drop (at + n) bytes) front)
+    (append_assoc kept (take (at + n) bytes) (drop (at + n) bytes) ∙ ap (λ t. kept ++ t) (take-append-drop (at + n) bytes))
+    (stuck_on (kept ++ take (at + n) bytes) (drop (at + n) bytes) front)
 
 pub none_gives : {A : Type 0} (o : Option A) (P : Type 0) → IfNone o P → o ≡ None → P
 none_gives None P h is = h
@@ -83,7 +83,7 @@ whole_buffer rest items now at is same =
 pub reply_off : (rest items now text : Bytes) (at used : ℕ) → rest ≡ take at items → now ≡ items → text ≡ rest ++ take used (take (length now - at) (drop at now)) → items ≡ text ++ drop (at + used) items
 reply_off rest items now text at used is same e =
     let front : text ≡ take (at + used) items =
-      e ∙ ap (λ t. rest ++ take used t) (take_rest now at) ∙ ap (λ t. rest ++ take used (drop at t)) same ∙ ap (λ t. t ++ take used (drop at items)) is ∙ sym (take-add at used items) in
+    e ∙ ap (λ t. rest ++ take used t) (take_rest now at) ∙ ap (λ t. rest ++ take used (drop at t)) same ∙ ap (λ t. t ++ take used (drop at items)) is ∙ sym (take-add at used items) in
     sym (ap (λ t. t ++ drop (at + used) items) front ∙ take-append-drop (at + used) items)
 
 -- ## A reply that hasn't come
