@@ -5,3 +5,4 @@ pub mod Reading
 pub mod Follows
 pub mod Failed
 pub mod Digest
+pub mod Draft

@@ -2,7 +2,12 @@
 #![tactic(auto)]
 
 mod after;
+mod args;
 mod bound;
+mod depth;
+mod draft;
+mod draft_fault;
+mod draft_members;
 mod edit_fault;
 mod failure;
 mod head;
@@ -13,9 +18,13 @@ mod no_head;
 mod payload;
 mod payloads;
 mod read;
+mod setting;
 mod whole;
 
 pub use after::follows;
+pub use args::Args;
+pub use draft::JobDraft;
+pub use draft_fault::DraftFault;
 pub use edit_fault::EditFault;
 pub use head::{Head, Lock, Retry, Until};
 pub use lock_digest::digest;
