@@ -12,26 +12,26 @@ use Rattle.sk_link.specs.Asking.{answers}
 use Rattle.sk_link.specs.Fault.{IsCause}
 use Rattle.sk_link.specs.declared.asking.Answer.{Answer}
 use Rattle.sk_link.specs.declared.asking.Answer.TheVariants as answer
-use Rattle.sk_worker.specs.Deed.{Deed, asked}
-use Rattle.sk_worker.specs.Fetching.{Fetching, FetchLine, FetchStep, FetchTranscript, asking, fetched, fetch, fetches, next_queue, if_room, after_reply}
+use Rattle.sk_worker.specs.Event.{Event, asked}
+use Rattle.sk_worker.specs.Fetching.{FetchStage, FetchLine, FetchStep, FetchTranscript, asking, fetched, fetch, fetches, next_queue, if_room, after_reply}
 use Rattle.sk_worker.specs.Request.{fetch_words}
 use Rattle.sk_worker.specs.Saying.{GoesOn}
-use Rattle.sk_worker.specs.Stage.{Taker}
+use Rattle.sk_worker.specs.Stage.{Settings}
 use Rattle.sk_worker.specs.Walk.{Walk}
 use Rattle.sk_worker.specs.declared.turn.WorkFault.{WorkFault}
 use Rattle.sk_worker.proofs.Walks.{walk-append, broken_later, cause_before}
 
-pub fetch_line : (w : Taker) (ident : Bytes) (prefetch : ℕ) (queue : Bytes) (queues payloads : List Bytes) → w.ident ≡ ident → w.prefetch ≡ prefetch →
+pub fetch_line : (w : Settings) (ident : Bytes) (prefetch : ℕ) (queue : Bytes) (queues payloads : List Bytes) → w.ident ≡ ident → w.prefetch ≡ prefetch →
     FetchLine w (asking queue queues payloads) (fetch_words ident queue) answer.Popped (after_reply prefetch queue queues payloads)
 fetch_line w ident prefetch queue queues payloads e p =
     subst (λ i. FetchLine w (asking queue queues payloads) (fetch_words i queue) answer.Popped (after_reply prefetch queue queues payloads)) e
     (subst (λ n. FetchLine w (asking queue queues payloads) (fetch_words w.ident queue) answer.Popped (after_reply n queue queues payloads)) p (fetch queue queues payloads))
 
-pub fetch_said : (w : Taker) (from : Fetching) (request : List Bytes) (wanted : Answer) (next : Reply → Fetching) (r : Reply) →
+pub fetch_said : (w : Settings) (from : FetchStage) (request : List Bytes) (wanted : Answer) (next : Reply → FetchStage) (r : Reply) →
     FetchLine w from request wanted next → answers wanted r ≡ true → Walk (FetchStep w) from (asked (record { request = request; reply = r }) ∷ []) (next r)
 fetch_said w from request wanted next r line ok = (next r, fetches from request wanted next r line ok, refl)
 
-pub fetch_after : (w : Taker) (from mid : Fetching) (xs ys : List Deed) (payloads : List Bytes) (result : Result (Unit {0}) WorkFault)
+pub fetch_after : (w : Settings) (from mid : FetchStage) (xs ys : List Event) (payloads : List Bytes) (result : Result (Unit {0}) WorkFault)
     (before between now_ : ℕ) (ended mid_ended : Bool) (unread : Option Bytes) → GoesOn before between ended mid_ended → Walk (FetchStep w) from xs mid →
     FetchTranscript (IsCause between now_ mid_ended unread) w mid ys payloads result → FetchTranscript (IsCause before now_ ended unread) w from (xs ++ ys) payloads result
 fetch_after w from mid xs ys payloads (Ok done) before between now_ ended mid_ended unread on p q = walk-append (FetchStep w) from mid (fetched payloads) xs ys p q
@@ -48,10 +48,10 @@ no_leb a b h false e = refl
 lt-leb : (a b : ℕ) → b < a → nat_le a b ≡ false
 lt-leb a b h = no_leb a b h (nat_le a b) refl
 
-pub full : (prefetch n : ℕ) (payloads : List Bytes) (next : Fetching) → n ≡ length payloads → prefetch ≤ n → if_room prefetch payloads next ≡ fetched payloads
+pub full : (prefetch n : ℕ) (payloads : List Bytes) (next : FetchStage) → n ≡ length payloads → prefetch ≤ n → if_room prefetch payloads next ≡ fetched payloads
 full prefetch n payloads next e h = ap (λ b. cond b (fetched payloads) next) (le-leb prefetch (length payloads) (omega arith))
 
-pub room : (prefetch n : ℕ) (payloads : List Bytes) (next : Fetching) → n ≡ length payloads → n < prefetch → if_room prefetch payloads next ≡ next
+pub room : (prefetch n : ℕ) (payloads : List Bytes) (next : FetchStage) → n ≡ length payloads → n < prefetch → if_room prefetch payloads next ≡ next
 room prefetch n payloads next e h = ap (λ b. cond b (fetched payloads) next) (lt-leb prefetch (length payloads) (omega arith))
 
 -- ## Places

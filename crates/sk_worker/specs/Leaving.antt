@@ -11,15 +11,15 @@ use Rattle.sk_link.specs.declared.asking.Answer.{Answer}
 use Rattle.sk_link.specs.declared.asking.Answer.TheVariants as answer
 use Rattle.sk_link.specs.declared.link.LinkFault.{LinkFault}
 use Rattle.sk_worker.specs.Request.{script_words, release_words}
-use Rattle.sk_worker.specs.Deed.{Deed, asked}
+use Rattle.sk_worker.specs.Event.{Event, asked}
 use Rattle.sk_worker.specs.Walk.{Walk, Broken}
 use Rattle.sk_worker.specs.declared.turn.WorkFault.{WorkFault}
 
-pub data Leaving : Type 0 where
+pub data LeaveStage : Type 0 where
   -- it holds these payloads, the oldest first, and gave so many back
-  leaving : List Bytes → ℕ → Leaving
+  leaving : List Bytes → ℕ → LeaveStage
   -- this payload has no head and is buried; those are left
-  buried : Bytes → List Bytes → ℕ → Leaving
+  buried : Bytes → List Bytes → ℕ → LeaveStage
 
 -- `:1`: the job went back. `:0`: a rescue had taken it away.
 abbrev pub given_back : Reply → ℕ
@@ -28,7 +28,7 @@ given_back r = 0
 
 -- ## The table: stage, request, kind of answer, next stage
 
-pub data LeaveLine (ident : Bytes) : Leaving → List Bytes → Answer → (Reply → Leaving) → Type 0 where
+pub data LeaveLine (ident : Bytes) : LeaveStage → List Bytes → Answer → (Reply → LeaveStage) → Type 0 where
   back : (c : Bytes) (others : List Bytes) (count : ℕ) (h : Head) → head c ≡ Some h →
       LeaveLine ident (leaving (c ∷ others) count) (script_words (codes "SK.BACK") c) answer.Number (λ r. leaving others (count + given_back r))
   bury : (c : Bytes) (others : List Bytes) (count : ℕ) → head c ≡ None →
@@ -36,17 +36,18 @@ pub data LeaveLine (ident : Bytes) : Leaving → List Bytes → Answer → (Repl
   release : (c : Bytes) (others : List Bytes) (count : ℕ) →
       LeaveLine ident (buried c others count) (release_words ident c) answer.Number (λ _. leaving others count)
 
-pub data LeaveStep (ident : Bytes) : Leaving → Deed → Leaving → Type 0 where
-  asks : (from : Leaving) (request : List Bytes) (wanted : Answer) (next : Reply → Leaving) (r : Reply) →
+pub data LeaveStep (ident : Bytes) : LeaveStage → Event → LeaveStage → Type 0 where
+  asks : (from : LeaveStage) (request : List Bytes) (wanted : Answer) (next : Reply → LeaveStage) (r : Reply) →
       LeaveLine ident from request wanted next → answers wanted r ≡ true →
       LeaveStep ident from (asked (record { request = request; reply = r })) (next r)
 
--- The deeds are those of leaving, from this stage on: to its end, with so many given back, or as far as they came.
-abbrev pub LeaveTranscript : (LinkFault → Type 0) → Bytes → Leaving → List Deed → Result ℕ WorkFault → Type 0
-LeaveTranscript Gave ident from deeds (Ok count) = Walk (LeaveStep ident) from deeds (leaving [] count)
-LeaveTranscript Gave ident from deeds (Err f) = Broken Gave (LeaveLine ident) (LeaveStep ident) (λ _. ⊥) from deeds f
+-- The events are those of leaving, from this stage on: to its end, with so many given back, or as far as they came.
+abbrev pub LeaveTranscript : (LinkFault → Type 0) → Bytes → LeaveStage → List Event → Result ℕ WorkFault → Type 0
+LeaveTranscript Gave ident from events (Ok count) = Walk (LeaveStep ident) from events (leaving [] count)
+LeaveTranscript Gave ident from events (Err f) = Broken Gave (LeaveLine ident) (LeaveStep ident) (λ _. ⊥) from events f
 
--- The deeds are those of one job that leaves, from this stage on: until only the others are held, with so many more given back, or as far as they came.
-abbrev pub OneBack : (LinkFault → Type 0) → Bytes → Leaving → List Bytes → ℕ → List Deed → Result ℕ WorkFault → Type 0
-OneBack Gave ident from others count deeds (Ok n) = Walk (LeaveStep ident) from deeds (leaving others (count + n))
-OneBack Gave ident from others count deeds (Err f) = Broken Gave (LeaveLine ident) (LeaveStep ident) (λ _. ⊥) from deeds f
+-- The events are those of one job that leaves, from this stage on: until only the others are held, with so many more given back, or as far as they
+-- came.
+abbrev pub BackTranscript : (LinkFault → Type 0) → Bytes → LeaveStage → List Bytes → ℕ → List Event → Result ℕ WorkFault → Type 0
+BackTranscript Gave ident from others count events (Ok n) = Walk (LeaveStep ident) from events (leaving others (count + n))
+BackTranscript Gave ident from others count events (Err f) = Broken Gave (LeaveLine ident) (LeaveStep ident) (λ _. ⊥) from events f

@@ -1,6 +1,6 @@
 pub mod Run
 pub mod Request
-pub mod Deed
+pub mod Event
 pub mod Walk
 pub mod Stage
 pub mod Fetching

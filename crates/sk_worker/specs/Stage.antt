@@ -1,4 +1,4 @@
--- What a worker does with one job: the stages, what is asked in each, and where each deed leads.
+-- What a worker does with one job: the stages, what is asked in each, and where each event leads.
 use Rattle.std.specs.Prelude.{◌≡◌, ◌≢◌, ◌%◌, ℕ, ℤ, true, List, Some, None, IsSome, IsSomeAnd, Result, Ok, Err, codes}
 use Rattle.sk_resp.specs.Spelling.{Bytes}
 use Rattle.sk_resp.specs.declared.reply.Reply.{Reply}
@@ -15,7 +15,7 @@ use Rattle.sk_policy.specs.declared.decision.Decision.{Decision}
 use Rattle.sk_policy.specs.declared.decision.Decision.TheVariants as decide
 use Rattle.sk_worker.specs.Run.{place_of}
 use Rattle.sk_worker.specs.Request.{script_words, retry_words, release_words}
-use Rattle.sk_worker.specs.Deed.{Deed, asked, ran, chose}
+use Rattle.sk_worker.specs.Event.{Event, asked, ran, chose}
 use Rattle.sk_worker.specs.Walk.{Walk, Broken}
 use Rattle.sk_worker.specs.declared.job.Raised.{Raised}
 use Rattle.sk_worker.specs.declared.job.Outcome.{Outcome}
@@ -25,7 +25,7 @@ use Rattle.sk_worker.specs.declared.turn.Turn.TheVariants as turn
 use Rattle.sk_worker.specs.declared.turn.WorkFault.{WorkFault}
 
 -- who works: the ident, the queues, how many jobs are held at most, and the classes that have a job
-pub record Taker : Type 0 where
+pub record Settings : Type 0 where
   pub ident : Bytes
   pub order : Order
   pub prefetch : ℕ
@@ -55,7 +55,7 @@ unknown h = record { class = codes "UnknownClass"; message = h.class }
 
 -- ## The table: stage, request, kind of answer, next stage
 
-pub data Line (w : Taker) : Stage → List Bytes → Answer → (Reply → Stage) → Type 0 where
+pub data Line (w : Settings) : Stage → List Bytes → Answer → (Reply → Stage) → Type 0 where
   bury_bare : (c : Bytes) → head c ≡ None →
       Line w (holding c) (script_words (codes "SK.BURY") c) answer.List (λ _. releasing c turn.Buried)
   start : (c : Bytes) (h : Head) → head c ≡ Some h →
@@ -75,8 +75,8 @@ pub data Line (w : Taker) : Stage → List Bytes → Answer → (Reply → Stage
   release : (c : Bytes) (t : Turn) →
       Line w (releasing c t) (release_words w.ident c) answer.Number (λ _. over t)
 
--- Each deed leads from a stage to the next: a request by its line, a run only of the job that the head's class has, and a choice as it was decided.
-pub data Step (w : Taker) : Stage → Deed → Stage → Type 0 where
+-- Each event leads from a stage to the next: a request by its line, a run only of the job that the head's class has, and a choice as it was decided.
+pub data Step (w : Settings) : Stage → Event → Stage → Type 0 where
   asks : (from : Stage) (request : List Bytes) (wanted : Answer) (next : Reply → Stage) (r : Reply) →
       Line w from request wanted next → answers wanted r ≡ true →
       Step w from (asked (record { request = request; reply = r })) (next r)
@@ -91,7 +91,7 @@ abbrev pub AtLimit : Stage → Type 0
 AtLimit (decided c r now d) = (d ≢ decide.Discard) × IsSomeAnd (head c) (λ h. h.gen_ ≡ 1000000000)
 AtLimit stage = ⊥
 
--- The deeds are those of one job, from this stage on: to its end, or as far as they came.
-abbrev pub JobTranscript : (LinkFault → Type 0) → Taker → Stage → List Deed → Result Turn WorkFault → Type 0
-JobTranscript Gave w from deeds (Ok t) = Walk (Step w) from deeds (over t)
-JobTranscript Gave w from deeds (Err f) = Broken Gave (Line w) (Step w) AtLimit from deeds f
+-- The events are those of one job, from this stage on: to its end, or as far as they came.
+abbrev pub JobTranscript : (LinkFault → Type 0) → Settings → Stage → List Event → Result Turn WorkFault → Type 0
+JobTranscript Gave w from events (Ok t) = Walk (Step w) from events (over t)
+JobTranscript Gave w from events (Err f) = Broken Gave (Line w) (Step w) AtLimit from events f

@@ -3,11 +3,11 @@ ghost use Rattle.std.specs.Prelude.{◌≡◌, ◌<◌, ◌++◌, [], ◌∷◌,
 ghost use Rattle.sk_base.specs.Yields.{YieldsAll};
 ghost use Rattle.sk_link.specs.Call.{Call};
 ghost use Rattle.sk_link.specs.Fault.{IsCause};
-ghost use Rattle.sk_worker.specs.Deed.{Deed, asked};
-ghost use Rattle.sk_worker.specs.Fetching.{FetchTranscript, Fetching, fetch_start, if_room, next_queue};
+ghost use Rattle.sk_worker.specs.Event.{Event, asked};
+ghost use Rattle.sk_worker.specs.Fetching.{FetchTranscript, FetchStage, fetch_start, if_room, next_queue};
 ghost use Rattle.sk_worker.specs.Saying.{GoesOn};
-ghost use Rattle.sk_worker.specs.Stage.{Taker};
-ghost use Rattle.sk_worker.specs.Turn.{Does};
+ghost use Rattle.sk_worker.specs.Stage.{Settings};
+ghost use Rattle.sk_worker.specs.Turn.{Parts};
 
 use crate::Memory;
 use crate::say::{fetch_request, say};
@@ -31,7 +31,7 @@ fn fetch<L: Link>(
     held: &mut VecDeque<Payload>,
 ) -> Result<(), WorkFault>
     requires { All (λ place. place < length names.now) places.now }
-    ensures told { (w : Taker) → w.ident ≡ ident.now → w.prefetch ≡ prefetch → (cs : List Call) × L.carried link.old link.new cs
+    ensures told { (w : Settings) → w.ident ≡ ident.now → w.prefetch ≡ prefetch → (cs : List Call) × L.carried link.old link.new cs
         × FetchTranscript (IsCause (L.faults link.old) (L.faults link.new) (L.has_ended link.old) (L.unread link.new))
         w (if_room prefetch held.old.items (next_queue (map (λ place. slice_index_or names.now place []) places.now) held.old.items))
         (map asked cs) held.new.items result }
@@ -75,14 +75,14 @@ pub(crate) fn fill<L: Link, D: Dice>(
     prefetch: usize,
     held: &mut VecDeque<Payload>,
 ) -> Result<(), WorkFault>
-    ensures told { (w : Taker) → w.ident ≡ ident.now → w.prefetch ≡ prefetch → w.order ≡ order.now → (deeds : List Deed)
-        × Does (λ cs. L.carried link.old link.new cs) (λ rs. rs ≡ []) (λ ms. ms ≡ [])
-        (λ ws. YieldsAll (D.words dice.old) ws (D.words dice.new)) (λ cs. cs ≡ []) deeds
+    ensures told { (w : Settings) → w.ident ≡ ident.now → w.prefetch ≡ prefetch → w.order ≡ order.now → (events : List Event)
+        × Parts (λ cs. L.carried link.old link.new cs) (λ rs. rs ≡ []) (λ ms. ms ≡ [])
+        (λ ws. YieldsAll (D.words dice.old) ws (D.words dice.new)) (λ cs. cs ≡ []) events
         × FetchTranscript (IsCause (L.faults link.old) (L.faults link.new) (L.has_ended link.old) (L.unread link.new))
-        w (fetch_start w held.old.items) deeds held.new.items result }
+        w (fetch_start w held.old.items) events held.new.items result }
     ensures on { OnOk result (GoesOn (L.faults link.old) (L.faults link.new) (L.has_ended link.old) (L.has_ended link.new)) }
 {
-    if held.len() >= prefetch {
+    if prefetch <= held.len() {
         return Ok(());
     }
     match order.turn(alloc, dice) {

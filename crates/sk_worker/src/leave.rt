@@ -5,8 +5,8 @@ ghost use Rattle.sk_resp.specs.Spelling.{Bytes};
 ghost use Rattle.sk_payload.specs.Head.{head as head_of};
 ghost use Rattle.sk_link.specs.Call.{Call};
 ghost use Rattle.sk_link.specs.Fault.{IsCause};
-ghost use Rattle.sk_worker.specs.Deed.{asked};
-ghost use Rattle.sk_worker.specs.Leaving.{LeaveTranscript, OneBack, buried, given_back, leaving};
+ghost use Rattle.sk_worker.specs.Event.{asked};
+ghost use Rattle.sk_worker.specs.Leaving.{LeaveTranscript, BackTranscript, buried, given_back, leaving};
 ghost use Rattle.sk_worker.specs.Saying.{GoesOn};
 
 use crate::say::{release_request, say, script};
@@ -25,7 +25,7 @@ fn release<L: Link>(
     job: &Payload,
 ) -> Result<u64, WorkFault>
     ensures told { (others : List Bytes) (count : ℕ) → (cs : List Call) × L.carried link.old link.new cs
-        × OneBack (IsCause (L.faults link.old) (L.faults link.new) (L.has_ended link.old) (L.unread link.new))
+        × BackTranscript (IsCause (L.faults link.old) (L.faults link.new) (L.has_ended link.old) (L.unread link.new))
         ident.now (buried job.now others count) others count (map asked cs) result }
     ensures on { OnOk result (GoesOn (L.faults link.old) (L.faults link.new) (L.has_ended link.old) (L.has_ended link.new)) }
     ensures most { IfOk result (λ n. n ≤ 1) }
@@ -41,7 +41,7 @@ fn release<L: Link>(
 fn bury<L: Link>(alloc: Global, link: &mut L, ident: &Text, job: &Payload) -> Result<u64, WorkFault>
     requires { head_of job.now ≡ None }
     ensures told { (others : List Bytes) (count : ℕ) → (cs : List Call) × L.carried link.old link.new cs
-        × OneBack (IsCause (L.faults link.old) (L.faults link.new) (L.has_ended link.old) (L.unread link.new))
+        × BackTranscript (IsCause (L.faults link.old) (L.faults link.new) (L.has_ended link.old) (L.unread link.new))
         ident.now (leaving (job.now ∷ others) count) others count (map asked cs) result }
     ensures on { OnOk result (GoesOn (L.faults link.old) (L.faults link.new) (L.has_ended link.old) (L.has_ended link.new)) }
     ensures most { IfOk result (λ n. n ≤ 1) }
@@ -72,7 +72,7 @@ fn give_back<L: Link>(
     job: &Payload,
 ) -> Result<u64, WorkFault>
     ensures told { (others : List Bytes) (count : ℕ) → (cs : List Call) × L.carried link.old link.new cs
-        × OneBack (IsCause (L.faults link.old) (L.faults link.new) (L.has_ended link.old) (L.unread link.new))
+        × BackTranscript (IsCause (L.faults link.old) (L.faults link.new) (L.has_ended link.old) (L.unread link.new))
         ident.now (leaving (job.now ∷ others) count) others count (map asked cs) result }
     ensures on { OnOk result (GoesOn (L.faults link.old) (L.faults link.new) (L.has_ended link.old) (L.has_ended link.new)) }
     ensures most { IfOk result (λ n. n ≤ 1) }

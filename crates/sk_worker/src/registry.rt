@@ -103,8 +103,12 @@ impl Registry {
         delay: DelayRule,
     ) -> Result<(), AddFault>
         requires { 0 ≤ 1 }
-        ensures ok { OnOk result (self.new.classes ≡ self.old.classes ++ class ∷ []) }
-        ensures err { OnErr result (self.new.classes ≡ self.old.classes) }
+        ensures class { OnOk result (self.new.classes ≡ self.old.classes ++ class ∷ []) }
+        ensures job { OnOk result (self.new.slots.items ≡ self.old.slots.items ++ record { job = job } ∷ []) }
+        ensures delay { OnOk result (self.new.rules.items ≡ self.old.rules.items ++ delay ∷ []) }
+        ensures same_classes { OnErr result (self.new.classes ≡ self.old.classes) }
+        ensures same_jobs { OnErr result (self.new.slots.items ≡ self.old.slots.items) }
+        ensures same_delays { OnErr result (self.new.rules.items ≡ self.old.rules.items) }
         ensures repeated { (result ≡ Err (AddFault.Repeated class)) ↔ IsSome (place_of self.old.classes class) }
     {
         if self.classes.find(&class).is_some() {
@@ -143,7 +147,8 @@ pub fn run_at(
 ) -> Result<Outcome, Memory>
     requires there { place < length slots.old }
     requires place { place_of classes.now head.now.class ≡ Some place }
-    ensures ran { IfOk result (λ outcome. RunsTold classes.now (record { head = head.now; outcome = outcome } ∷ []) (map (λ slot. runs slot.job) slots.old) (map (λ slot. runs slot.job) slots.new)) }
+    ensures ran { IfOk result (λ outcome. RunsTold classes.now (record { head = head.now; outcome = outcome } ∷ [])
+        (map (λ slot. runs slot.job) slots.old) (map (λ slot. runs slot.job) slots.new)) }
     ensures err { OnErr result (RunsTold classes.now [] (map (λ slot. runs slot.job) slots.old) (map (λ slot. runs slot.job) slots.new)) }
 {
     run_one(alloc, &mut slots[place], head)

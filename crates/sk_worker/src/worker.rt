@@ -5,17 +5,17 @@ ghost use Rattle.std.specs.Result.{is_err};
 ghost use Rattle.sk_base.specs.Yields.{YieldsAll};
 ghost use Rattle.sk_link.specs.Call.{Call};
 ghost use Rattle.sk_link.specs.Fault.{IsCause};
-ghost use Rattle.sk_worker.specs.Deed.{Deed, asked};
+ghost use Rattle.sk_worker.specs.Event.{Event, asked};
 ghost use Rattle.sk_worker.specs.Leaving.{LeaveTranscript, leaving};
 ghost use Rattle.sk_worker.specs.Run.{RunsTold};
 ghost use Rattle.sk_worker.specs.Saying.{Joins};
-ghost use Rattle.sk_worker.specs.Stage.{Taker};
-ghost use Rattle.sk_worker.specs.Turn.{Does, RulesAnswered, TurnTranscript};
+ghost use Rattle.sk_worker.specs.Stage.{Settings};
+ghost use Rattle.sk_worker.specs.Turn.{Parts, RulesAnswered, TurnTranscript};
 
-use crate::fail::work;
 use crate::fetch::fill;
 use crate::leave::give_back_all;
 use crate::registry::Registry;
+use crate::run::work;
 use crate::say::{join_request, say};
 use crate::turn::{Turn, WorkFault};
 use sk_base::{Clock, Dice};
@@ -55,14 +55,16 @@ fn take<L: Link, C: Clock, D: Dice>(
     prefetch: usize,
     held: &mut VecDeque<Payload>,
 ) -> Result<Turn, WorkFault>
-    ensures told { (deeds : List Deed)
-        × Does (λ cs. L.carried link.old link.new cs)
-        (λ rs. RunsTold registry.old.classes rs (map (λ slot. runs slot.job) registry.old.slots.items) (map (λ slot. runs slot.job) registry.new.slots.items))
+    ensures told { (events : List Event)
+        × Parts (λ cs. L.carried link.old link.new cs)
+        (λ rs. RunsTold registry.old.classes rs
+        (map (λ slot. runs slot.job) registry.old.slots.items) (map (λ slot. runs slot.job) registry.new.slots.items))
         (λ ms. YieldsAll (C.moments clock.old) ms (C.moments clock.new)) (λ ws. YieldsAll (D.words dice.old) ws (D.words dice.new))
         (λ cs. RulesAnswered (λ rule count delay. ⟦<Box<dyn Fn(u32) -> u64 + Send> as Fn(u32) -> u64>⟧.post rule.rule count delay)
-        registry.old.classes registry.old.rules.items plain.now cs) deeds
+        registry.old.classes registry.old.rules.items plain.now cs) events
         × TurnTranscript (IsCause (L.faults link.old) (L.faults link.new) (L.has_ended link.old) (L.unread link.new))
-        (record { ident = ident.now; order = order.now; prefetch = prefetch; classes = registry.old.classes }) held.old.items deeds held.new.items result }
+        (record { ident = ident.now; order = order.now; prefetch = prefetch; classes = registry.old.classes })
+        held.old.items events held.new.items result }
     ensures classes { registry.new.classes ≡ registry.old.classes }
 {
     match fill(alloc, link, dice, ident, order, prefetch, held) {
@@ -148,16 +150,17 @@ impl Worker {
         dice: &mut D,
     ) -> Result<Turn, WorkFault>
         requires { 0 ≤ 1 }
-        ensures told { (deeds : List Deed)
-            × Does (λ cs. L.carried link.old link.new cs)
-            (λ rs. RunsTold registry.old.classes rs (map (λ slot. runs slot.job) registry.old.slots.items) (map (λ slot. runs slot.job) registry.new.slots.items))
+        ensures told { (events : List Event)
+            × Parts (λ cs. L.carried link.old link.new cs)
+            (λ rs. RunsTold registry.old.classes rs
+            (map (λ slot. runs slot.job) registry.old.slots.items) (map (λ slot. runs slot.job) registry.new.slots.items))
             (λ ms. YieldsAll (C.moments clock.old) ms (C.moments clock.new)) (λ ws. YieldsAll (D.words dice.old) ws (D.words dice.new))
             (λ cs. RulesAnswered (λ rule count delay. ⟦<Box<dyn Fn(u32) -> u64 + Send> as Fn(u32) -> u64>⟧.post rule.rule count delay)
-            registry.old.classes registry.old.rules.items self.old.plain cs) deeds
-            × MatchBool self.old.ended ((deeds ≡ []) × (result ≡ Err WorkFault.Ended))
+            registry.old.classes registry.old.rules.items self.old.plain cs) events
+            × MatchBool self.old.ended ((events ≡ []) × (result ≡ Err WorkFault.Ended))
             (TurnTranscript (IsCause (L.faults link.old) (L.faults link.new) (L.has_ended link.old) (L.unread link.new))
             (record { ident = self.old.ident; order = self.old.order; prefetch = self.old.prefetch; classes = registry.old.classes })
-            self.old.held.items deeds self.new.held.items result) }
+            self.old.held.items events self.new.held.items result) }
         ensures classes { registry.new.classes ≡ registry.old.classes }
         ensures ends { self.new.ended ≡ is_err result }
         ensures same { self.new ≡ record self.old { held = self.new.held; ended = self.new.ended } }

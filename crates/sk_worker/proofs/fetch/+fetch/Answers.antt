@@ -5,7 +5,7 @@ use Rattle.sk_link.specs.Call.{Call}
 use Rattle.sk_link.specs.Fault.{IsCause}
 use Rattle.sk_link.specs.declared.asking.Answer.TheVariants as answer
 use Rattle.sk_link.specs.declared.link.LinkFault.{LinkFault}
-use Rattle.sk_worker.specs.Deed.{asked}
+use Rattle.sk_worker.specs.Event.{asked}
 use Rattle.sk_worker.specs.Fetching.{FetchLine, FetchStep, FetchTranscript, asking, next_queue, if_room, after_reply}
 use Rattle.sk_worker.specs.Request.{fetch_words}
 use Rattle.sk_worker.specs.Walk.{Walk, Broken}

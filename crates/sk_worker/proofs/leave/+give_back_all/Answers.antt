@@ -2,7 +2,7 @@ use Rattle.std.proofs.Common.{◌≡◌, ◌+◌, ◌∷◌, ◌++◌, map, sym,
 use Rattle.std.proofs.lemmas.List.{map-append}
 use Rattle.sk_link.specs.Fault.{IsCause}
 use Rattle.sk_link.specs.declared.link.LinkFault.{LinkFault}
-use Rattle.sk_worker.specs.Deed.{asked}
+use Rattle.sk_worker.specs.Event.{asked}
 use Rattle.sk_worker.specs.Leaving.{LeaveLine, LeaveStep, LeaveTranscript, leaving}
 use Rattle.sk_worker.specs.Walk.{Broken}
 use Rattle.sk_worker.proofs.Leaves.{leave_after}
@@ -21,7 +21,7 @@ returns-in-Ok-clause-told g t c =
       one.0 ++ rest.0,
       g.met.L.Link.carried_more _ _ _ one.0 rest.0 one.1 rest.1,
       subst (λ stage. LeaveTranscript Gave ident stage (map asked (one.0 ++ rest.0)) c.give_back_all.result) (sym first)
-          (subst (λ deeds. LeaveTranscript Gave ident (leaving (c.in-Some.job ∷ others) c.args.count) deeds c.give_back_all.result) (sym (map-append (λ call. asked call) one.0 rest.0))
+          (subst (λ events. LeaveTranscript Gave ident (leaving (c.in-Some.job ∷ others) c.args.count) events c.give_back_all.result) (sym (map-append (λ call. asked call) one.0 rest.0))
           (leave_after ident (leaving (c.in-Some.job ∷ others) c.args.count) (leaving others (c.args.count + c.in-Ok.n)) (map asked one.0) (map asked rest.0) c.give_back_all.result
           _ _ (g.L.Link.faults after) _ _ (g.L.Link.unread after) c.in-Ok.ensures.on one.2 rest.2)),
     )

@@ -4,7 +4,7 @@ use Rattle.sk_link.specs.Call.{Call}
 use Rattle.sk_link.specs.Fault.{IsCause}
 use Rattle.sk_link.specs.declared.asking.Answer.TheVariants as answer
 use Rattle.sk_link.specs.declared.link.LinkFault.{LinkFault}
-use Rattle.sk_worker.specs.Deed.{asked}
+use Rattle.sk_worker.specs.Event.{asked}
 use Rattle.sk_worker.specs.Leaving.{LeaveLine, LeaveStep, buried, leaving, bury}
 use Rattle.sk_worker.specs.Request.{script_words}
 use Rattle.sk_worker.proofs.Leaves.{leave_said, one_after}

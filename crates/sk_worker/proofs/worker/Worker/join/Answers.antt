@@ -1,5 +1,5 @@
 use Rattle.sk_worker.specs.Request.{join_words}
-use Rattle.sk_worker.proofs.Deeds.{match_false}
+use Rattle.sk_worker.proofs.Events.{match_false}
 use Rattle.sk_worker.proofs.worker.Worker.join.Goals as goal
 
 pub returns-in-Ok-clause-told : goal.returns-in-Ok-clause-told
