@@ -1,5 +1,5 @@
 -- The queues of a worker, and in which order a turn asks them (Sidekiq's wiki, "Advanced Options", section "Queues").
-use Rattle.std.specs.Prelude.{◌≡◌, ◌≤◌, ◌<◌, ◌⊎◌, ◌+◌, ◌-◌, ◌%◌, ◌==◌, ℕ, true, false, not, List, [], ◌∷◌, length, filter, map, take, replicate, get_or, swap, Option, is_some, if◌then◌else◌, bytes_eq}
+use Rattle.std.specs.Prelude.{◌≡◌, ◌≤◌, ◌<◌, ◌⊎◌, ◌+◌, ◌-◌, ◌%◌, ◌==◌, ℕ, Bool, true, false, not, List, [], ◌∷◌, length, filter, map, take, replicate, get_or, swap, Option, Some, None, is_some, if◌then◌else◌, bytes_eq}
 use Rattle.std.specs.List.{range_with_len, flat_map, list_any}
 use Rattle.std.specs.Option.{option_map_or}
 use Rattle.sk_base.specs.Name.{IsName}
@@ -12,6 +12,13 @@ pub record Order : Type 0 where
   -- None: the order is strict
   pub weights : Option (List ℕ)
 
+abbrev pub strict_order : List Bytes → Order
+strict_order names = record { names = names; weights = None }
+
+-- queues with their weights
+abbrev pub weighted_order : List (Bytes × ℕ) → Order
+weighted_order queues = record { names = map (λ queue. queue.0) queues; weights = Some (map (λ queue. queue.1) queues) }
+
 -- A queue's place is its index among the names.
 abbrev pub name_at : Order → ℕ → Bytes
 name_at order place = get_or order.names place []
@@ -20,13 +27,17 @@ name_at order place = get_or order.names place []
 abbrev pub weight_at : Order → ℕ → ℕ
 weight_at order place = option_map_or (λ weights. get_or weights place 0) order.weights 1
 
+-- The name at this place stands at an earlier one too.
+abbrev pub stands_before : Order → ℕ → Bool
+stands_before order place = list_any (bytes_eq (name_at order place)) (take place order.names)
+
 -- ## Which lists are orders
 
 -- Nothing is wrong at this place.
 pub record IsQueue (order : Order) (place : ℕ) : Type 0 where
   pub room : place < 100
   pub name : IsName 255 (name_at order place)
-  pub new : list_any (bytes_eq (name_at order place)) (take place order.names) ≡ false
+  pub new : stands_before order place ≡ false
   pub some : 1 ≤ weight_at order place
   pub most : weight_at order place ≤ 100
 
@@ -43,8 +54,8 @@ pub record IsOrder (order : Order) : Type 0 where
 abbrev pub IsFault : Order → OrderFault → Type 0
 IsFault order fault.Empty = order.names ≡ []
 IsFault order (fault.Name i) = IsFirst order i × (i < 100 → IsName 255 (name_at order i) → ⊥)
-IsFault order (fault.Repeated i) = IsFirst order i × (i < 100) × IsName 255 (name_at order i) × (list_any (bytes_eq (name_at order i)) (take i order.names) ≡ true)
-IsFault order (fault.Weight i) = IsFirst order i × (i < 100) × IsName 255 (name_at order i) × (list_any (bytes_eq (name_at order i)) (take i order.names) ≡ false)
+IsFault order (fault.Repeated i) = IsFirst order i × (i < 100) × IsName 255 (name_at order i) × (stands_before order i ≡ true)
+IsFault order (fault.Weight i) = IsFirst order i × (i < 100) × IsName 255 (name_at order i) × (stands_before order i ≡ false)
     × ((weight_at order i ≡ 0) ⊎ (100 < weight_at order i))
 IsFault order fault.Memory = Unit {0}
 

@@ -3,7 +3,7 @@ ghost use Rattle.std.specs.Prelude.{is_some, bytes_eq, map, vec_capacity, ◌≡
 ghost use Rattle.std.specs.List.{list_any, range_with_len};
 ghost use Rattle.std.specs.List.Sorted.{IsPermutation};
 ghost use Rattle.sk_base.specs.Yields.{YieldsAll};
-ghost use Rattle.sk_policy.specs.Order.{IsFault, IsOrder, IsQueue, Order, draws, firsts, lot as lot_of, places, shuffled, weight_at};
+ghost use Rattle.sk_policy.specs.Order.{IsFault, IsOrder, IsQueue, Order, draws, firsts, lot as lot_of, places, shuffled, strict_order, weight_at, weighted_order};
 
 use crate::Memory;
 use crate::order_fault::OrderFault;
@@ -51,7 +51,7 @@ fn stands_among(name: &Text, names: &[Text]) -> bool
 
 // The order of these queues, before it is checked.
 fn by_weight(alloc: Global, queues: Vec<(Text, u8)>) -> Result<QueueOrder, Memory>
-    ensures { IfOk result (λ order. order ≡ record { names = map (λ queue. queue.0) queues.items; weights = Some (map (λ queue. queue.1) queues.items) }) }
+    ensures { IfOk result (λ order. order ≡ weighted_order queues.items) }
 {
     let mut names = Vec::new(alloc);
     let mut weights = Vec::new(alloc);
@@ -109,8 +109,7 @@ fn keep_firsts(lot: &[usize], mut room: Vec<usize>) -> Vec<usize>
 impl QueueOrder {
     /// A strict order: each turn asks the queues in the order of the list.
     pub fn strict(names: Vec<Text>) -> Result<QueueOrder, OrderFault>
-        ensures { let order : Order = record { names = names.items; weights = None } in
-            MatchResult result (λ made. (made ≡ order) × IsOrder order) (IsFault order) }
+        ensures { MatchResult result (λ order. (order ≡ strict_order names.items) × IsOrder order) (IsFault (strict_order names.items)) }
     {
         let order = QueueOrder {
             names,
@@ -120,11 +119,10 @@ impl QueueOrder {
         Ok(order)
     }
 
-    /// A weighted order: each turn asks the queues in a random order, in which a queue of weight 2 comes before one of weight 1 twice as often as
-    /// behind it. A weight is from 1 to 100.
+    /// A weighted order: each turn asks the queues in a random order, in which of two queues the one of weight 2 comes before the one of weight 1
+    /// twice as often as behind it. Weights are from 1 to 100.
     pub fn weighted(alloc: Global, queues: Vec<(Text, u8)>) -> Result<QueueOrder, OrderFault>
-        ensures { let order : Order = record { names = map (λ queue. queue.0) queues.items; weights = Some (map (λ queue. queue.1) queues.items) } in
-            MatchResult result (λ made. (made ≡ order) × IsOrder order) (IsFault order) }
+        ensures { MatchResult result (λ order. (order ≡ weighted_order queues.items) × IsOrder order) (IsFault (weighted_order queues.items)) }
     {
         let order = by_weight(alloc, queues)?;
         order.check()?;
@@ -142,8 +140,8 @@ impl QueueOrder {
     /// list order; from the last index `i` down to 1 it draws a word and exchanges the element at `i` with that at `word mod (i + 1)`; and it keeps
     /// each place where it stands first. Where there is no memory, no word is drawn.
     pub fn turn<D: Dice>(&self, alloc: Global, dice: &mut D) -> Result<Vec<usize>, Memory>
-        ensures ok { IfOk result (λ turn. (words : List ℕ) × YieldsAll (D.words dice.old) words (D.words dice.new) × (length words ≡ draws self.now)
-            × (turn.items ≡ places self.now words)) }
+        ensures ok { IfOk result (λ turn. (words : List ℕ) × YieldsAll (D.words dice.old) words (D.words dice.new)
+            × (length words ≡ draws self.now) × (turn.items ≡ places self.now words)) }
         ensures places { IfOk result (λ turn. All (λ place. place < length self.now.names) turn.items) }
         ensures err { OnErr result (D.words dice.new ≡ D.words dice.old) }
     {

@@ -1,0 +1,7 @@
+pub mod Runs
+pub mod Walks
+pub mod Events
+pub mod Fetches
+pub mod Leaves
+pub mod Forms
+pub mod EmptyTurns
