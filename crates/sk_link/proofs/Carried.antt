@@ -1,5 +1,5 @@
 -- What one call of a link over a connection carries.
-use Rattle.std.proofs.Common.{◌≡◌, ◌++◌, Bool, true, false, List, [], ◌∷◌, Option, refl, sym, ap, subst, ◌∙◌, append-nil, Result, Ok, Err, OnErr}
+use Rattle.std.proofs.Common.{◌≡◌, ◌++◌, true, false, List, [], ◌∷◌, Option, refl, sym, subst, ◌∙◌, append-nil, Result, Ok, Err, OnErr}
 use Rattle.std.proofs.lemmas.Bool.{true≢false}
 use Rattle.sk_base.specs.Outside.{Takes, TakesFront, Gives}
 use Rattle.sk_base.proofs.OutsideLaws.{gives_nothing}

@@ -1,4 +1,5 @@
 pub mod Carried
 pub mod Causes
 pub mod Lines
+pub mod Reports
 pub mod Unread

@@ -1,15 +1,14 @@
 -- A reply's text ends in LF, so a line that is given to the reader makes at most one reply whole, and then nothing is behind it.
-use Rattle.std.proofs.Common.{◌≡◌, ◌≢◌, ◌<◌, ◌≤◌, ◌+◌, ◌-◌, ◌++◌, ◌⊎◌, inl, inr, ℕ, zero, suc, List, [], ◌∷◌, length, take, drop, refl, sym, ap, subst, ◌∙◌, append_assoc, append-nil, arith, length-append, map, get_or, Option, Some, None}
+use Rattle.std.proofs.Common.{◌≡◌, ◌<◌, ◌≤◌, ◌+◌, ◌-◌, ◌++◌, ◌⊎◌, inl, inr, ℕ, zero, suc, List, [], ◌∷◌, length, take, drop, refl, sym, ap, subst, ◌∙◌, append_assoc, append-nil, arith, length-append, map, get_or, Option, Some, None}
 use Rattle.std.specs.Prelude.{IfSome, codes}
 use Rattle.std.specs.Option.{option_to_list}
-use Rattle.std.proofs.Common.{length-drop}
 use Rattle.std.proofs.lemmas.List.{take-append-drop, take-append-le, length-map, get_or-append-add}
 use Rattle.std.proofs.Math.Seq.{take-append_seam, take-append-add, get_or-append_seam}
 use Rattle.std.proofs.lemmas.Bool.{cases_order}
 use Rattle.std.specs.List.{AllByRecursion}
 use Rattle.sk_resp.specs.Spelling.{Bytes, joined, line, header, bulk, cr, lf, star, dollar, plus, minus, colon}
 use Rattle.std.specs.Fmt.{decimal, signed_decimal}
-use Rattle.sk_resp.specs.Reply.{wire, array_text}
+use Rattle.sk_resp.specs.Reply.{wire}
 use Rattle.sk_resp.specs.ReplyStream.{IsFlat, IsNested, IsReplyText, IsReplyPart, ReadsReplies, IsUnreadable, simple_text, error_text, int_text, bulk_text, null_text, null_array_text}
 use Rattle.sk_resp.specs.declared.reply.Reply.{Reply}
 use Rattle.sk_link.specs.Fault.{IsNoReply}

@@ -1,11 +1,12 @@
 -- Which replies are answers of a kind, and what it is to ask for one.
-use Rattle.std.specs.Prelude.{◌≡◌, Bool, true, false, List, [], ◌∷◌, codes, bytes_eq, Result, Ok, Err}
+use Rattle.std.specs.Prelude.{◌≡◌, Bool, true, false, List, [], ◌∷◌, codes, bytes_eq, is_some, Result, Ok, Err}
 use Rattle.sk_base.specs.Name.{is_name}
 use Rattle.sk_resp.specs.Spelling.{Bytes}
 use Rattle.sk_resp.specs.declared.reply.Reply.{Reply}
 use Rattle.sk_resp.specs.declared.reply.Reply.TheVariants as reply
 use Rattle.sk_resp.specs.declared.say.Say.TheVariants as say
 use Rattle.sk_link.specs.Call.{Call}
+use Rattle.sk_link.specs.Report.{report_of}
 use Rattle.sk_link.specs.declared.link.LinkFault.{LinkFault}
 use Rattle.sk_link.specs.declared.asking.Answer.{Answer}
 use Rattle.sk_link.specs.declared.asking.Answer.TheVariants as answer
@@ -48,6 +49,7 @@ answers answer.Number r = is_number r
 answers answer.List r = is_list r
 answers answer.Popped r = is_popped r
 answers answer.Unique r = is_unique r
+answers answer.Report r = is_some (report_of r)
 
 -- ## Requests
 

@@ -1,5 +1,5 @@
 -- Bytes that are given to the reader of replies up to an LF. No public contract speaks of them.
-use Rattle.std.specs.Prelude.{◌≡◌, ◌≢◌, ◌++◌, ◌+◌, ◌<◌, ℕ, List, length, get_or}
+use Rattle.std.specs.Prelude.{◌≢◌, ◌++◌, ◌+◌, ◌<◌, ℕ, length, get_or}
 use Rattle.sk_resp.specs.Spelling.{Bytes, lf}
 use Rattle.sk_link.specs.Fault.{IsNoReply}
 

@@ -1,5 +1,5 @@
 -- A link over a connection: what contracts see of it, and what it carries.
-use Rattle.std.specs.Prelude.{◌≡◌, ◌++◌, ℕ, Bool, true, false, List, [], ◌∷◌, Option, Some, None, refl}
+use Rattle.std.specs.Prelude.{◌≡◌, ◌++◌, Bool, true, false, List, [], ◌∷◌, Option, Some, None, refl}
 use Rattle.std.specs.Coded.{Coded, code_by, coded×, coded_ℕ, coded_bool, coded_list}
 use Rattle.sk_base.specs.Outside.{Takes, Gives}
 use Rattle.sk_resp.specs.Spelling.{Bytes}

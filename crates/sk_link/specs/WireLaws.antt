@@ -1,10 +1,9 @@
 -- What a link over a connection carries in two runs of calls, one after another. The trait asks for it.
-use Rattle.std.specs.Prelude.{◌≡◌, ◌++◌, ℕ, Bool, true, false, List, [], ◌∷◌, Option, refl}
+use Rattle.std.specs.Prelude.{◌≡◌, ◌++◌, Bool, true, false, List, [], ◌∷◌, refl}
 use Rattle.std.proofs.Common.{sym, ap, subst, ◌∙◌, append_assoc, append-nil}
 use Rattle.std.proofs.lemmas.Bool.{true≢false}
 use Rattle.sk_base.specs.Outside.{Takes, Gives}
 use Rattle.sk_base.proofs.OutsideLaws.{takes_more, takes_nothing, gives_more, gives_nothing}
-use Rattle.sk_resp.specs.Spelling.{Bytes}
 use Rattle.sk_resp.specs.Reply.{wire}
 use Rattle.sk_resp.specs.Request.{array}
 use Rattle.sk_link.specs.Call.{Call}

@@ -4,7 +4,7 @@ ghost use Rattle.sk_link.specs.Asking.{Asked, answers, is_okay as okay_reply, is
 ghost use Rattle.sk_link.specs.Fault.{IsCause};
 ghost use Rattle.sk_base.specs.Name.{is_name as name_test};
 
-use crate::{Link, LinkFault};
+use crate::{Link, LinkFault, Report};
 use sk_base::is_name;
 use sk_resp::{Reply, Say, Words};
 use std::alloc::Global;
@@ -22,6 +22,8 @@ pub enum Answer {
     Popped,
     /// `+OK`, or a bulk string that is a name of at most 64 bytes.
     Unique,
+    /// A [`Report`].
+    Report,
 }
 
 /// Why a request has no answer.
@@ -63,6 +65,7 @@ fn is_answer(wanted: Answer, reply: &Reply) -> bool
             Reply::Bulk(bytes) => is_jid(bytes.bytes()),
             _ => is_okay(reply),
         },
+        Answer::Report => Report::read(reply).is_some(),
     }
 }
 

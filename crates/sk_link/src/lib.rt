@@ -4,10 +4,12 @@
 mod asking;
 mod link;
 mod receiving;
+mod report;
 mod sending;
 mod wire_link;
 
 pub use asking::{Answer, AskFault, ask};
 pub use link::{Link, LinkFault};
+pub use report::Report;
 pub use std::alloc::AllocError as Memory;
 pub use wire_link::WireLink;

@@ -1,4 +1,4 @@
-use Rattle.std.proofs.Common.{◌≡◌, ◌≤◌, ◌++◌, ◌+◌, ◌-◌, length, take, drop, ap, ◌∙◌, sym, arith, length-drop}
+use Rattle.std.proofs.Common.{◌-◌, length, take, drop, ap, arith, length-drop}
 use Rattle.std.proofs.lemmas.List.{length-take}
 use Rattle.sk_link.proofs.Unread.{read_same, written}
 use Rattle.sk_link.proofs.receiving.read_more.Goals as goal

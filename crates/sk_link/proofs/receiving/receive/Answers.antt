@@ -1,9 +1,7 @@
-use Rattle.std.proofs.Common.{◌≡◌, ◌≤◌, ◌++◌, ℕ, Ok, refl, subst, sym, ap, ◌∙◌, arith}
-use Rattle.std.specs.Prelude.{IfSome}
+use Rattle.std.proofs.Common.{◌≡◌, ◌++◌, ℕ, Ok, refl, subst, sym, ap, ◌∙◌, arith}
 use Rattle.sk_base.specs.Outside.{Gives}
 use Rattle.sk_resp.specs.Reply.{wire}
 use Rattle.sk_resp.specs.ReplyStream.{IsReplyPart, RepliesHeard}
-use Rattle.sk_link.specs.Fault.{IsNoReply}
 use Rattle.sk_link.specs.Line.{IsStuck}
 use Rattle.sk_link.specs.Wire.{unread_of}
 use Rattle.sk_link.proofs.Lines.{part_alone}

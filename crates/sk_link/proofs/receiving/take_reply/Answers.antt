@@ -1,4 +1,4 @@
-use Rattle.std.proofs.Common.{◌≡◌, ◌≤◌, ◌-◌, ◌+◌, ◌++◌, ℕ, length, take, drop, subst, ap, ◌∙◌, sym}
+use Rattle.std.proofs.Common.{◌≡◌, ◌≤◌, ◌-◌, ◌++◌, ℕ, length, take, drop, subst, ap, ◌∙◌, sym}
 use Rattle.sk_resp.specs.Reply.{wire}
 use Rattle.sk_resp.specs.declared.reply.Reply.{Reply}
 use Rattle.sk_link.specs.Line.{IsStuck}

@@ -1,4 +1,4 @@
-use Rattle.std.proofs.Common.{◌≡◌, take, subst, sym, ap, ◌∙◌}
+use Rattle.std.proofs.Common.{take, subst, sym, ap, ◌∙◌}
 use Rattle.std.specs.Prelude.{IfSome}
 use Rattle.sk_link.specs.Fault.{IsNoReply}
 use Rattle.sk_link.proofs.Unread.{shown_front}
