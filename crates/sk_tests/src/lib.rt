@@ -8,10 +8,14 @@ mod pipe;
 #[cfg(test)]
 mod replies;
 #[cfg(test)]
+mod policy;
+#[cfg(test)]
 mod requests;
 #[cfg(test)]
 mod streams;
 #[cfg(test)]
 mod undo;
+#[cfg(test)]
+mod worker;
 #[cfg(test)]
 mod zset;

@@ -5,3 +5,4 @@ pub mod Fetches
 pub mod Leaves
 pub mod Forms
 pub mod EmptyTurns
+pub mod Returned

@@ -59,3 +59,12 @@ pub record EmptyForm (w : Settings) (before : List Bytes) (events : List Event) 
   pub words : List ℕ
   pub drawn : length words ≡ draws w.order
   pub are : events ≡ ordered words ∷ map (λ queue. call (fetch_words w.ident queue) reply.Null) (queues_in w.order words)
+
+-- What happened to a job whose run returned, before the worker says so: its run by the job of its own class, and nothing but SK.START before.
+pub record ReturnedForm (w : Settings) (c said : Bytes) (events : List Event) : Type 0 where
+  pub h : Head
+  pub start : Reply
+  pub is : head c ≡ Some h
+  pub registered : IsSome (place_of w.classes h.class)
+  pub same : said ≡ c
+  pub are : events ≡ call (script_words (codes "SK.START") c) start ∷ ran (record { head = h; outcome = outcome.Returned }) ∷ []

@@ -13,7 +13,10 @@ mod turn;
 mod worker;
 
 pub use job::{Job, Outcome, Raised};
-pub use laws::{a_turn_has_one_of_four_forms, an_empty_turn_found_each_queue_empty};
+pub use laws::{
+    a_turn_has_one_of_four_forms, an_empty_turn_found_each_queue_empty,
+    ok_is_said_after_a_run_that_returned,
+};
 pub use registry::{AddFault, Classes, Registry, Slot};
 pub use std::alloc::AllocError as Memory;
 pub use turn::{Turn, WorkFault};
