@@ -19,7 +19,7 @@ mod tray;
 
 pub use bound::Bound;
 pub use clock::{Clock, StepClock};
-pub use conn::Conn;
+pub use conn::{Conn, Duplex};
 pub use dice::{Dice, ListDice};
 pub use failed::Failed;
 pub use feed::{Feed, SteadyFeed};

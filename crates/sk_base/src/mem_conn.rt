@@ -1,7 +1,7 @@
 // Connections in memory, for tests.
 ghost use Rattle.std.specs.Prelude.{◌≡◌, Some, refl};
 
-use crate::{Conn, Failed, Feed, Sink, Source, Tray};
+use crate::{Conn, Duplex, Failed, Feed, Sink, Source, Tray};
 use std::marker::Model;
 
 /// A connection in memory. What it reads comes from a feed, and what it writes goes to a tray; either fails as these do.
@@ -58,8 +58,10 @@ impl Sink for MemConn {
     }
 }
 
-impl Conn for MemConn {
+impl Duplex for MemConn {
     ghost reads_apart = { λ c. refl };
 
     ghost writes_apart = { λ c. refl };
 }
+
+impl Conn for MemConn {}

@@ -1,0 +1,4 @@
+pub mod Carried
+pub mod Causes
+pub mod Lines
+pub mod Unread

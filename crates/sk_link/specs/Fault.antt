@@ -16,3 +16,10 @@ IsCause before now ended unread Failed = Rose before now
 IsCause before now ended unread (Unreadable kept) = IfSome unread (λ bytes. IsNoReply bytes × (kept ≡ take 64 bytes))
 IsCause before now ended unread Ended = ended ≡ true
 IsCause before now ended unread Memory = Unit {0}
+
+-- The cause of a fault of reading and writing alone, by the count of faults before and after.
+abbrev pub IsIoCause : ℕ → ℕ → LinkFault → Type 0
+IsIoCause before now Failed = Rose before now
+IsIoCause before now (Unreadable kept) = ⊥
+IsIoCause before now Ended = ⊥
+IsIoCause before now Memory = Unit {0}

@@ -3,7 +3,11 @@
 
 mod asking;
 mod link;
+mod receiving;
+mod sending;
+mod wire_link;
 
 pub use asking::{Answer, AskFault, ask};
 pub use link::{Link, LinkFault};
 pub use std::alloc::AllocError as Memory;
+pub use wire_link::WireLink;
