@@ -1,6 +1,9 @@
 pub mod Lease
 pub mod Lists
+pub mod Locks
 pub mod Leased
 pub mod Order
 pub mod Index
 pub mod Parts
+pub mod LockIndex
+pub mod Together

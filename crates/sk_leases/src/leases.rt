@@ -1,12 +1,14 @@
 // Everything that stands until its deadline. A process that sends no heartbeat for a minute counts as dead. A recovery is noted when a job is
-// taken back from a dead process, so that a job which kills its process again and again is found out.
-ghost use Rattle.std.specs.Prelude.{◌≡◌, ◌+◌, ◌<◌, ◌^◌, None, true, IfOk, IsSome, OnErr, OnOk};
+// taken back from a dead process, so that a job which kills its process again and again is found out. A lock keeps a second job of the same work
+// from being pushed.
+ghost use Rattle.std.specs.Prelude.{◌≡◌, ◌+◌, ◌*◌, ◌<◌, ◌^◌, None, Some, true, IfOk, IfSome, IsSome, OnErr, OnOk};
 ghost use Rattle.sk_undo.specs.Steps.{begun, closed, committed, edited, undone};
-ghost use Rattle.sk_leases.specs.Leased.{beat, beat_life, forgotten, idents, is_alive, nothing, purged, recovered, recovery_life, standing};
+ghost use Rattle.sk_leases.specs.Leased.{beat, beat_life, forgotten, holder_at, holds, idents, is_alive, locked, nothing, purged, recovered, recovery_life, standing, unlocked};
 ghost use Rattle.sk_leases.specs.Order.{is_ordered};
 
 use crate::Memory;
 use crate::deadlines::Deadlines;
+use crate::locks::Locks;
 use sk_resp::{Text, Word};
 use std::alloc::Global;
 use std::marker::Model;
@@ -17,28 +19,29 @@ const BEAT_LIFE: u64 = 60_000;
 /// How long a recovery stands, in milliseconds: 72 hours, and one millisecond more.
 const RECOVERY_LIFE: u64 = 259_200_001;
 
-/// Heartbeats and recoveries. Each stands while the moment is below its deadline. Moments are milliseconds since 1970. Contracts see what stands
+/// Heartbeats, recoveries and locks. Each stands while the moment is below its deadline. Moments are milliseconds since 1970. Contracts see what stands
 /// now, and what stood at the begin of an open step.
 #[derive(Drop)]
 pub struct Leases {
     alloc: Global,
     beats: Deadlines,
     recoveries: Deadlines,
+    locks: Locks,
 }
 
 impl Model for Leases {
-    ghost use Rattle.std.specs.Prelude.{◌≡◌};
-    ghost use Rattle.std.specs.Option.{is_some};
     ghost use Rattle.sk_undo.specs.Steps.{Steps, both, steps_code};
-    ghost use Rattle.sk_leases.specs.Leased.{Leased, leased, leased_code};
+    ghost use Rattle.sk_leases.specs.Leased.{Leased, leased, leased_code, with_locks};
 
     ghost Value = { Steps Leased };
 
     ghost coded = { steps_code leased_code };
 
-    ghost view = { λ l. both leased l.beats l.recoveries };
+    ghost view = { λ l. both with_locks (both leased l.beats l.recoveries) l.locks };
 
-    ghost invariant = { λ l. is_some l.beats.stood ≡ is_some l.recoveries.stood };
+    ghost use Rattle.sk_leases.specs.Together.{AreTogether};
+
+    ghost invariant = { λ l. AreTogether l.beats l.recoveries l.locks };
 }
 
 impl Leases {
@@ -50,6 +53,7 @@ impl Leases {
             alloc,
             beats: Deadlines::new(alloc),
             recoveries: Deadlines::new(alloc),
+            locks: Locks::new(alloc),
         }
     }
 
@@ -60,6 +64,7 @@ impl Leases {
     {
         self.beats.purge(now);
         self.recoveries.purge(now);
+        self.locks.purge(now);
     }
 
     /// A process is alive: its heartbeat stands for a minute from now on.
@@ -106,6 +111,37 @@ impl Leases {
         self.recoveries.drop_all(jid.text().as_bytes())
     }
 
+    /// The job that holds the lock under a digest, where one stands, is the answer. Else this job gets the lock, for so many seconds from now on.
+    pub fn lock(
+        &mut self,
+        digest: Word,
+        jid: Text,
+        seconds: u32,
+        now: u64,
+    ) -> Result<Option<Text>, Memory>
+        requires { now + 1000 * seconds < 2 ^ 64 }
+        ensures holder { IfOk result (λ jid. jid ≡ holder_at digest now self.old.stands) }
+        ensures held { IfOk result (λ holder. IfSome holder (λ jid. self.new ≡ self.old)) }
+        ensures made { result ≡ Ok None → self.new ≡ edited (locked digest jid seconds now self.old.stands) self.old }
+        ensures err { OnErr result (self.new ≡ self.old) }
+    {
+        if let Some(holder) = self.locks.holder(&digest, now) {
+            return Ok(Some(holder.copy()?));
+        }
+        let deadline = now + 1000 * u64::from(seconds);
+        self.locks.put(digest, jid, deadline)?;
+        Ok(None)
+    }
+
+    /// The job lets go of the lock under a digest, and the answer is whether it held it. Another's lock stays. No step may be open. Takes no memory.
+    pub fn unlock(&mut self, digest: Word, jid: &Text) -> bool
+        requires { self.old.stood ≡ None }
+        ensures answer { result ≡ holds digest jid.now self.old.stands }
+        ensures rest { self.new ≡ edited (unlocked digest jid.now self.old.stands) self.old }
+    {
+        self.locks.remove(digest, jid)
+    }
+
     /// Opens a step. Takes no memory.
     pub fn begin(&mut self)
         requires { self.old.stood ≡ None }
@@ -113,6 +149,7 @@ impl Leases {
     {
         self.beats.begin();
         self.recoveries.begin();
+        self.locks.begin();
     }
 
     /// Closes the step, and what stood at its begin stands again. Takes no memory.
@@ -122,6 +159,7 @@ impl Leases {
     {
         self.beats.undo();
         self.recoveries.undo();
+        self.locks.undo();
     }
 
     /// Closes the step, and what stands now stays. Takes no memory.
@@ -131,5 +169,6 @@ impl Leases {
     {
         self.beats.commit();
         self.recoveries.commit();
+        self.locks.commit();
     }
 }

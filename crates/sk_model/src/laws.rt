@@ -1,7 +1,7 @@
 // What holds of every run of events.
 ghost use Rattle.std.specs.Prelude.{◌≡◌};
 ghost use Rattle.sk_model.specs.Causes.{MovesHaveCauses};
-ghost use Rattle.sk_model.specs.Laws.{Balance, Conserve, CopiesKept};
+ghost use Rattle.sk_model.specs.Laws.{Balance, Conserve, CopiesKept, OneHolder};
 ghost use Rattle.sk_model.specs.Once.{BatchOnce, CallbacksFollow, CompleteOnce, DeathOnce, SettledStays};
 ghost use Rattle.sk_model.specs.Reading.{IsSaid, Said, SomeReading, Words};
 ghost use Rattle.sk_model.specs.Reliable.{Reliable};
@@ -63,6 +63,12 @@ pub fn callbacks_follow()
 /// held a payload of it.
 pub fn moves_have_causes()
     ensures { MovesHaveCauses }
+{}
+
+/// While a lock under a digest stands, each SK.UPUSH of a job with that digest is answered by the id of the job that holds the lock, or by a refusal,
+/// and nothing moves: time alone goes on.
+pub fn a_lock_has_one_holder()
+    ensures { OneHolder }
 {}
 
 /// All of these hold of each run together.

@@ -1,0 +1,10 @@
+-- The parts of the leases, whose steps are opened and closed together.
+use Rattle.std.specs.Prelude.{◌≡◌, List}
+use Rattle.std.specs.Option.{is_some}
+use Rattle.sk_undo.specs.Steps.{Steps}
+use Rattle.sk_leases.specs.Lease.{Lease}
+use Rattle.sk_leases.specs.Locks.{Locks}
+
+pub record AreTogether (beats recoveries : Steps (List Lease)) (locks : Steps Locks) : Type 0 where
+  pub recoveries_too : is_some beats.stood ≡ is_some recoveries.stood
+  pub locks_too : is_some beats.stood ≡ is_some locks.stood

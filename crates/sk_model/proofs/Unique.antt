@@ -1,0 +1,106 @@
+-- The changes of a unique push, and of the end of a lock, are good, and need no cause.
+use Rattle.std.proofs.Common.{◌≡◌, List, [], ◌∷◌, refl, Bool, true, false, cond}
+use Rattle.std.specs.Prelude.{ℤ, Option, Some, None}
+use Rattle.sk_resp.specs.Spelling.{Bytes}
+use Rattle.sk_cmd.specs.declared.argument.Side.TheVariants.{Left}
+use Rattle.sk_cmd.specs.declared.argument.Scored.TheVariants.{Schedule}
+use Rattle.sk_payload.specs.Head.{head}
+use Rattle.sk_payload.specs.declared.head.Head.{Head}
+use Rattle.sk_payload.specs.declared.head.Lock.{Lock}
+use Rattle.sk_payload.specs.declared.head.Until.{Until}
+use Rattle.sk_leases.specs.Leased.{holder_at}
+use Rattle.sk_places.specs.declared.row.Place.TheVariants.{Queue, Set}
+use Rattle.sk_places.specs.declared.row.Row.{Row}
+use Rattle.sk_places.specs.Rows.{row_at, row_of, rows_at}
+use Rattle.sk_model.specs.World.{World}
+use Rattle.sk_model.specs.Change.{Change, Locks, Unlocks, changed}
+use Rattle.sk_model.specs.Digest.{digest}
+use Rattle.sk_model.specs.Outcome.{Outcome}
+use Rattle.sk_model.specs.Room.{is_full}
+use Rattle.sk_model.specs.Sets.{add_as}
+use Rattle.sk_model.specs.Unique.{is_until, or_holder, push_locked, push_or_schedule, unique_push, unique_push_by, unique_push_of, unlocks, unlocks_at, unlocks_of}
+use Rattle.sk_model.proofs.Causing.{all_tame}
+use Rattle.sk_model.proofs.Good.{Good, good_nothing, good_add, good_locks, good_unlocks, then_others}
+use Rattle.sk_model.proofs.Sending.{add_each_good, choice}
+
+-- ## The end of a lock
+
+unlock_good : (w : World) (h : Head) (b : Bool) → Good w (cond b (Unlocks (digest h) h.jid ∷ []) [])
+unlock_good w h true = good_unlocks w (digest h) h.jid
+unlock_good w h false = good_nothing w
+
+at_good : (w : World) (until : Until) (h : Head) (lock : Option Lock) → Good w (unlocks_at until h lock)
+at_good w until h None = good_nothing w
+at_good w until h (Some lock) = unlock_good w h (is_until until lock.until)
+
+of_good : (w : World) (until : Until) (found : Option Head) → Good w (unlocks_of until found)
+of_good w until None = good_nothing w
+of_good w until (Some h) = at_good w until h h.lock
+
+pub unlocks_good : (w : World) (until : Until) (text : Bytes) → Good w (unlocks until text)
+unlocks_good w until text = of_good w until (head text)
+
+unlock_tame : (h : Head) (b : Bool) → all_tame false (cond b (Unlocks (digest h) h.jid ∷ []) []) ≡ true
+unlock_tame h true = refl
+unlock_tame h false = refl
+
+at_tame : (until : Until) (h : Head) (lock : Option Lock) → all_tame false (unlocks_at until h lock) ≡ true
+at_tame until h None = refl
+at_tame until h (Some lock) = unlock_tame h (is_until until lock.until)
+
+of_tame : (until : Until) (found : Option Head) → all_tame false (unlocks_of until found) ≡ true
+of_tame until None = refl
+of_tame until (Some h) = at_tame until h h.lock
+
+pub unlocks_tame : (until : Until) (text : Bytes) → all_tame false (unlocks until text) ≡ true
+unlocks_tame until text = of_tame until (head text)
+
+-- ## A unique push
+
+push_good : (w : World) (h : Head) (text : Bytes) (score : Option ℤ) → Good w (push_or_schedule w h text score ∷ [])
+push_good w h text None = good_add w (row_at (Queue h.queue) text) Left
+push_good w h text (Some score) = add_each_good w Schedule ((score, text) ∷ []) refl
+
+locked_good : (w : World) (h : Head) (lock : Lock) (text : Bytes) (score : Option ℤ) (found : Option Bytes) → Good w (or_holder found (push_locked w h lock text score)).changes
+locked_good w h lock text score None = then_others w (Locks (digest h) h.jid lock.seconds) _ (good_locks w (digest h) h.jid lock.seconds) (push_good (changed w (Locks (digest h) h.jid lock.seconds)) h text score)
+locked_good w h lock text score (Some jid) = good_nothing w
+
+push_of_good : (w : World) (text : Bytes) (score : Option ℤ) (h : Head) (lock : Option Lock) (bid : Option Bytes) → Good w (unique_push_of w text score h lock bid).changes
+push_of_good w text score h None bid = good_nothing w
+push_of_good w text score h (Some lock) None = choice w (is_full w (text ∷ [])) _ _ (λ y. good_nothing w) (λ n. locked_good w h lock text score (holder_at (digest h) w.moment w.leases))
+push_of_good w text score h (Some lock) (Some bid) = good_nothing w
+
+push_by_good : (w : World) (text : Bytes) (score : Option ℤ) (found : Option Head) → Good w (unique_push_by w text score found).changes
+push_by_good w text score None = good_nothing w
+push_by_good w text score (Some h) = push_of_good w text score h h.lock h.bid
+
+pub unique_push_good : (w : World) (text : Bytes) (score : Option ℤ) → Good w (unique_push w text score).changes
+unique_push_good w text score = push_by_good w text score (head text)
+
+add_tame : (score : ℤ) (text : Bytes) (found : Option Row) → all_tame false (add_as Schedule (score, text) found ∷ []) ≡ true
+add_tame score text None = refl
+add_tame score text (Some row) = refl
+
+push_tame : (w : World) (h : Head) (text : Bytes) (score : Option ℤ) → all_tame false (push_or_schedule w h text score ∷ []) ≡ true
+push_tame w h text None = refl
+push_tame w h text (Some score) = add_tame score text (row_of text (rows_at (Set Schedule) w.rows))
+
+locked_tame : (w : World) (h : Head) (lock : Lock) (text : Bytes) (score : Option ℤ) (found : Option Bytes) → all_tame false (or_holder found (push_locked w h lock text score)).changes ≡ true
+locked_tame w h lock text score None = push_tame w h text score
+locked_tame w h lock text score (Some jid) = refl
+
+either_tame : (b : Bool) (one other : Outcome) → all_tame false one.changes ≡ true → all_tame false other.changes ≡ true → all_tame false (cond b one other).changes ≡ true
+either_tame true one other f g = f
+either_tame false one other f g = g
+
+push_of_tame : (w : World) (text : Bytes) (score : Option ℤ) (h : Head) (lock : Option Lock) (bid : Option Bytes) → all_tame false (unique_push_of w text score h lock bid).changes ≡ true
+push_of_tame w text score h None bid = refl
+push_of_tame w text score h (Some lock) None = either_tame (is_full w (text ∷ [])) _ _ refl (locked_tame w h lock text score (holder_at (digest h) w.moment w.leases))
+push_of_tame w text score h (Some lock) (Some bid) = refl
+
+push_by_tame : (w : World) (text : Bytes) (score : Option ℤ) (found : Option Head) → all_tame false (unique_push_by w text score found).changes ≡ true
+push_by_tame w text score None = refl
+push_by_tame w text score (Some h) = push_of_tame w text score h h.lock h.bid
+
+pub unique_push_tame : (w : World) (text : Bytes) (score : Option ℤ) → all_tame false (unique_push w text score).changes ≡ true
+unique_push_tame w text score = push_by_tame w text score (head text)
