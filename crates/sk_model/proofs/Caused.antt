@@ -66,7 +66,7 @@ use Rattle.sk_model.specs.Deletes.{take_all, delete_as, delete_each, may_go}
 use Rattle.sk_model.specs.Sets.{add_as, add_one, add_each, edit_jobs, put_as, put_back}
 use Rattle.sk_model.specs.Seats.{fetched_from, is_for_all, is_workers, only, released_by, releases, where_plain, where_some}
 use Rattle.sk_model.specs.Jobs.{Sent, bury, buried_by, due_rows, each, kill_row, merge, moment_score, put_dead, revive_as, revive_row, send, surplus, to_queue}
-use Rattle.sk_model.specs.Told.{push_job, push_to, fire_all}
+use Rattle.sk_model.specs.Told.{and_tell, push_job, push_to, fire_all}
 use Rattle.sk_model.specs.Batches.{all_may_join, are_callbacks, batch_add, batch_of, batch_push, jids_of, join as join_batch, make, push_jobs, tells_stat, unless}
 use Rattle.sk_model.specs.Rescue.{bury_poison, is_poison, left_rows, rescue_row}
 use Rattle.sk_model.specs.Workers.{bury as bury_held, fail, fetch, fetch_row, give, give_row, ok, release_of, retry, work, work_as, work_edit}
@@ -526,10 +526,11 @@ module _ (w : World) (seat now : ℕ) (words : Words) where
 
   ok_causes : (text : Bytes) → IsRead words (Ok (command.Script (script.Ok text))) → Sane w.batches → C (ok v seat (phase_of w seat) text).changes
   ok_causes text read s = in_some C (phase_of w seat) (is_held_as text) _ tt (λ ident some.
-      causes_append w event false [] v _ (unlocks until.Success text)
+      let told : List Change = (and_tell Returned v text (Turns seat (staging (is_held_as text) (Settled end.Returned) (phase_of w seat)) ∷ Counts processed ∷ [])).changes in
+      causes_append w event false [] v told (unlocks until.Success text)
       (causes_append w event false [] v (Turns seat (staging (is_held_as text) (Settled end.Returned) (phase_of w seat)) ∷ Counts processed ∷ []) _ (tt, (tt, tt))
       (tell_causes w event Returned _ (head text) s (λ h bid of_text named. record { seat = seat; text = text; h = h; sent = (refl, read); held = some; head_is = of_text; jid_is = refl; bid_is = named })))
-      (unlocks_causes _ until.Success text))
+      (unlocks_causes (perform v told) until.Success text))
 
   fail_causes : (text : Bytes) → Sane w.batches → C (fail v (phase_of w seat) text).changes
   fail_causes text s = in_some C (phase_of w seat) (is_held_as text) _ tt (λ ident some.

@@ -2,6 +2,7 @@
 use Rattle.std.proofs.Common.{◌≡◌, ◌⊎◌, ◌≢◌, ℕ, List, [], ◌∷◌, refl, sym, ap, subst, ◌∙◌, Bool, true, false, cond, inl, inr}
 use Rattle.std.specs.Prelude.{ℤ, Option, Some, None, Ok, Err}
 use Rattle.sk_resp.specs.Spelling.{Bytes}
+use Rattle.sk_resp.specs.declared.refusal.Refusal.TheVariants.{Full}
 use Rattle.sk_cmd.proofs.AgreeTable.{one_command}
 use Rattle.sk_cmd.specs.Fault.{fault_say}
 use Rattle.sk_cmd.specs.Reading.{Read}
@@ -20,7 +21,7 @@ use Rattle.sk_model.specs.Change.{Passes, changed}
 use Rattle.sk_model.specs.Digest.{digest}
 use Rattle.sk_model.specs.Event.{Event, Ask, Cut, Gives, Happens, Run, Step, after}
 use Rattle.sk_model.specs.Laws.{IsTurnedAway, KeepsHolder, OneHolder, OneHolderFrom, holder_then}
-use Rattle.sk_model.specs.Outcome.{Outcome, tells}
+use Rattle.sk_model.specs.Outcome.{Outcome, refuses, tells}
 use Rattle.sk_model.specs.Reading.{Words}
 use Rattle.sk_model.specs.Room.{is_full}
 use Rattle.sk_model.specs.Step.{Steps, at_moment, outcome}
@@ -38,8 +39,8 @@ push_of_away : (w : World) (text : Bytes) (score : Option ℤ) (h : Head) (lock 
     → IsTurnedAway holder (at_moment now (unique_push_of w text score h lock bid))
 push_of_away w text score h None bid now holder held = record { reply = inr refl; still = refl }
 push_of_away w text score h (Some lock) None now holder held =
-    subst (λ (found : Option Bytes). IsTurnedAway holder (at_moment now (cond (is_full w (text ∷ [])) _ (or_holder found (push_locked w h lock text score))))) (sym held)
-    (full_or_held w h lock text score now holder (is_full w (text ∷ [])) _ (record { reply = inr refl; still = refl }))
+    subst (λ (found : Option Bytes). IsTurnedAway holder (at_moment now (cond (is_full w (text ∷ [])) (refuses Full) (or_holder found (push_locked w h lock text score))))) (sym held)
+    (full_or_held w h lock text score now holder (is_full w (text ∷ [])) (refuses Full) (record { reply = inr refl; still = refl }))
 push_of_away w text score h (Some lock) (Some bid) now holder held = record { reply = inr refl; still = refl }
 
 push_away : (w : World) (text : Bytes) (score : Option ℤ) (h : Head) (now : ℕ) (holder : Bytes) → head text ≡ Some h → holder_at (digest h) w.moment w.leases ≡ Some holder
@@ -59,8 +60,11 @@ fault_away words fault.NotScore c holder read is = absurd (cc (one_command words
 fault_away words fault.BadBound c holder read is = absurd (cc (one_command words (Err fault.BadBound) (Ok c) read is (λ e. cc e) (λ e. cc e)))
 fault_away words fault.Syntax c holder read is = absurd (cc (one_command words (Err fault.Syntax) (Ok c) read is (λ e. cc e) (λ e. cc e)))
 
-same_ok : (c d : Command) (e : Ok {E = CmdFault} c ≡ Ok d) → c ≡ d
-same_ok c d e = cc e
+abbrev read_as : Command → Read Command
+read_as c = Ok c
+
+same_command : (c d : Command) → read_as c ≡ read_as d → c ≡ d
+same_command c d e = cc e
 
 module _ (w : World) (seat now : ℕ) (text : Bytes) (score : Option ℤ) (h : Head) (holder : Bytes) (is : head text ≡ Some h) (held : holder_then (digest h) now w ≡ Some holder) where
   steps_away : (o : Outcome) → Steps w seat now (command.Script (script.Upush text score)) o → IsTurnedAway holder o
@@ -69,7 +73,7 @@ module _ (w : World) (seat now : ℕ) (text : Bytes) (score : Option ℤ) (h : H
 
   gives_away : (words : Words) (r : Read Command) (o : Outcome) → IsRead words r → IsRead words (Ok (command.Script (script.Upush text score))) → Gives w seat now r o → IsTurnedAway holder o
   gives_away words (Ok c) o read push gives =
-      let same = same_ok c (command.Script (script.Upush text score)) (one_command words (Ok c) (Ok (command.Script (script.Upush text score))) read push (λ e. cc e) (λ e. cc e)) in
+      let same = same_command c (command.Script (script.Upush text score)) (one_command words (Ok c) (Ok (command.Script (script.Upush text score))) read push (λ e. cc e) (λ e. cc e)) in
       steps_away o (subst (λ (c : Command). Steps w seat now c o) same gives)
   gives_away words (Err fault) o read push e = subst (IsTurnedAway holder) (sym e) (fault_away words fault (command.Script (script.Upush text score)) holder read push)
 
