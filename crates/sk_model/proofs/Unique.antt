@@ -9,6 +9,7 @@ use Rattle.sk_payload.specs.declared.head.Head.{Head}
 use Rattle.sk_payload.specs.declared.head.Lock.{Lock}
 use Rattle.sk_payload.specs.declared.head.Until.{Until}
 use Rattle.sk_leases.specs.Leased.{holder_at}
+use Rattle.sk_places.specs.declared.origin.Origin.TheVariants.{Outside}
 use Rattle.sk_places.specs.declared.row.Place.TheVariants.{Queue, Set}
 use Rattle.sk_places.specs.declared.row.Row.{Row}
 use Rattle.sk_places.specs.Rows.{row_at, row_of, rows_at}
@@ -18,6 +19,7 @@ use Rattle.sk_model.specs.Digest.{digest}
 use Rattle.sk_model.specs.Outcome.{Outcome}
 use Rattle.sk_model.specs.Room.{is_full}
 use Rattle.sk_model.specs.Sets.{add_as}
+use Rattle.sk_model.specs.Told.{push_to}
 use Rattle.sk_model.specs.Unique.{is_until, or_holder, push_locked, push_or_schedule, unique_push, unique_push_by, unique_push_of, unlocks, unlocks_at, unlocks_of}
 use Rattle.sk_model.proofs.Causing.{all_tame}
 use Rattle.sk_model.proofs.Good.{Good, good_nothing, good_add, good_locks, good_unlocks, then_others}
@@ -57,12 +59,16 @@ unlocks_tame until text = of_tame until (head text)
 
 -- ## A unique push
 
-push_good : (w : World) (h : Head) (text : Bytes) (score : Option ℤ) → Good w (push_or_schedule w h text score ∷ [])
-push_good w h text None = good_add w (row_at (Queue h.queue) text) Left
-push_good w h text (Some score) = add_each_good w Schedule ((score, text) ∷ []) refl
+push_to_good : (w : World) (text : Bytes) (found : Option Head) → Good w (push_to Outside text found)
+push_to_good w text None = good_nothing w
+push_to_good w text (Some h) = good_add w (row_at (Queue h.queue) text) Left
+
+push_good : (w : World) (text : Bytes) (score : Option ℤ) → Good w (push_or_schedule w text score)
+push_good w text None = push_to_good w text (head text)
+push_good w text (Some score) = add_each_good w Schedule ((score, text) ∷ []) refl
 
 locked_good : (w : World) (h : Head) (lock : Lock) (text : Bytes) (score : Option ℤ) (found : Option Bytes) → Good w (or_holder found (push_locked w h lock text score)).changes
-locked_good w h lock text score None = then_others w (Locks (digest h) h.jid lock.seconds) _ (good_locks w (digest h) h.jid lock.seconds) (push_good (changed w (Locks (digest h) h.jid lock.seconds)) h text score)
+locked_good w h lock text score None = then_others w (Locks (digest h) h.jid lock.seconds) _ (good_locks w (digest h) h.jid lock.seconds) (push_good (changed w (Locks (digest h) h.jid lock.seconds)) text score)
 locked_good w h lock text score (Some jid) = good_nothing w
 
 push_of_good : (w : World) (text : Bytes) (score : Option ℤ) (h : Head) (lock : Option Lock) (bid : Option Bytes) → Good w (unique_push_of w text score h lock bid).changes
@@ -81,12 +87,16 @@ add_tame : (score : ℤ) (text : Bytes) (found : Option Row) → all_tame false 
 add_tame score text None = refl
 add_tame score text (Some row) = refl
 
-push_tame : (w : World) (h : Head) (text : Bytes) (score : Option ℤ) → all_tame false (push_or_schedule w h text score ∷ []) ≡ true
-push_tame w h text None = refl
-push_tame w h text (Some score) = add_tame score text (row_of text (rows_at (Set Schedule) w.rows))
+push_to_tame : (text : Bytes) (found : Option Head) → all_tame false (push_to Outside text found) ≡ true
+push_to_tame text None = refl
+push_to_tame text (Some h) = refl
+
+push_tame : (w : World) (text : Bytes) (score : Option ℤ) → all_tame false (push_or_schedule w text score) ≡ true
+push_tame w text None = push_to_tame text (head text)
+push_tame w text (Some score) = add_tame score text (row_of text (rows_at (Set Schedule) w.rows))
 
 locked_tame : (w : World) (h : Head) (lock : Lock) (text : Bytes) (score : Option ℤ) (found : Option Bytes) → all_tame false (or_holder found (push_locked w h lock text score)).changes ≡ true
-locked_tame w h lock text score None = push_tame w h text score
+locked_tame w h lock text score None = push_tame w text score
 locked_tame w h lock text score (Some jid) = refl
 
 either_tame : (b : Bool) (one other : Outcome) → all_tame false one.changes ≡ true → all_tame false other.changes ≡ true → all_tame false (cond b one other).changes ≡ true

@@ -4,7 +4,6 @@ use Rattle.sk_resp.specs.Spelling.{Bytes}
 use Rattle.sk_resp.specs.declared.reply.Reply.TheVariants as reply
 use Rattle.sk_resp.specs.declared.say.Say.TheVariants as say
 use Rattle.sk_resp.specs.declared.refusal.Refusal.TheVariants.{BadPayload}
-use Rattle.sk_cmd.specs.declared.argument.Side.TheVariants.{Left}
 use Rattle.sk_cmd.specs.declared.argument.Scored.TheVariants.{Schedule}
 use Rattle.sk_payload.specs.Head.{head}
 use Rattle.sk_payload.specs.declared.head.Head.{Head}
@@ -13,25 +12,24 @@ use Rattle.sk_payload.specs.declared.head.Until.{Until}
 use Rattle.sk_payload.specs.declared.head.Until.TheVariants.{Start, Success}
 use Rattle.sk_leases.specs.Leased.{holder_at}
 use Rattle.sk_places.specs.declared.origin.Origin.TheVariants.{Outside}
-use Rattle.sk_places.specs.declared.row.Place.TheVariants.{Queue}
-use Rattle.sk_places.specs.Rows.{row_at}
 use Rattle.sk_model.specs.World.{World}
-use Rattle.sk_model.specs.Change.{Change, Moves, Add, Locks, Unlocks}
+use Rattle.sk_model.specs.Change.{Change, Locks, Unlocks}
 use Rattle.sk_model.specs.Digest.{digest}
 use Rattle.sk_model.specs.Outcome.{Outcome, says, refuses}
 use Rattle.sk_model.specs.Room.{where_room}
 use Rattle.sk_model.specs.Sets.{add_one}
+use Rattle.sk_model.specs.Told.{push_job}
 
 -- ## SK.UPUSH
 
 -- the text goes to the left end of its queue, or into the schedule with a score
-abbrev pub push_or_schedule : World → Head → Bytes → Option ℤ → Change
-push_or_schedule w h text None = Moves (Add (row_at (Queue h.queue) text) Left Outside)
-push_or_schedule w h text (Some score) = add_one w Schedule (score, text)
+abbrev pub push_or_schedule : World → Bytes → Option ℤ → List Change
+push_or_schedule w text None = push_job Outside text
+push_or_schedule w text (Some score) = add_one w Schedule (score, text) ∷ []
 
 -- The job gets the lock under its digest, from now on, and is pushed.
 abbrev pub push_locked : World → Head → Lock → Bytes → Option ℤ → Outcome
-push_locked w h lock text score = record { reply = reply.Say say.Ok; changes = Locks (digest h) h.jid lock.seconds ∷ push_or_schedule w h text score ∷ [] }
+push_locked w h lock text score = record { reply = reply.Say say.Ok; changes = Locks (digest h) h.jid lock.seconds ∷ push_or_schedule w text score }
 
 -- where another job holds the lock nothing changes, and the reply names it
 abbrev pub or_holder : Option Bytes → Outcome → Outcome
