@@ -19,7 +19,7 @@ use crate::rights::{adds, is_plain, is_workers};
 use sk_cmd::{Command, PlainCommand, ScriptCommand};
 use sk_jobs::{
     BatchWords, SetScript, Stock, add_to_batch, back, batch_stat, beat, bury, discard, fail, join,
-    locate, numbers, push_batch, send, start, status_page, succeed, tally, work,
+    locate, numbers, push_batch, push_unique, send, start, status_page, succeed, tally, work,
 };
 use sk_keys::Keys;
 use sk_keyspace::{delete, edit, exists, expire, flush, look, move_text, set};
@@ -162,7 +162,7 @@ impl Parts {
         match script {
             ScriptCommand::Beat(ident) => beat(moment, &mut stock.leases, &ident),
             ScriptCommand::Join(ident) => join(moment, &stock.leases, seats, seat, ident),
-            ScriptCommand::Start(text) => Ok(start(seats, seat, &text)),
+            ScriptCommand::Start(text) => start(alloc, seats, &mut stock.leases, seat, &text),
             ScriptCommand::Ok(text) => succeed(alloc, moment, seats, stock, seat, &text),
             ScriptCommand::Fail(text) => fail(alloc, moment, seats, stock, seat, &text),
             ScriptCommand::Drop(text) => Ok(discard(seats, seat, &text)),
@@ -199,6 +199,9 @@ impl Parts {
                 )
             }
             ScriptCommand::Rescue => send(alloc, moment, seats, stock, seat, SetScript::Rescue),
+            ScriptCommand::Upush(text, score) => {
+                push_unique(alloc, limits, moment, seats, stock, text, score)
+            }
             ScriptCommand::Bpush(bid, parent, complete, success, death, texts) => {
                 let words = BatchWords {
                     bid,

@@ -10,4 +10,5 @@ pub mod Rescuing
 pub mod SentOn
 pub mod Stocking
 pub mod Telling
+pub mod UniquePushes
 pub mod Working

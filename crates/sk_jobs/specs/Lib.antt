@@ -1,6 +1,7 @@
 pub mod Batching
 pub mod Calls
 pub mod Counting
+pub mod Locking
 pub mod Rescuing
 pub mod Scripts
 pub mod Seated

@@ -1,5 +1,5 @@
 // What a worker tells of the run of its job: SK.START payload, SK.FAIL payload, SK.OK payload, SK.DROP payload.
-ghost use Rattle.std.specs.Prelude.{◌≡◌, ◌∷◌, ◌≤◌, [], ℕ, IfOk, OnErr};
+ghost use Rattle.std.specs.Prelude.{◌≡◌, ◌∷◌, ◌≤◌, [], ℕ, IfOk, None, OnErr};
 ghost use Rattle.sk_base.specs.Score.{last_moment};
 ghost use Rattle.sk_resp.specs.Spelling.{Bytes};
 ghost use Rattle.sk_batch.specs.declared.event.Event.TheVariants as event;
@@ -12,6 +12,7 @@ ghost use Rattle.sk_model.specs.Told.{and_tell};
 ghost use Rattle.sk_model.specs.Workers.{drop, fail, ok, start};
 ghost use Rattle.sk_model.specs.World.{World};
 ghost use Rattle.sk_jobs.specs.Calls.{Alike, member_of};
+ghost use Rattle.sk_jobs.specs.Locking.{with_leases};
 ghost use Rattle.sk_jobs.specs.Seated.{with_seats, IsFound};
 ghost use Rattle.sk_jobs.specs.Stocked.{ComesStocked, AreCovered, IsClosed, KeepsStep, at};
 ghost use Rattle.sk_seats.specs.Works.{is_held_as};
@@ -19,22 +20,37 @@ ghost use Rattle.sk_seats.specs.declared.phase.Phase.{Phase};
 
 use crate::calls::{member_of, tell};
 use crate::hands::find_held;
+use crate::locking::{held_lock_at, let_go};
 use crate::stock::Stock;
 use sk_batch::{Event, Member};
 use sk_counters::Counted;
+use sk_leases::Leases;
+use sk_payload::Until;
 use sk_resp::{Memory, Reply, Say, Word};
 use sk_seats::{End, Phase, Seats, Stage};
 use sk_value::{as_reply, refused};
 use std::alloc::Global;
 
-/// SK.START: a job that the seat holds is about to run.
-pub fn start(seats: &Seats, seat: u32, text: &Word) -> Reply
-    ensures { (w : World) → Comes w (start (phase_in seats.now seat) text.now) result w }
+/// SK.START: a job that the seat holds is about to run. It lets go of a lock that it holds until then.
+pub fn start(
+    alloc: Global,
+    seats: &Seats,
+    leases: &mut Leases,
+    seat: u32,
+    text: &Word,
+) -> Result<Reply, Memory>
+    requires { leases.old.stood ≡ None }
+    ensures ok { IfOk result (λ reply. (w : World) → Comes (with_leases w leases.old.stands) (start (phase_in seats.now seat) text.now) reply (with_leases w leases.new.stands)) }
+    ensures closed { leases.new.stood ≡ None }
+    ensures err { OnErr result (leases.new ≡ leases.old) }
 {
-    match find_held(seats.get(seat), text) {
-        Ok(_) => Reply::Say(Say::Ok),
-        Err(refusal) => refused(refusal),
-    }
+    let at = match find_held(seats.get(seat), text) {
+        Ok(at) => at,
+        Err(refusal) => return Ok(refused(refusal)),
+    };
+    let lock = held_lock_at(alloc, Until::Start, seats.get(seat), text, at)?;
+    let_go(leases, lock);
+    Ok(Reply::Say(Say::Ok))
 }
 
 // The member that a job of this text in the seat's hands is, where its head names a batch.
@@ -112,6 +128,7 @@ fn succeed_open(
 }
 
 /// SK.OK: the first job of this text that the seat holds has returned, and the seat has still to release it. The answer names what its batch fired.
+/// It lets go of a lock that it holds until then.
 pub fn succeed(
     alloc: Global,
     moment: u64,
@@ -132,10 +149,12 @@ pub fn succeed(
         Err(refusal) => return Ok(refused(refusal)),
     };
     let member = member_at(alloc, seats.get(seat), text, at)?;
+    let lock = held_lock_at(alloc, Until::Success, seats.get(seat), text, at)?;
     stock.begin();
     let done = succeed_open(alloc, moment, seats, stock, member);
     let reply = stock.close(done)?;
     seats.stage(seat, at, Stage::Settled(End::Returned));
+    let_go(&mut stock.leases, lock);
     Ok(reply)
 }
 

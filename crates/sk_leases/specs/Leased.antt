@@ -1,10 +1,13 @@
--- What the leases are: heartbeats of processes, recoveries of jobs and locks of unique jobs, and what each call makes of them.
-use Rattle.std.specs.Prelude.{ℕ, ◌+◌, ◌*◌, Bool, List, [], Option, nat_lt, refl}
-use Rattle.std.specs.Coded.{Coded, code_by, coded×, coded_list, coded_ℕ}
+-- What the leases are: heartbeats of processes, recoveries of jobs, locks of unique jobs, the lease of the leader with the last slots of periodic jobs,
+-- and what each call makes of them.
+use Rattle.std.specs.Prelude.{ℕ, ◌+◌, ◌*◌, Bool, List, [], Option, Some, None, length, nat_lt, refl}
+use Rattle.std.specs.Coded.{Coded, code_by, coded×, coded_list, coded_option, coded_ℕ}
 use Rattle.sk_resp.specs.Spelling.{Bytes}
 use Rattle.sk_leases.specs.Lease.{Lease}
 use Rattle.sk_leases.specs.Lists.{count_standing, names_of, put, standing as standing_of, without}
 use Rattle.sk_leases.specs.Locks.{Locks, holder, is_held_by, locks_at, with_lock, without_lock}
+use Rattle.sk_leases.specs.Leader.{is_held, is_held_by_another, leader_at}
+use Rattle.sk_leases.specs.Slots.{Slots, last_slot, with_slot}
 use Rattle.sk_leases.specs.declared.lock.Lock.{Lock}
 
 pub record Leased : Type 0 where
@@ -14,13 +17,17 @@ pub record Leased : Type 0 where
   pub recoveries : List Lease
   -- the locks of unique jobs, by the digests' bytes, each digest once
   pub locks : Locks
+  -- the process that leads, with its deadline
+  pub leader : Option Lease
+  -- the last slot of each periodic job
+  pub slots : Slots
 
 abbrev pub nothing : Leased
-nothing = record { beats = []; recoveries = []; locks = [] }
+nothing = record { beats = []; recoveries = []; locks = []; leader = None; slots = [] }
 
--- None of these outlasts its deadline.
+-- None of these outlasts its deadline. Slots have none.
 abbrev pub purged : ℕ → Leased → Leased
-purged now l = record { beats = standing_of now l.beats; recoveries = standing_of now l.recoveries; locks = locks_at now l.locks }
+purged now l = record l { beats = standing_of now l.beats; recoveries = standing_of now l.recoveries; locks = locks_at now l.locks; leader = leader_at now l.leader }
 
 -- ## Heartbeats
 
@@ -75,20 +82,60 @@ holds digest jid l = is_held_by digest jid l.locks
 abbrev pub unlocked : Bytes → Bytes → Leased → Leased
 unlocked digest jid l = record l { locks = without_lock digest jid l.locks }
 
+-- ## The leader
+
+-- half a minute
+abbrev pub lead_life : ℕ
+lead_life = 30000
+
+-- whether the process leads
+abbrev pub leads : Bytes → ℕ → Leased → Bool
+leads ident now l = is_held ident now l.leader
+
+-- whether another one does
+abbrev pub is_led_by_another : Bytes → ℕ → Leased → Bool
+is_led_by_another ident now l = is_held_by_another ident now l.leader
+
+-- the process leads from now on
+abbrev pub led : Bytes → ℕ → Leased → Leased
+led ident now l = record l { leader = Some (ident, now + lead_life) }
+
+-- ## Slots
+
+abbrev pub last : Bytes → Leased → Option ℕ
+last name l = last_slot name l.slots
+
+-- how many periodic jobs have a last slot
+abbrev pub loops : Leased → ℕ
+loops l = length l.slots
+
+abbrev pub marked : Bytes → ℕ → Leased → Leased
+marked name slot l = record l { slots = with_slot name slot l.slots }
+
 -- ## As contracts see it
 
 abbrev pub leased : List Lease → List Lease → Leased
-leased beats recoveries = record { beats = beats; recoveries = recoveries; locks = [] }
+leased beats recoveries = record { beats = beats; recoveries = recoveries; locks = []; leader = None; slots = [] }
 
 abbrev pub with_locks : Leased → Locks → Leased
 with_locks l locks = record l { locks = locks }
 
+abbrev pub with_leader : Leased → Option Lease → Leased
+with_leader l leader = record l { leader = leader }
+
+abbrev pub with_slots : Leased → Slots → Leased
+with_slots l slots = record l { slots = slots }
+
+abbrev pub lease_code : Coded Lease
+lease_code = coded× (coded_list coded_ℕ) coded_ℕ
+
 abbrev pub leases_code : Coded (List Lease)
-leases_code = coded_list (coded× (coded_list coded_ℕ) coded_ℕ)
+leases_code = coded_list lease_code
 
 abbrev pub lock_code : Coded Lock
 lock_code = code_by (Bytes × ℕ) (coded× (coded_list coded_ℕ) coded_ℕ) (λ l. (l.jid, l.deadline)) (λ p. record { jid = p.0; deadline = p.1 }) (λ _. refl)
 
 abbrev pub leased_code : Coded Leased
-leased_code = code_by (List Lease × (List Lease × Locks)) (coded× leases_code (coded× leases_code (coded_list (coded× (coded_list coded_ℕ) lock_code))))
-    (λ l. (l.beats, (l.recoveries, l.locks))) (λ p. record { beats = p.0; recoveries = p.1.0; locks = p.1.1 }) (λ _. refl)
+leased_code = code_by ((List Lease × (List Lease × Locks)) × (Option Lease × Slots))
+    (coded× (coded× leases_code (coded× leases_code (coded_list (coded× (coded_list coded_ℕ) lock_code)))) (coded× (coded_option lease_code) leases_code))
+    (λ l. ((l.beats, (l.recoveries, l.locks)), (l.leader, l.slots))) (λ p. record { beats = p.0.0; recoveries = p.0.1.0; locks = p.0.1.1; leader = p.1.0; slots = p.1.1 }) (λ _. refl)

@@ -1,4 +1,4 @@
--- The changes of a unique push, and of the end of a lock, are good, and need no cause.
+-- The changes of a unique push, and of the end of a lock, are good, and have causes.
 use Rattle.std.proofs.Common.{◌≡◌, List, [], ◌∷◌, refl, Bool, true, false, cond}
 use Rattle.std.specs.Prelude.{ℤ, Option, Some, None}
 use Rattle.sk_resp.specs.Spelling.{Bytes}
@@ -21,7 +21,9 @@ use Rattle.sk_model.specs.Room.{is_full}
 use Rattle.sk_model.specs.Sets.{add_as}
 use Rattle.sk_model.specs.Told.{push_to}
 use Rattle.sk_model.specs.Unique.{is_until, or_holder, push_locked, push_or_schedule, unique_push, unique_push_by, unique_push_of, unlocks, unlocks_at, unlocks_of}
-use Rattle.sk_model.proofs.Causing.{all_tame}
+use Rattle.sk_model.specs.Causes.{HaveCauses, IsLocking, IsUnlocking}
+use Rattle.sk_model.specs.Event.{Event}
+use Rattle.sk_model.proofs.Causing.{all_tame, causes_tame}
 use Rattle.sk_model.proofs.Good.{Good, good_nothing, good_add, good_locks, good_unlocks, then_others}
 use Rattle.sk_model.proofs.Sending.{add_each_good, choice}
 
@@ -42,20 +44,24 @@ of_good w until (Some h) = at_good w until h h.lock
 pub unlocks_good : (w : World) (until : Until) (text : Bytes) → Good w (unlocks until text)
 unlocks_good w until text = of_good w until (head text)
 
-unlock_tame : (h : Head) (b : Bool) → all_tame false (cond b (Unlocks (digest h) h.jid ∷ []) []) ≡ true
-unlock_tame h true = refl
-unlock_tame h false = refl
+module _ (w : World) (event : Event) where
+  abbrev C : World → List Change → Type 0
+  C v changes = HaveCauses w event false [] v changes
 
-at_tame : (until : Until) (h : Head) (lock : Option Lock) → all_tame false (unlocks_at until h lock) ≡ true
-at_tame until h None = refl
-at_tame until h (Some lock) = unlock_tame h (is_until until lock.until)
+  unlock_causes : (v : World) (h : Head) (b : Bool) → IsUnlocking w (digest h) h.jid event → C v (cond b (Unlocks (digest h) h.jid ∷ []) [])
+  unlock_causes v h true cause = (cause, tt)
+  unlock_causes v h false cause = tt
 
-of_tame : (until : Until) (found : Option Head) → all_tame false (unlocks_of until found) ≡ true
-of_tame until None = refl
-of_tame until (Some h) = at_tame until h h.lock
+  at_causes : (v : World) (until : Until) (h : Head) (lock : Option Lock) → IsUnlocking w (digest h) h.jid event → C v (unlocks_at until h lock)
+  at_causes v until h None cause = tt
+  at_causes v until h (Some lock) cause = unlock_causes v h (is_until until lock.until) cause
 
-pub unlocks_tame : (until : Until) (text : Bytes) → all_tame false (unlocks until text) ≡ true
-unlocks_tame until text = of_tame until (head text)
+  of_causes : (v : World) (until : Until) (found : Option Head) → ((h : Head) → found ≡ Some h → IsUnlocking w (digest h) h.jid event) → C v (unlocks_of until found)
+  of_causes v until None cause = tt
+  of_causes v until (Some h) cause = at_causes v until h h.lock (cause h refl)
+
+  pub unlocks_causes : (v : World) (until : Until) (text : Bytes) → ((h : Head) → head text ≡ Some h → IsUnlocking w (digest h) h.jid event) → C v (unlocks until text)
+  unlocks_causes v until text cause = of_causes v until (head text) cause
 
 -- ## A unique push
 
@@ -95,22 +101,27 @@ push_tame : (w : World) (text : Bytes) (score : Option ℤ) → all_tame false (
 push_tame w text None = push_to_tame text (head text)
 push_tame w text (Some score) = add_tame score text (row_of text (rows_at (Set Schedule) w.rows))
 
-locked_tame : (w : World) (h : Head) (lock : Lock) (text : Bytes) (score : Option ℤ) (found : Option Bytes) → all_tame false (or_holder found (push_locked w h lock text score)).changes ≡ true
-locked_tame w h lock text score None = push_tame w text score
-locked_tame w h lock text score (Some jid) = refl
+either_causes : (w : World) (event : Event) (v : World) (b : Bool) (one other : Outcome) → HaveCauses w event false [] v one.changes → HaveCauses w event false [] v other.changes → HaveCauses w event false [] v (cond b one other).changes
+either_causes w event v true one other f g = f
+either_causes w event v false one other f g = g
 
-either_tame : (b : Bool) (one other : Outcome) → all_tame false one.changes ≡ true → all_tame false other.changes ≡ true → all_tame false (cond b one other).changes ≡ true
-either_tame true one other f g = f
-either_tame false one other f g = g
+module _ (w : World) (event : Event) (text : Bytes) (score : Option ℤ) where
+  abbrev Locking : Head → Lock → Type 0
+  Locking h lock = IsLocking (digest h) h.jid lock.seconds event
 
-push_of_tame : (w : World) (text : Bytes) (score : Option ℤ) (h : Head) (lock : Option Lock) (bid : Option Bytes) → all_tame false (unique_push_of w text score h lock bid).changes ≡ true
-push_of_tame w text score h None bid = refl
-push_of_tame w text score h (Some lock) None = either_tame (is_full w (text ∷ [])) _ _ refl (locked_tame w h lock text score (holder_at (digest h) w.moment w.leases))
-push_of_tame w text score h (Some lock) (Some bid) = refl
+  locked_causes : (v : World) (h : Head) (lock : Lock) (found : Option Bytes) → Locking h lock → HaveCauses w event false [] v (or_holder found (push_locked v h lock text score)).changes
+  locked_causes v h lock None cause =
+      (cause, causes_tame w event false false [] (changed v (Locks (digest h) h.jid lock.seconds)) (push_or_schedule v text score) (λ e. absurd (cc e)) (push_tame v text score))
+  locked_causes v h lock (Some jid) cause = tt
 
-push_by_tame : (w : World) (text : Bytes) (score : Option ℤ) (found : Option Head) → all_tame false (unique_push_by w text score found).changes ≡ true
-push_by_tame w text score None = refl
-push_by_tame w text score (Some h) = push_of_tame w text score h h.lock h.bid
+  push_of_causes : (v : World) (h : Head) (lock : Option Lock) (bid : Option Bytes) → ((l : Lock) → lock ≡ Some l → Locking h l) → HaveCauses w event false [] v (unique_push_of v text score h lock bid).changes
+  push_of_causes v h None bid cause = tt
+  push_of_causes v h (Some lock) None cause = either_causes w event v (is_full v (text ∷ [])) _ _ tt (locked_causes v h lock (holder_at (digest h) v.moment v.leases) (cause lock refl))
+  push_of_causes v h (Some lock) (Some bid) cause = tt
 
-pub unique_push_tame : (w : World) (text : Bytes) (score : Option ℤ) → all_tame false (unique_push w text score).changes ≡ true
-unique_push_tame w text score = push_by_tame w text score (head text)
+  push_by_causes : (v : World) (found : Option Head) → ((h : Head) (l : Lock) → found ≡ Some h → h.lock ≡ Some l → Locking h l) → HaveCauses w event false [] v (unique_push_by v text score found).changes
+  push_by_causes v None cause = tt
+  push_by_causes v (Some h) cause = push_of_causes v h h.lock h.bid (λ l is. cause h l refl is)
+
+  pub unique_push_causes : (v : World) → ((h : Head) (l : Lock) → head text ≡ Some h → h.lock ≡ Some l → Locking h l) → HaveCauses w event false [] v (unique_push v text score).changes
+  unique_push_causes v cause = push_by_causes v (head text) cause

@@ -8,7 +8,7 @@ pub returns-in-Join-clause-ok : goal.returns-in-Join-clause-ok
 returns-in-Join-clause-ok c = run_every (world_in c.self.inside) c.args.self.now _ c.args.seat c.args.script (script.Join c.in-Join.ident) _ _ c.join.result c.self.view_is c.in-Join.is (λ reply comes. comes) c.join.ensures.ok
 
 pub returns-in-Start-clause-ok : goal.returns-in-Start-clause-ok
-returns-in-Start-clause-ok c = run_same (world_in c.self.inside) c.args.self.now _ c.args.seat c.args.script (script.Start c.in-Start.text) c.start.result c.self.view_is c.in-Start.is (c.start.ensures (world_in c.self.inside))
+returns-in-Start-clause-ok c = run_every (world_in c.self.inside) c.args.self.now _ c.args.seat c.args.script (script.Start c.in-Start.text) _ _ c.start.result c.self.view_is c.in-Start.is (λ reply comes. comes) c.start.ensures.ok
 
 pub returns-in-Ok-clause-ok : goal.returns-in-Ok-clause-ok
 returns-in-Ok-clause-ok c = run_every (world_in c.self.inside) c.args.self.now _ c.args.seat c.args.script (script.Ok c.in-Ok.text) _ _ c.succeed.result c.self.view_is c.in-Ok.is (λ reply comes. comes) c.succeed.ensures.ok
@@ -36,6 +36,9 @@ returns-in-Kill-clause-ok c = run_every (world_in c.self.inside) c.args.self.now
 
 pub returns-in-Rescue-clause-ok : goal.returns-in-Rescue-clause-ok
 returns-in-Rescue-clause-ok c = run_every (world_in c.self.inside) c.args.self.now _ c.args.seat c.args.script script.Rescue _ _ c.send-in-Rescue.result c.self.view_is c.in-Rescue.is (λ reply comes. comes) c.send-in-Rescue.ensures.ok
+
+pub returns-in-Upush-clause-ok : goal.returns-in-Upush-clause-ok
+returns-in-Upush-clause-ok c = run_every (world_in c.self.inside) c.args.self.now _ c.args.seat c.args.script (script.Upush c.in-Upush.text c.in-Upush.score) _ _ c.push_unique.result c.self.view_is c.in-Upush.is (λ reply comes. comes) c.push_unique.ensures.ok
 
 pub returns-in-Bpush-clause-ok : goal.returns-in-Bpush-clause-ok
 returns-in-Bpush-clause-ok c = run_every (world_in c.self.inside) c.args.self.now _ c.args.seat c.args.script (script.Bpush c.in-Bpush.bid c.in-Bpush.parent c.in-Bpush.complete c.in-Bpush.success c.in-Bpush.death c.in-Bpush.texts) _ _ c.push_batch.result c.self.view_is c.in-Bpush.is (λ reply comes. comes c.self.inside.moment) c.push_batch.ensures.ok
