@@ -39,3 +39,4 @@ pub mod Coming
 mod Worked
 mod WorkedBatches
 mod WorkedSeats
+mod WorkedLocks
