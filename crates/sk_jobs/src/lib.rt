@@ -1,4 +1,4 @@
-//! The commands of workers, and the store's own scripts: what moves jobs between queues, private lists and sets, and what is told of batches.
+//! The commands of workers, and the store's own commands: what moves jobs between queues, private lists and sets, and what is told of batches.
 #![tactic(auto)]
 
 mod batches;
@@ -16,7 +16,6 @@ mod runs;
 mod scripts;
 mod sending;
 mod status;
-mod stock;
 mod workers;
 
 pub use batches::{BatchWords, add_to_batch, batch_stat, push_batch};
@@ -24,8 +23,7 @@ pub use burials::bury;
 pub use processes::{beat, join};
 pub use releases::back;
 pub use runs::{discard, fail, start, succeed};
-pub use scripts::{SetScript, send};
+pub use scripts::{due, kill, rescue, revive};
 pub use status::{locate, numbers, status_page, tally};
 pub use std::alloc::AllocError as Memory;
-pub use stock::Stock;
 pub use workers::work;
