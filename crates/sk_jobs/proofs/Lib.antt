@@ -8,6 +8,6 @@ pub mod Fronts
 pub mod Passing
 pub mod Rescuing
 pub mod SentOn
-pub mod Stocking
 pub mod Telling
+pub mod Turning
 pub mod Working

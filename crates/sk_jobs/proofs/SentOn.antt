@@ -1,5 +1,5 @@
 -- Jobs that are sent on, one after another.
-use Rattle.std.proofs.Common.{◌≡◌, ◌+◌, ℕ, Bool, false, List, [], ◌∷◌, ◌++◌, refl, sym, ap, ap₂, subst, ◌∙◌, arith, append_assoc, append-nil, pos}
+use Rattle.std.proofs.Common.{◌≡◌, ◌+◌, List, [], ◌∷◌, ◌++◌, refl, sym, ap, ap₂, subst, ◌∙◌, arith, append_assoc, append-nil, pos}
 use Rattle.std.specs.Prelude.{Option}
 use Rattle.sk_resp.specs.Spelling.{Bytes}
 use Rattle.sk_batch.specs.declared.firing.Firing.{Firing}
@@ -9,16 +9,17 @@ use Rattle.sk_payload.specs.Head.{head}
 use Rattle.sk_payload.specs.declared.head.Head.{Head}
 use Rattle.sk_places.specs.declared.row.Row.{Row}
 use Rattle.sk_model.specs.World.{World}
-use Rattle.sk_places.specs.declared.row.Place.{Place}
 use Rattle.sk_places.specs.declared.row.Place.TheVariants.{Queue}
-use Rattle.sk_places.specs.Placed.{Placed, carried, moved_to}
+use Rattle.sk_places.specs.Placed.{carried}
 use Rattle.sk_places.specs.Rows.{take_row}
 use Rattle.sk_model.specs.Change.{perform}
-use Rattle.sk_model.specs.Jobs.{Sent, and_then, each}
+use Rattle.sk_model.specs.Jobs.{Sent, and_then, each, nothing}
 use Rattle.sk_model.specs.Told.{fired_texts, kind_text}
 use Rattle.sk_model.proofs.Good.{perform-append}
+use Rattle.sk_store.specs.Stored.{world}
+use Rattle.sk_store.specs.declared.store.Store.{Store}
 use Rattle.sk_jobs.specs.declared.report.Report.{Report}
-use Rattle.sk_jobs.specs.Sending.{IsSent, rows_in}
+use Rattle.sk_jobs.specs.Sending.{Carries, IsSent, Takes, rows_in}
 use Rattle.sk_jobs.proofs.Fronts.{front_taken, other_put}
 
 pub fired_append : (a b : List Firing) → fired_texts (a ++ b) ≡ fired_texts a ++ fired_texts b
@@ -93,9 +94,14 @@ all_sent way old now report all rest e left = done (subst (λ r. IsLeft way old 
 
 -- ## One job
 
--- a job in front of those that pass went to a queue, where none passes
-pub moved_left : (test : Place → Bool) (row : Row) (more : List Row) (p new : Placed) (queue : Bytes) (end : Side) → test (Queue queue) ≡ false → rows_in test p.rows ≡ row ∷ more → new ≡ moved_to Left row (Queue queue) (pos 0) end p → rows_in test new.rows ≡ more
-moved_left test row more p new queue end fails e f =
-    ap (λ (q : Placed). rows_in test q.rows) f
-    ∙ other_put (λ r. test r.place) end (carried row (Queue queue) (pos 0)) (take_row Left row p.rows) fails
-    ∙ front_taken (λ r. test r.place) row more p.rows e
+-- a job in front of its place went to a queue
+pub carried_left : (old new : Store) (row : Row) (queue : Bytes) (end : Side) → Carries old row queue end new → Takes (row ∷ []) old new
+carried_left old new row queue end e = λ test others aside front.
+    let rows : List Row = (world old).rows in
+    ap (λ (w : World). rows_in test w.rows) e
+    ∙ other_put (λ r. test r.place) end (carried row (Queue queue) (pos 0)) (take_row Left row rows) (aside.queues queue)
+    ∙ front_taken (λ r. test r.place) row others rows front
+
+-- what is told where nothing was sent on
+pub nothing_sent : (w : World) (report : Report) → report.moved ≡ 0 → report.buried ≡ 0 → report.fired.items ≡ [] → report.trimmed.items ≡ [] → IsSent w w report nothing
+nothing_sent w report none unburied fires texts = record { moved = none; buried = unburied; fired = fires; trimmed = texts; world = refl }

@@ -101,5 +101,5 @@ TakesFirst place old new = (row : Row) (more : List Row) → StandsFirst place o
 
 -- the row went to the dead set from another place
 pub record PutsDead (old : Store) (row : Row) (new : Store) : Type 0 where
-  pub world : world new ≡ perform (world old) (put_dead (world old) row)
+  pub put : world new ≡ perform (world old) (put_dead (world old) row)
   pub left : Takes (row ∷ []) old new

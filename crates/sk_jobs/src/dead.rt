@@ -84,8 +84,9 @@ pub fn trim_front(store: &mut Store, count: usize) -> Result<Vec<Word>, Memory>
 fn put_dead(store: &mut Store, from: &Place, text: &Word) -> Result<(), Memory>
     requires early { store.old.moment ≤ last_moment }
     requires alive { is_eq (place_cmp (Set Dead) from.now) ≡ false }
+    requires covered { AreCovered store.old }
     ensures ok { OnOk result ((row : Row) → IsNamed text.now from.now store.old row → PutsDead store.old row store.new) }
-    ensures lives { OnOk result ((world store.new).tally ≡ (world store.old).tally) }
+    ensures covered { OnOk result (AreCovered store.new) }
     ensures step { InStep store.old store.new }
 {
     let dead = Place::Set(Scored::Dead);

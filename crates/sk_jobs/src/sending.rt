@@ -21,8 +21,9 @@ use sk_store::Store;
 
 /// The first job of a place goes to an end of a queue.
 pub fn send_on(store: &mut Store, place: &Place, queue: Text, end: Side) -> Result<(), Memory>
+    requires { AreCovered store.old }
     ensures ok { OnOk result ((row : Row) (more : List Row) → StandsFirst place.now store.old row more → Carries store.old row queue end store.new) }
-    ensures lives { OnOk result ((world store.new).tally ≡ (world store.old).tally) }
+    ensures covered { OnOk result (AreCovered store.new) }
     ensures step { InStep store.old store.new }
 {
     let (queue, score) = (Place::Queue(queue), Score::of_moment(0));
