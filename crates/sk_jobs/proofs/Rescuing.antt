@@ -25,7 +25,7 @@ use Rattle.sk_batch.specs.declared.firing.Firing.{Firing}
 use Rattle.sk_leases.specs.Lists.{count_standing}
 use Rattle.sk_leases.specs.Leased.{Leased, recovered, standing}
 use Rattle.sk_jobs.specs.Sending.{IsAside, IsSent, rows_in}
-use Rattle.sk_jobs.proofs.SentOn.{IsLeft, fired_append, one_sent}
+use Rattle.sk_jobs.proofs.SentOn.{IsLeft, fired_append}
 
 -- ## One row
 
@@ -79,34 +79,6 @@ at_least n m e h = grind (arith, nat_tests, e, h)
 pub poisoned : (w : World) (jid : Bytes) (moment count : ℕ) (was : Leased) → w.moment ≡ moment → w.leases ≡ recovered jid moment was → count ≡ standing jid moment (recovered jid moment was) → 3 ≤ count → is_poison w jid ≡ true
 poisoned w jid moment count was now noted is enough =
     at_least count (standing jid w.moment w.leases) (is ∙ ap₂ (λ m l. standing jid m l) (sym now) (sym noted)) enough
-
--- ## The rows of a process
-
--- A private list is neither a queue nor the dead set.
-pub own_aside : (ident : Bytes) → IsAside (λ place. is_eq (place_cmp (Private ident) place))
-own_aside ident = record { queues = λ queue. refl; dead = refl }
-
--- a row in front, and more behind it
-pub record IsOne (own : List Row) : Type 0 where
-  pub row : Row
-  pub more : List Row
-  pub is : own ≡ row ∷ more
-
-pub one_of : (own : List Row) → 0 < length own → IsOne own
-one_of [] some = absurd (omega (arith, some))
-one_of (row ∷ more) some = record { row = row; more = more; is = refl }
-
-pub none_of : (n : ℕ) (own : List Row) → n ≡ length own → n ≤ 0 → own ≡ []
-none_of n [] e h = refl
-none_of n (row ∷ more) e h = absurd (omega (arith, e, h))
-
--- the first of them was rescued
-pub row_sent : (all own rest : List Row) (old now next : World) (report one told : Report) (first : IsOne own) → rest ≡ first.more → IsLeft rescue_row old now report all own
-    → IsSent now next one (rescue_row now first.row (head first.row.text)) → told.moved ≡ report.moved + one.moved → told.buried ≡ report.buried + one.buried → told.fired.items ≡ report.fired.items ++ one.fired.items → told.trimmed.items ≡ report.trimmed.items ++ one.trimmed.items
-    → IsLeft rescue_row old next told all rest
-row_sent all own rest old now next report one told first gone left sent moved buried fired trimmed =
-    subst (λ rows. IsLeft rescue_row old next told all rows) (sym gone)
-    (one_sent rescue_row old now next report one told all first.more first.row (subst (λ rows. IsLeft rescue_row old now report all rows) first.is left) sent moved buried fired trimmed)
 
 -- ## Rows of several processes
 

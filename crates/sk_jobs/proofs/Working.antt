@@ -35,7 +35,7 @@ use Rattle.sk_value.specs.declared.action.Action.{Action}
 use Rattle.sk_value.specs.declared.action.Action.TheVariants as action
 use Rattle.sk_value.specs.declared.edit.Edit.{Edit}
 use Rattle.sk_value.specs.declared.edit.Edit.TheVariants as edit
-use Rattle.sk_model.specs.Seats.{fetched_from, only, released_by, releases, releases_by, where_some}
+use Rattle.sk_model.specs.Seats.{fetched_from, only, released_by, releases, releases_by, where_plain, where_some}
 use Rattle.sk_model.specs.Workers.{back, fetch, give, give_row, release, release_of, retry, retry_pair, work, work_as, work_edit}
 use Rattle.sk_model.specs.Sets.{put_as, put_back}
 use Rattle.sk_model.specs.World.{World}
@@ -107,6 +107,10 @@ done_stage text work done = was_not (is_held_stage work.stage) (both (not (is_he
   was_not : (b : Bool) → not b ≡ true → b ≡ false
   was_not true e = absurd (cc e)
   was_not false e = refl
+
+-- what a client's seat may do
+pub plain_is : (phase : Phase) (o : Outcome) → phase ≡ Plain → where_plain phase o ≡ o
+plain_is phase o is = ap (λ ph. where_plain ph o) is
 
 -- ## The release
 

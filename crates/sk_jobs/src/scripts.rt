@@ -76,12 +76,14 @@ pub fn due(store: &mut Store, seat: u32, set: Scored, limit: i64) -> Result<Repl
     requires covered { AreCovered store.old }
     ensures { Runs store.old (where_plain (phase_of (world store.old) seat) (due (world store.old) set (nat_abs limit))) result store.new }
 {
-    if let Phase::Joined(..) = store.seats.get(seat) {
-        return Ok(refused(Refusal::OutOfTurn));
+    match store.seats.get(seat) {
+        Phase::Plain => {
+            store.begin();
+            let done = due_open(store, set, limit);
+            store.close(done)
+        }
+        _ => Ok(refused(Refusal::OutOfTurn)),
     }
-    store.begin();
-    let done = due_open(store, set, limit);
-    store.close(done)
 }
 
 // ## SK.KILL
@@ -123,12 +125,14 @@ pub fn kill(store: &mut Store, seat: u32, set: Scored, text: &Word) -> Result<Re
     requires covered { AreCovered store.old }
     ensures { Runs store.old (where_plain (phase_of (world store.old) seat) (kill (world store.old) set text.now)) result store.new }
 {
-    if let Phase::Joined(..) = store.seats.get(seat) {
-        return Ok(refused(Refusal::OutOfTurn));
+    match store.seats.get(seat) {
+        Phase::Plain => {
+            store.begin();
+            let done = kill_open(store, set, text);
+            store.close(done)
+        }
+        _ => Ok(refused(Refusal::OutOfTurn)),
     }
-    store.begin();
-    let done = kill_open(store, set, text);
-    store.close(done)
 }
 
 // ## SK.REVIVE
@@ -174,10 +178,12 @@ pub fn rescue(store: &mut Store, seat: u32) -> Result<Reply, Memory>
     requires covered { AreCovered store.old }
     ensures { Runs store.old (where_plain (phase_of (world store.old) seat) (rescue (world store.old))) result store.new }
 {
-    if let Phase::Joined(..) = store.seats.get(seat) {
-        return Ok(refused(Refusal::OutOfTurn));
+    match store.seats.get(seat) {
+        Phase::Plain => {
+            store.begin();
+            let done = rescue_open(store);
+            store.close(done)
+        }
+        _ => Ok(refused(Refusal::OutOfTurn)),
     }
-    store.begin();
-    let done = rescue_open(store);
-    store.close(done)
 }
