@@ -42,7 +42,9 @@ pub fn fetch(store: &mut Store, seat: u32, ident: Word, queue: Text) -> Result<R
     let text = payload.text().copy()?;
     let held = payload.copy()?;
     let (list, score) = (Place::Private(ident), Score::of_moment(0));
-    store.places.shift(&queue, Side::Right, list, score, Side::Left)?;
+    store
+        .places
+        .shift(&queue, Side::Right, list, score, Side::Left)?;
     store.seats.hold(seat, held);
     Ok(Reply::Bulk(text))
 }

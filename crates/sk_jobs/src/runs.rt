@@ -98,9 +98,7 @@ pub fn succeed(store: &mut Store, seat: u32, text: &Word) -> Result<Reply, Memor
     store.begin();
     let done = succeed_open(store, seat, text, at);
     let reply = store.close(done)?;
-    store
-        .seats
-        .stage(seat, at, Stage::Settled(End::Returned));
+    store.seats.stage(seat, at, Stage::Settled(End::Returned));
     Ok(reply)
 }
 
@@ -114,8 +112,6 @@ pub fn discard(store: &mut Store, seat: u32, text: &Word) -> Reply
         Ok(at) => at,
         Err(refusal) => return refused(refusal),
     };
-    store
-        .seats
-        .stage(seat, at, Stage::Settled(End::Discarded));
+    store.seats.stage(seat, at, Stage::Settled(End::Discarded));
     Reply::Say(Say::Ok)
 }

@@ -38,7 +38,7 @@ returns c =
     let same = seats_stay old c.begin.new.self c.bury_payload-done.new.store closed c.begin.ensures c.bury_payload-done.ensures.step c.in_ok-reply.ensures.ok in
     let alike = λ (jid : Bytes). stage_stays jid seat old.seats (is_buried_as payload) Put c.get.ensures.order (has_works phase c.in-Ok.at found.within) in
     let ran = whole old c.begin.new.self c.bury_payload-done.new.store closed (λ u. buries_text u payload) c.bury_payload-done.result _
-        c.requires.ready c.begin.ensures c.bury_payload-done.ensures.step c.bury_payload-done.ensures.ok c.in_ok-reply.ensures.same c.in_ok-reply.ensures.ok c.in_ok-reply.ensures.err in
+    c.requires.ready c.begin.ensures c.bury_payload-done.ensures.step c.bury_payload-done.ensures.ok c.in_ok-reply.ensures.same c.in_ok-reply.ensures.ok c.in_ok-reply.ensures.err in
     let next = staged_is old.seats closed.seats c.stage.new.self seat c.in-Ok.at (is_buried_as payload) Put same found c.stage.ensures in
     let after = world (record closed { seats = c.stage.new.self }) in
     let comes = buried_turned v (world closed) after seat phase payload reply alike ran.0 (ap (λ p. with_phases p (world closed)) next) in (

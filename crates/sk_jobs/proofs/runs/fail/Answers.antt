@@ -16,5 +16,5 @@ returns c =
     let phase = phase_of (world old) c.args.seat in
     let found = found_at c.get.result.now phase (is_held_as text) c.in-Ok.at c.get.ensures.is c.in-Ok.ensures.found in
     let ran = whole old c.begin.new.self c.fail_open-done.new.store c.close.new.self (λ v. and_tell Reported v text counts_failed) c.fail_open-done.result c.close.result
-        c.requires.ready c.begin.ensures c.fail_open-done.ensures.step c.fail_open-done.ensures.ok c.close.ensures.same c.close.ensures.ok c.close.ensures.err in
+    c.requires.ready c.begin.ensures c.fail_open-done.ensures.step c.fail_open-done.ensures.ok c.close.ensures.same c.close.ensures.ok c.close.ensures.err in
     subst (λ o. Runs old o c.close.result c.close.new.self) (sym (found_is phase (is_held_as text) c.in-Ok.at (λ ident. and_tell Reported (world old) text counts_failed) found)) ran

@@ -41,7 +41,7 @@ returns c =
     let same = seats_stay old c.begin.new.self c.succeed_open-done.new.store closed c.begin.ensures c.succeed_open-done.ensures.step c.in_ok-reply.ensures.ok in
     let alike = λ (jid : Bytes). stage_stays jid seat old.seats (is_held_as text) (Settled Returned) c.get.ensures.order (has_works phase c.in-Ok.at found.within) in
     let ran = whole old c.begin.new.self c.succeed_open-done.new.store closed (λ u. and_tell event.Returned u text counts_processed) c.succeed_open-done.result _
-        c.requires.ready c.begin.ensures c.succeed_open-done.ensures.step c.succeed_open-done.ensures.ok c.in_ok-reply.ensures.same c.in_ok-reply.ensures.ok c.in_ok-reply.ensures.err in
+    c.requires.ready c.begin.ensures c.succeed_open-done.ensures.step c.succeed_open-done.ensures.ok c.in_ok-reply.ensures.same c.in_ok-reply.ensures.ok c.in_ok-reply.ensures.err in
     let next = staged_is old.seats closed.seats c.stage.new.self seat c.in-Ok.at (is_held_as text) (Settled Returned) same found c.stage.ensures in
     let turn = staging (is_held_as text) (Settled Returned) phase in
     let after = world (record closed { seats = c.stage.new.self }) in

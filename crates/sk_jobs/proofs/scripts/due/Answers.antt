@@ -12,5 +12,5 @@ returns-in-Plain c =
     let old = c.args.store.now in
     let o = λ (v : World). due v c.args.set (nat_abs c.args.limit) in
     let ran = whole old c.begin.new.self c.due_open-done.new.store c.close.new.self o c.due_open-done.result c.close.result
-        c.requires.ready c.begin.ensures c.due_open-done.ensures.step c.due_open-done.ensures.ok c.close.ensures.same c.close.ensures.ok c.close.ensures.err in
+    c.requires.ready c.begin.ensures c.due_open-done.ensures.step c.due_open-done.ensures.ok c.close.ensures.same c.close.ensures.ok c.close.ensures.err in
     subst (λ outcome. Runs old outcome c.close.result c.close.new.self) (sym (plain_is (phase_of (world old) c.args.seat) (o (world old)) (sym c.get.ensures.is ∙ c.in-Plain.is))) ran

@@ -26,7 +26,7 @@ returns-in-Some-released_by-clause-ran c =
     let joined = sym c.get.ensures.is ∙ c.in-Joined.is in
     let row = c.in-Some-released_by.ensures in (
       subst (λ o. Comes w o c.release.result (world c.release.new.store))
-      (sym (release_is w c.args.seat (phase_of w c.args.seat) c.in-Some-released_by.ident c.in-Joined.ident c.in-Edit.key c.in-Some-released_by.text c.in-Joined.field-1 c.in-Edit.edit c.args.action joined c.in-Edit.is row.0 row.1)) c.release.ensures.done,
+          (sym (release_is w c.args.seat (phase_of w c.args.seat) c.in-Some-released_by.ident c.in-Joined.ident c.in-Edit.key c.in-Some-released_by.text c.in-Joined.field-1 c.in-Edit.edit c.args.action joined c.in-Edit.is row.0 row.1)) c.release.ensures.done,
       c.release.ensures.ready,
     )
 
