@@ -116,9 +116,9 @@ tell_apart : (p : Phases) (w : World) (event : Event) (text : Bytes) → Alike p
 tell_apart p w event text same = sym (told_apart p w event (head text) same) ∙ ap (λ (t : Told). perform (with_phases p w) t.changes) (sym (told_alike p w event (head text)))
 
 -- a job has returned, and then its seat turned
-pub returned_turned : (w new next : World) (event : Event) (seat : ℕ) (phase : Phase) (text : Bytes) (reply : Reply) → Alike (turned seat phase w.phases) w.phases
-    → Comes w (and_tell event w text counts_processed) reply new → next ≡ with_phases (turned seat phase w.phases) new → Comes w (and_tell event w text (Turns seat phase ∷ counts_processed)) reply next
-returned_turned w new next event seat phase text reply same comes e =
+pub returned_turned : (w new next : World) (event : Event) (seat : ℕ) (phase : Phase) (text : Bytes) (answer : Reply) → Alike (turned seat phase w.phases) w.phases
+    → Comes w (and_tell event w text counts_processed) answer new → next ≡ with_phases (turned seat phase w.phases) new → Comes w (and_tell event w text (Turns seat phase ∷ counts_processed)) answer next
+returned_turned w new next event seat phase text answer same comes e =
     let p : Phases = turned seat phase w.phases in
     let v : World = perform w counts_processed in
     record {
@@ -137,9 +137,9 @@ trims_leave w [] = refl
 trims_leave w (row ∷ rows) = trims_leave (moved w (Trim row)) rows
 
 -- a text was buried, and then its seat turned
-pub buried_turned : (w new next : World) (seat : ℕ) (phase : Phase) (text : Bytes) (reply : Reply) → Alike (turned seat (staging (is_buried_as text) Put phase) w.phases) w.phases
-    → Comes w (buries_text w text) reply new → next ≡ with_phases (turned seat (staging (is_buried_as text) Put phase) w.phases) new → Comes w (reports (bury_text w seat phase text)) reply next
-buried_turned w new next seat phase text reply same comes e =
+pub buried_turned : (w new next : World) (seat : ℕ) (phase : Phase) (text : Bytes) (answer : Reply) → Alike (turned seat (staging (is_buried_as text) Put phase) w.phases) w.phases
+    → Comes w (buries_text w text) answer new → next ≡ with_phases (turned seat (staging (is_buried_as text) Put phase) w.phases) new → Comes w (reports (bury_text w seat phase text)) answer next
+buried_turned w new next seat phase text answer same comes e =
     let after : Phase = staging (is_buried_as text) Put phase in
     let put : Change = put_back w Dead (moment_score w, text) in
     let u : World = changed w put in

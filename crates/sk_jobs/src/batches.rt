@@ -17,7 +17,7 @@ ghost use Rattle.sk_jobs.specs.Batching.{batch_in, unless_told};
 ghost use Rattle.sk_jobs.specs.Calls.{AreCovered};
 ghost use Rattle.sk_store.specs.Stored.{InStep, IsReady, Runs, world};
 
-use crate::calls::{call_all, push_job};
+use crate::calls::{call_all, push_job, word_of};
 use sk_batch::{Batch, BatchFault, Batches, Callbacks, Firing};
 use sk_payload::{Payload, payloads_of};
 use sk_places::Origin;
@@ -94,11 +94,10 @@ fn batch_of(
 fn jid_of(alloc: Global, payload: &Payload) -> Result<Option<Word>, Memory>
     ensures { IfOk result (λ jid. jid ≡ jid_of payload.now) }
 {
-    let Some(head) = payload.head() else {
-        return Ok(None);
-    };
-    let jid = head.jid.text().as_bytes().to_vec(alloc)?;
-    Ok(Some(Word::new(jid)))
+    match payload.jid() {
+        Some(jid) => Ok(Some(word_of(alloc, jid)?)),
+        None => Ok(None),
+    }
 }
 
 // The jobs that payloads name.

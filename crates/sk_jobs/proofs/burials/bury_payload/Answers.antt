@@ -5,7 +5,9 @@ use Rattle.sk_model.specs.Change.{changed}
 use Rattle.sk_model.specs.Jobs.{buried_by, moment_score}
 use Rattle.sk_model.specs.Sets.{put_back}
 use Rattle.sk_model.proofs.Coming.{if_ok}
+use Rattle.sk_places.specs.Rows.{row_of}
 use Rattle.sk_store.specs.Stored.{world}
+use Rattle.sk_jobs.specs.Sending.{dead_rows}
 use Rattle.sk_jobs.proofs.Burying.{buried_after}
 use Rattle.sk_jobs.proofs.Covering.{put_quiet, quiet_covered}
 use Rattle.sk_jobs.proofs.burials.bury_payload.Goals as goal
@@ -24,4 +26,4 @@ returns-clause-ok c =
 pub bury_put-requires-clause-covered : goal.bury_put-requires-clause-covered
 bury_put-requires-clause-covered c =
     let v = world c.args.store.now in
-    quiet_covered v (world c.put_back.new.store) (put_back v Dead (c.of_moment-score.result, c.args.payload) ∷ []) c.in_ok-put_back.ensures.ok (put_quiet Dead (c.of_moment-score.result, c.args.payload) _) c.requires.covered
+    quiet_covered v (world c.put_back.new.store) (put_back v Dead (c.of_moment-score.result, c.args.payload) ∷ []) c.in_ok-put_back.ensures.ok (put_quiet Dead (c.of_moment-score.result, c.args.payload) (row_of c.args.payload (dead_rows v))) c.requires.covered
