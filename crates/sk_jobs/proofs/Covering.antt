@@ -76,7 +76,7 @@ put_quiet set pair None = refl
 put_quiet set pair (Some row) = refl
 
 -- rows that go or move are no pushes
-without_lives : (o : Option Row) (p : Placed) → (without_if Left o p).lives ≡ p.lives
+pub without_lives : (o : Option Row) (p : Placed) → (without_if Left o p).lives ≡ p.lives
 without_lives None p = refl
 without_lives (Some row) p = refl
 

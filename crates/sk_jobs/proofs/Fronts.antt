@@ -42,7 +42,7 @@ others_behind test (suc n) (row ∷ rows) h e =
     let first : test row ≡ true = passes test row (take n rows) (row ∷ rows) e in
     grind (arith, e, first, others_behind test n rows (omega (arith, h)))
 
-take_none : (n : ℕ) → take {A = Row} n [] ≡ []
+pub take_none : (n : ℕ) → take {A = Row} n [] ≡ []
 take_none zero = refl
 take_none (suc n) = refl
 

@@ -9,16 +9,18 @@ use Rattle.sk_resp.specs.declared.reply.Reply.{Reply}
 use Rattle.sk_resp.specs.declared.reply.Reply.TheVariants as reply
 use Rattle.sk_cmd.specs.declared.argument.Scored.TheVariants.{Dead}
 use Rattle.sk_cmd.specs.declared.argument.Side.{Side}
+use Rattle.sk_cmd.specs.declared.argument.Side.TheVariants.{Left}
 use Rattle.sk_payload.specs.Head.{head, jid_of}
 use Rattle.sk_payload.specs.declared.head.Head.{Head}
 use Rattle.sk_value.specs.Answer.{counted, texts}
 use Rattle.sk_places.specs.Lives.{is_among, one_if, without_jid}
 use Rattle.sk_places.specs.Placed.{named}
-use Rattle.sk_places.specs.Rows.{put_row}
+use Rattle.sk_places.specs.Rows.{put_row, row_at}
 use Rattle.sk_places.specs.Totals.{count_end, count_push}
 use Rattle.sk_places.specs.declared.ending.Ending.TheVariants.{Muddled}
 use Rattle.sk_places.specs.declared.origin.Origin.{Origin}
 use Rattle.sk_places.specs.declared.origin.Origin.TheVariants.{Inner}
+use Rattle.sk_places.specs.declared.row.Place.TheVariants.{Queue}
 use Rattle.sk_places.specs.declared.row.Row.{Row}
 use Rattle.sk_places.specs.declared.totals.Totals.{Totals}
 use Rattle.sk_batch.specs.Told.{fires_of}
@@ -70,7 +72,7 @@ add_apart p w row end from same =
 
 push_apart : (p : Phases) (w : World) (text : Bytes) (found : Option Head) → Alike p w.phases → perform (with_phases p w) (push_to Inner text found) ≡ with_phases p (perform w (push_to Inner text found))
 push_apart p w text None same = refl
-push_apart p w text (Some h) same = add_apart p w _ _ Inner same
+push_apart p w text (Some h) same = add_apart p w (row_at (Queue h.queue) text) Left Inner same
 
 call_apart : (p : Phases) (w : World) (o : Option Bytes) → Alike p w.phases → perform (with_phases p w) (call o) ≡ with_phases p (perform w (call o))
 call_apart p w None same = refl

@@ -10,7 +10,7 @@ mod hands;
 mod processes;
 mod releases;
 mod report;
-mod rescue;
+mod rescues;
 mod retries;
 mod runs;
 mod scripts;

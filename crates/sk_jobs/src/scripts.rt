@@ -18,7 +18,7 @@ ghost use Rattle.sk_jobs.specs.Sending.{due_in, set_rows};
 use crate::calls::member_of;
 use crate::dead::bury;
 use crate::report::Report;
-use crate::rescue::rescue_open;
+use crate::rescues::rescue_open;
 use crate::sending::send_front;
 use sk_base::{Bound, Score};
 use sk_cmd::{Scored, Side};

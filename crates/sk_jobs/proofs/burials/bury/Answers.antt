@@ -23,7 +23,9 @@ stage-requires c =
     within_still old.seats c.close.new.self.seats c.args.seat c.in-Ok.at (is_buried_as payload) same found
 
 pub returns-in_err-reply : goal.returns-in_err-reply
-returns-in_err-reply c = undone_again c.args.store.now c.begin.new.self c.bury_payload-done.new.store c.close.new.self c.requires.ready c.begin.ensures c.bury_payload-done.ensures.step c.in_err-reply.ensures.err
+returns-in_err-reply c =
+    let same = undone_again c.args.store.now c.begin.new.self c.bury_payload-done.new.store c.close.new.self c.requires.ready c.begin.ensures c.bury_payload-done.ensures.step c.in_err-reply.ensures.err in
+    ?
 
 pub returns : goal.returns
 returns c =

@@ -12,5 +12,5 @@ returns c =
     let text = c.args.text.now in
     let phase = phase_of (world c.args.store.now) c.args.seat in
     let found = found_in phase c.in-Joined.field-0 c.in-Joined.works (is_held_as text) c.args.at (sym c.get.ensures.is ∙ c.in-Joined.is) c.requires in
-    let same = held_text text c.in-Joined.works c.get-2.result.now (c.get-2.ensures (is_held_as text) found) in
+    let same = held_text text c.in-Joined.works c.get-in-Joined.result.now (c.get-in-Joined.ensures (is_held_as text) found) in
     if_ok _ _ c.member_of.result (λ member is. is ∙ ap member_of same) c.member_of.ensures

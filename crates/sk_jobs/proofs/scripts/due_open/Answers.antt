@@ -1,11 +1,12 @@
-use Rattle.std.proofs.Common.{◌≡◌, IfOk, of_z, rules, subst, sym, to_z, w64}
+use Rattle.std.proofs.Common.{◌≡◌, IfOk, ap, of_z, rules, subst, sym, to_z, w64}
 use Rattle.std.specs.Prelude.{nat_abs}
 use Rattle.sk_cmd.specs.declared.argument.Scored.{Scored}
-use Rattle.sk_cmd.specs.declared.argument.Scored.TheVariants.{Retry, Schedule}
-use Rattle.sk_model.specs.Jobs.{due, nothing}
+use Rattle.sk_cmd.specs.declared.argument.Scored.TheVariants.{Dead, Retry, Schedule}
+use Rattle.sk_model.specs.Jobs.{due, each, nothing, reports, send}
 use Rattle.sk_model.specs.Outcome.{Comes}
 use Rattle.sk_model.proofs.Coming.{if_ok}
 use Rattle.sk_store.specs.Stored.{world}
+use Rattle.sk_jobs.proofs.Fronts.{take_none}
 use Rattle.sk_jobs.proofs.SentOn.{nothing_sent}
 use Rattle.sk_jobs.proofs.scripts.due_open.Goals as goal
 
@@ -28,5 +29,7 @@ returns-in-Retry-clause-ok c =
 pub returns-in-Dead-clause-ok : goal.returns-in-Dead-clause-ok
 returns-in-Dead-clause-ok c = if_ok _ _ c.told.result (λ reply tells.
     let v = world c.args.store.now in
-    subst (λ (s : Scored). Comes v (due v s (nat_abs c.args.limit)) reply v) (sym c.in-Dead.is)
-    (tells v v nothing (nothing_sent v c.nothing.result c.nothing.ensures.none.0 c.nothing.ensures.none.1 c.nothing.ensures.texts.0 c.nothing.ensures.texts.1))) c.told.ensures
+    let n = nat_abs c.args.limit in
+    let none : due v Dead n ≡ reports nothing = ap (λ rows. reports (each send v rows)) (take_none n) in
+    subst (λ (s : Scored). Comes v (due v s n) reply v) (sym c.in-Dead.is)
+    (subst (λ o. Comes v o reply v) (sym none) (tells v v nothing (nothing_sent v c.nothing.result c.nothing.ensures.none.0 c.nothing.ensures.none.1 c.nothing.ensures.texts.0 c.nothing.ensures.texts.1)))) c.told.ensures

@@ -5,4 +5,4 @@ use Rattle.sk_jobs.proofs.sending.send_on.Goals as goal
 
 pub returns-clause-covered : goal.returns-clause-covered
 returns-clause-covered c =
-    placed_covered c.args.store.now c.shift.new.self (ap (λ s. s.stands.lives) c.in_ok-shift.ensures.ok ∙ moved_lives _ (Queue c.args.queue) c.of_moment.result c.args.end c.args.store.now.places.stands) c.requires
+    placed_covered c.args.store.now c.shift.new.self (ap (λ s. s.stands.lives) c.in_ok-shift.ensures.ok ∙ moved_lives _ (Queue c.args.queue) c.of_moment-score.result c.args.end c.args.store.now.places.stands) c.requires

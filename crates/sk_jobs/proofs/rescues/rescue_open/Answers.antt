@@ -2,7 +2,7 @@ use Rattle.sk_model.proofs.Coming.{if_ok}
 use Rattle.sk_model.specs.Jobs.{each}
 use Rattle.sk_model.specs.Rescue.{left_rows, rescue_row}
 use Rattle.sk_store.specs.Stored.{world}
-use Rattle.sk_jobs.proofs.rescue.rescue_open.Goals as goal
+use Rattle.sk_jobs.proofs.rescues.rescue_open.Goals as goal
 
 pub returns-clause-ok : goal.returns-clause-ok
 returns-clause-ok c =

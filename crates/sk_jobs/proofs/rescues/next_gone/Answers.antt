@@ -5,7 +5,7 @@ use Rattle.sk_places.specs.declared.row.Place.TheVariants.{Private}
 use Rattle.sk_model.specs.Rescue.{is_left}
 use Rattle.sk_store.specs.Stored.{world}
 use Rattle.sk_jobs.proofs.Passing.{is_front, looked_up, none_left, passed_by, passes_one}
-use Rattle.sk_jobs.proofs.rescue.next_gone.Goals as goal
+use Rattle.sk_jobs.proofs.rescues.next_gone.Goals as goal
 
 pub returns-clause-next : goal.returns-clause-next
 returns-clause-next c =

@@ -12,7 +12,7 @@ use Rattle.sk_jobs.proofs.Calling.{on_ok}
 use Rattle.sk_jobs.proofs.Fronts.{front_named, front_text}
 use Rattle.sk_jobs.proofs.Rescuing.{noted_sent, poisoned}
 use Rattle.sk_jobs.proofs.SentOn.{carried_left}
-use Rattle.sk_jobs.proofs.rescue.rescue_first.Goals as goal
+use Rattle.sk_jobs.proofs.rescues.rescue_first.Goals as goal
 
 pub returns-then-recoveries-ge-MOST_RECOVERIES-clause-ok : goal.returns-then-recoveries-ge-MOST_RECOVERIES-clause-ok
 returns-then-recoveries-ge-MOST_RECOVERIES-clause-ok c =

@@ -8,7 +8,7 @@ use Rattle.sk_jobs.specs.Calls.{AreCovered}
 use Rattle.sk_jobs.specs.Rescuing.{own_rows}
 use Rattle.sk_jobs.specs.Sending.{IsAside, rows_in}
 use Rattle.sk_jobs.proofs.SentOn.{IsLeft}
-use Rattle.sk_jobs.proofs.rescue.rescue_list.Given as goal
+use Rattle.sk_jobs.proofs.rescues.rescue_list.Given as goal
 
 abbrev pub decreases-loop-left : goal.decreases-loop-left
 decreases-loop-left l = l.left

@@ -9,8 +9,8 @@ use Rattle.sk_places.specs.Rows.{rows_at}
 use Rattle.sk_store.specs.Stored.{world}
 use Rattle.sk_jobs.proofs.Fronts.{text_of_row}
 use Rattle.sk_jobs.proofs.Rescuing.{poison_sent, same_head}
-use Rattle.sk_jobs.proofs.rescue.bury_poison.Goals as goal
-use Rattle.sk_jobs.proofs.rescue.bury_poison.Goals.{in-Some+in_ok-forget, in_default}
+use Rattle.sk_jobs.proofs.rescues.bury_poison.Goals as goal
+use Rattle.sk_jobs.proofs.rescues.bury_poison.Goals.{in-Some+in_ok-forget, in_default}
 
 pub returns-clause-ok : goal.returns-clause-ok
 returns-clause-ok c = λ row found h named.

@@ -4,7 +4,7 @@ use Rattle.sk_store.specs.Stored.{InStep, world}
 use Rattle.sk_jobs.specs.Calls.{AreCovered}
 use Rattle.sk_jobs.specs.Rescuing.{IsPassed}
 use Rattle.sk_jobs.proofs.SentOn.{IsLeft}
-use Rattle.sk_jobs.proofs.rescue.rescue_all.Given as goal
+use Rattle.sk_jobs.proofs.rescues.rescue_all.Given as goal
 
 -- so many rows at most are still to be sent
 abbrev pub decreases-loop-after : goal.decreases-loop-after

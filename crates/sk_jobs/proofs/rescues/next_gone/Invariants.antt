@@ -2,7 +2,7 @@ use Rattle.std.proofs.Common.{filter, length}
 use Rattle.sk_store.specs.Stored.{world}
 use Rattle.sk_jobs.specs.Rescuing.{IsPassed}
 use Rattle.sk_jobs.proofs.Passing.{past}
-use Rattle.sk_jobs.proofs.rescue.next_gone.Given as goal
+use Rattle.sk_jobs.proofs.rescues.next_gone.Given as goal
 
 -- the rows behind the identities that were passed
 abbrev pub decreases-loop-ident : goal.decreases-loop-ident
