@@ -1,6 +1,7 @@
 -- What unique pushes come to, and what the end of a lock does.
-use Rattle.std.proofs.Common.{◌≡◌, ℕ, List, [], ◌∷◌, ◌++◌, refl, sym, ap, subst, ◌∙◌, true, false, cond}
-use Rattle.std.specs.Prelude.{ℤ, Option, Some, None, Result, IfOk, OnOk}
+use Rattle.std.proofs.Common.{◌≡◌, List, [], ◌∷◌, ◌++◌, refl, sym, ap, subst, ◌∙◌, true, false, cond, arith, length}
+use Rattle.std.proofs.lemmas.List.Sums.{sum_by-cons, sum-map}
+use Rattle.std.specs.Prelude.{ℤ, Option, Some, None}
 use Rattle.sk_resp.specs.Spelling.{Bytes}
 use Rattle.sk_resp.specs.declared.reply.Reply.{Reply}
 use Rattle.sk_resp.specs.declared.reply.Reply.TheVariants as reply
@@ -11,19 +12,12 @@ use Rattle.sk_payload.specs.declared.head.Head.{Head}
 use Rattle.sk_payload.specs.declared.head.Lock.{Lock}
 use Rattle.sk_model.specs.Change.{Change, perform}
 use Rattle.sk_model.specs.Outcome.{Comes, Outcome, refuses}
-use Rattle.sk_model.specs.Room.{is_full, where_room}
-use Rattle.sk_model.specs.declared.limits.Limits.{Limits}
-use Rattle.sk_seats.specs.Phases.{Phases}
+use Rattle.sk_model.specs.Room.{bytes_of, is_full, where_room}
 use Rattle.sk_model.specs.Unique.{or_holder, unique_push, unique_push_by, unique_push_of}
 use Rattle.sk_model.specs.World.{World}
 use Rattle.sk_model.proofs.Good.{perform-append}
 use Rattle.sk_leases.specs.Leased.{holder_at}
 use Rattle.sk_jobs.specs.Locking.{push_locked, push_wanted, wanted, wanted_by}
-use Rattle.sk_jobs.specs.Batching.{limited}
-use Rattle.sk_jobs.specs.Stocked.{at, begun_in, committed_in}
-use Rattle.sk_jobs.specs.declared.stock.Stock.{Stock}
-use Rattle.sk_jobs.proofs.Calling.{if_closed}
-use Rattle.sk_jobs.proofs.Telling.{closed_comes}
 use Rattle.sk_jobs.specs.declared.locking.WantedLock.{WantedLock}
 
 -- further changes of what came about
@@ -63,21 +57,12 @@ pub comes_locked : (u v : World) (text : Bytes) (score : Option ℤ) (lock : Wan
 comes_locked u v text score lock none done =
     subst (λ (found : Option Bytes). Comes u (or_holder found (push_locked u text score lock)) (reply.Say say.Ok) v) (sym none) (record { reply_is = refl; new_is = done })
 
--- A job that wants a lock, and for which there is room, is pushed in a step that is closed then.
-pub push_closed : {E : Type 0} (limits : Limits) (m : ℕ) (phases : Phases) (old begun mid new : Stock) (text payload : Bytes) (score : Option ℤ) (lock : WantedLock) (done r : Result Reply E)
-    → payload ≡ text → wanted (head payload) ≡ Some lock → ((w : World) → is_full (limited limits (at w m old phases)) (payload ∷ []) ≡ false)
-    → begun ≡ begun_in old → r ≡ done → OnOk r (new ≡ committed_in mid) → IfOk done (λ reply. (w : World) → Comes (at w m begun phases) (push_wanted (at w m begun phases) payload score lock) reply (at w m mid phases))
-    → IfOk r (λ reply. (w : World) → Comes (limited limits (at w m old phases)) (unique_push (limited limits (at w m old phases)) text score) reply (limited limits (at w m new phases)))
-push_closed limits m phases old begun mid new text payload score lock done r same is room begins closes commits comes =
-    if_closed _ _ _ done r closes (λ reply came committed. λ w.
-    let v : World = limited limits w in
-    let u : World = at v m old phases in
-    let kept : unique_push u text score ≡ push_wanted u payload score lock =
-        ap (λ (t : Bytes). unique_push u t score) (sym same)
-        ∙ wanted_push u payload score (head payload) lock is
-        ∙ ap (λ b. cond b (refuses Full) (push_wanted u payload score lock)) (room w) in
-    subst (λ (o : Outcome). Comes u o reply (at v m new phases)) (sym kept)
-    (closed_comes v m old begun mid new phases phases phases (λ x. push_wanted x payload score lock) reply begins committed refl (came v))) comes commits
+-- a job that wants a lock, and for which there is room
+pub kept_push : (u : World) (text payload : Bytes) (score : Option ℤ) (lock : WantedLock) → payload ≡ text → wanted (head payload) ≡ Some lock → is_full u (payload ∷ []) ≡ false → unique_push u text score ≡ push_wanted u payload score lock
+kept_push u text payload score lock same is room =
+    ap (λ (t : Bytes). unique_push u t score) (sym same)
+    ∙ wanted_push u payload score (head payload) lock is
+    ∙ ap (λ b. cond b (refuses Full) (push_wanted u payload score lock)) room
 
 -- It wants a lock, and the store is full.
 pub push_full : (u : World) (text payload : Bytes) (score : Option ℤ) (lock : WantedLock) (reply_ : Reply) → payload ≡ text → wanted (head payload) ≡ Some lock → is_full u (payload ∷ []) ≡ true
@@ -88,3 +73,8 @@ push_full u text payload score lock reply_ same is full said =
         ∙ wanted_push u payload score (head payload) lock is
         ∙ ap (λ b. cond b (refuses Full) (push_wanted u payload score lock)) full in
     subst (λ (o : Outcome). Comes u o reply_ u) (sym refused) (record { reply_is = said; new_is = refl })
+
+-- ## Room
+
+pub size_is : (payload text : Bytes) → text ≡ payload → length text ≡ bytes_of (payload ∷ [])
+size_is payload text same = omega (arith, sum_by-cons length payload [], sum-map length (payload ∷ []), ap length same)

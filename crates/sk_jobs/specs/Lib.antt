@@ -3,7 +3,5 @@ pub mod Calls
 pub mod Counting
 pub mod Locking
 pub mod Rescuing
-pub mod Scripts
 pub mod Seated
 pub mod Sending
-pub mod Stocked

@@ -10,7 +10,7 @@ use Rattle.sk_resp.specs.declared.say.Say.TheVariants as say
 use Rattle.sk_model.specs.Outcome.{Outcome}
 use Rattle.sk_model.specs.Unique.{or_holder, push_or_schedule}
 use Rattle.sk_model.specs.World.{World}
-use Rattle.sk_leases.specs.Leased.{Leased, holder_at}
+use Rattle.sk_leases.specs.Leased.{holder_at}
 use Rattle.sk_jobs.specs.declared.locking.HeldLock.{HeldLock}
 use Rattle.sk_jobs.specs.declared.locking.WantedLock.{WantedLock}
 
@@ -36,7 +36,3 @@ push_locked w text score lock = record { reply = reply.Say say.Ok; changes = Loc
 -- or the holder is named
 abbrev pub push_wanted : World → Bytes → Option ℤ → WantedLock → Outcome
 push_wanted w text score lock = or_holder (holder_at lock.digest w.moment w.leases) (push_locked w text score lock)
-
--- a world with these leases
-abbrev pub with_leases : World → Leased → World
-with_leases w leases = record w { leases = leases }

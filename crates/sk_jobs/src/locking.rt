@@ -1,20 +1,21 @@
 // The locks of unique jobs: which lock a job wants, and which one it lets go of when it starts or has returned (Sidekiq's wiki, "Ent Unique Jobs").
-ghost use Rattle.std.specs.Prelude.{◌≡◌, IfOk, None};
+ghost use Rattle.std.specs.Prelude.{◌≡◌, IfOk};
 ghost use Rattle.sk_payload.specs.Head.{head as head_of};
 ghost use Rattle.sk_model.specs.Change.{perform};
 ghost use Rattle.sk_model.specs.Digest.{digest as digest_in};
 ghost use Rattle.sk_model.specs.Unique.{is_until, unlocks};
-ghost use Rattle.sk_model.specs.World.{World};
+ghost use Rattle.sk_model.specs.World.{phase_of};
 ghost use Rattle.sk_seats.specs.Works.{is_held_as};
-ghost use Rattle.sk_jobs.specs.Locking.{lets_go, wanted, with_leases};
+ghost use Rattle.sk_store.specs.Stored.{IsReady, world};
+ghost use Rattle.sk_jobs.specs.Locking.{lets_go, wanted};
 ghost use Rattle.sk_jobs.specs.Seated.{IsFound};
 
 use crate::calls::word_of;
 use crate::lock_digest::digest;
-use sk_leases::Leases;
 use sk_payload::{Head, Payload, Until};
 use sk_resp::{Memory, Text, Word};
 use sk_seats::Phase;
+use sk_store::Store;
 use std::alloc::Global;
 
 /// A lock that a job may hold.
@@ -93,28 +94,28 @@ fn held_lock(alloc: Global, until: Until, payload: &Payload) -> Result<Option<He
 
 /// The same for a job of this text in the seat's hands.
 pub fn held_lock_at(
-    alloc: Global,
+    store: &Store,
     until: Until,
-    phase: &Phase,
+    seat: u32,
     text: &Word,
     at: usize,
 ) -> Result<Option<HeldLock>, Memory>
-    requires { IsFound (is_held_as text.now) phase.now at }
+    requires { IsFound (is_held_as text.now) (phase_of (world store.now) seat) at }
     ensures { IfOk result (λ lock. lets_go lock ≡ unlocks until text.now) }
 {
-    match phase {
+    match store.seats.get(seat) {
         Phase::Plain => unreachable!(),
-        Phase::Joined(_, works) => held_lock(alloc, until, &works.get(at).payload),
+        Phase::Joined(_, works) => held_lock(store.alloc, until, &works.get(at).payload),
     }
 }
 
 /// The job lets go of the lock, if it holds it. Takes no memory.
-pub fn let_go(leases: &mut Leases, lock: Option<HeldLock>)
-    requires { leases.old.stood ≡ None }
-    ensures is { (w : World) → with_leases w leases.new.stands ≡ perform (with_leases w leases.old.stands) (lets_go lock) }
-    ensures closed { leases.new.stood ≡ None }
+pub fn let_go(store: &mut Store, lock: Option<HeldLock>)
+    requires { IsReady store.old }
+    ensures world { world store.new ≡ perform (world store.old) (lets_go lock) }
+    ensures ready { IsReady store.new }
 {
     if let Some(lock) = lock {
-        leases.unlock(lock.digest, &lock.jid);
+        store.leases.unlock(lock.digest, &lock.jid);
     }
 }
