@@ -13,7 +13,7 @@ use Rattle.sk_seats.proofs.Seating.{has_works, stage_stays}
 use Rattle.sk_store.proofs.Steps.{seated_ready, seats_stay, undone_again, whole}
 use Rattle.sk_store.specs.Stored.{world}
 use Rattle.sk_jobs.specs.Calls.{counts_processed}
-use Rattle.sk_jobs.proofs.Turning.{returned_turned, staged_is, with_phases, within_still}
+use Rattle.sk_jobs.proofs.Turning.{returned_turned, staged_is, starved, with_phases, within_still}
 use Rattle.sk_jobs.proofs.Working.{found_at, found_is}
 use Rattle.sk_jobs.proofs.runs.succeed.Goals as goal
 
@@ -28,7 +28,7 @@ stage-requires c =
 pub returns-in_err-reply : goal.returns-in_err-reply
 returns-in_err-reply c =
     let same = undone_again c.args.store.now c.begin.new.self c.succeed_open-done.new.store c.close.new.self c.requires.ready c.begin.ensures c.succeed_open-done.ensures.step c.in_err-reply.ensures.err in
-    ?
+    starved c.args.store.now c.close.new.self _ c.from_residual.result c.from_residual.ensures.0 same
 
 pub returns : goal.returns
 returns c =
