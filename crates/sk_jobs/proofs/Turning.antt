@@ -1,6 +1,6 @@
 -- A seat that turns once a step is closed may as well have turned at its begin, where the same jobs stay in the seats' hands.
 use Rattle.std.proofs.Common.{◌≡◌, ◌<◌, ◌∙◌, ℕ, ◌+◌, Bool, List, [], ◌∷◌, ap, ap₂, length, not, position, refl, subst, sym}
-use Rattle.std.specs.Prelude.{Option, Some, None, ◌&&◌, cond}
+use Rattle.std.specs.Prelude.{Option, Some, None, Result, Ok, Err, IsErr, ◌&&◌, cond}
 use Rattle.std.specs.BTreeSet.{insert_key}
 use Rattle.sk_resp.specs.Reply.{wire}
 use Rattle.sk_resp.specs.Spelling.{Bytes}
@@ -36,12 +36,14 @@ use Rattle.sk_seats.specs.declared.work.Work.{Work}
 use Rattle.sk_model.specs.Change.{Add, Change, Fire, Moves, Tells, Trim, Turns, changed, moved, perform}
 use Rattle.sk_model.specs.Jobs.{moment_score, reports}
 use Rattle.sk_model.specs.Live.{born, count_job, stands}
-use Rattle.sk_model.specs.Outcome.{Comes}
+use Rattle.sk_model.specs.Outcome.{Comes, Outcome}
 use Rattle.sk_model.specs.Sets.{put_back}
 use Rattle.sk_model.specs.Told.{Told, and_tell, call, fire_all, fired, push_to, tell, tell_in, tell_of}
 use Rattle.sk_model.specs.Workers.{bury_text}
 use Rattle.sk_model.specs.World.{World}
 use Rattle.sk_model.proofs.Good.{perform-append}
+use Rattle.sk_store.specs.Stored.{Runs}
+use Rattle.sk_store.specs.declared.store.Store.{Store}
 use Rattle.sk_jobs.specs.Calls.{counts_processed}
 use Rattle.sk_jobs.specs.Seated.{IsFound}
 use Rattle.sk_jobs.specs.Sending.{buries_text, texts_of, trims}
@@ -170,3 +172,8 @@ staged_is was now next seat at test stage same found staged =
 
 pub within_still : (was now : Phases) (seat at : ℕ) (test : Work → Bool) → now ≡ was → IsFound test (phase_in was seat) at → at < length (works_of (phase_in now seat))
 within_still was now seat at test same found = subst (λ (p : Phases). at < length (works_of (phase_in p seat))) (sym same) found.within
+
+-- where memory was wanting the store is as before
+pub starved : {E : Type 0} (old new : Store) (o : Outcome) (r : Result Reply E) → IsErr r → new ≡ old → Runs old o r new
+starved old new o (Ok x) is same = absurd (cc is)
+starved old new o (Err m) is same = same

@@ -10,7 +10,7 @@ use Rattle.sk_model.specs.World.{phase_of}
 use Rattle.sk_store.proofs.Steps.{seated_ready, seats_stay, undone_again, whole}
 use Rattle.sk_store.specs.Stored.{world}
 use Rattle.sk_jobs.specs.Sending.{buries_text}
-use Rattle.sk_jobs.proofs.Turning.{buried_turned, staged_is, with_phases, within_still}
+use Rattle.sk_jobs.proofs.Turning.{buried_turned, staged_is, starved, with_phases, within_still}
 use Rattle.sk_jobs.proofs.Working.{found_at, found_is}
 use Rattle.sk_jobs.proofs.burials.bury.Goals as goal
 
@@ -25,7 +25,7 @@ stage-requires c =
 pub returns-in_err-reply : goal.returns-in_err-reply
 returns-in_err-reply c =
     let same = undone_again c.args.store.now c.begin.new.self c.bury_payload-done.new.store c.close.new.self c.requires.ready c.begin.ensures c.bury_payload-done.ensures.step c.in_err-reply.ensures.err in
-    ?
+    starved c.args.store.now c.close.new.self _ c.from_residual-in_err-reply.result c.from_residual-in_err-reply.ensures.0 same
 
 pub returns : goal.returns
 returns c =

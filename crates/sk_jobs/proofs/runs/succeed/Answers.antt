@@ -16,7 +16,7 @@ use Rattle.sk_seats.proofs.Seating.{has_works, stage_stays}
 use Rattle.sk_store.proofs.Steps.{seated_ready, seats_stay, undone_again, whole}
 use Rattle.sk_store.specs.Stored.{world}
 use Rattle.sk_jobs.specs.Calls.{counts_processed}
-use Rattle.sk_jobs.proofs.Turning.{returned_turned, staged_is, with_phases, within_still}
+use Rattle.sk_jobs.proofs.Turning.{returned_turned, staged_is, starved, with_phases, within_still}
 use Rattle.sk_jobs.proofs.UniquePushes.{comes_more}
 use Rattle.sk_jobs.proofs.Working.{found_at, found_is}
 use Rattle.sk_jobs.proofs.runs.succeed.Goals as goal
@@ -32,7 +32,7 @@ stage-requires c =
 pub returns-in_err-reply : goal.returns-in_err-reply
 returns-in_err-reply c =
     let same = undone_again c.args.store.now c.begin.new.self c.succeed_open-done.new.store c.close.new.self c.requires.ready c.begin.ensures c.succeed_open-done.ensures.step c.in_err-reply.ensures.err in
-    same
+    starved c.args.store.now c.close.new.self _ c.from_residual-in_err-reply.result c.from_residual-in_err-reply.ensures.0 same
 
 pub returns : goal.returns
 returns c =
@@ -59,4 +59,8 @@ returns c =
     )
 
 pub let_go-requires : goal.let_go-requires
-let_go-requires c = ?
+let_go-requires c =
+    let old = c.args.store.now in
+    let ran = whole old c.begin.new.self c.succeed_open-done.new.store c.close.new.self (λ u. and_tell event.Returned u c.args.text.now counts_processed) c.succeed_open-done.result _
+    c.requires.ready c.begin.ensures c.succeed_open-done.ensures.step c.succeed_open-done.ensures.ok c.in_ok-reply.ensures.same c.in_ok-reply.ensures.ok c.in_ok-reply.ensures.err in
+    seated_ready c.close.new.self c.stage.new.self ran.1
