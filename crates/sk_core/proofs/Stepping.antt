@@ -1,4 +1,4 @@
--- What an action, a worker's command, a script and a step come to, from a world that is the same.
+-- What a step comes to, and that it keeps the laws.
 use Rattle.std.proofs.Common.{◌≡◌, ℕ, ℤ, refl, sym, ap, subst, ◌∙◌, arith, pos, ◌&&◌, Bool, true, false}
 use Rattle.std.specs.Prelude.{List, Some, None, Result, IfOk, cond}
 use Rattle.std.specs.Ordering.{int_cmp, is_eq}
@@ -36,32 +36,7 @@ use Rattle.sk_model.proofs.Covering.{covered_none}
 use Rattle.sk_model.proofs.Runs.{sound_first}
 use Rattle.sk_core.specs.Whole.{KeepsLaws}
 
--- ## Every action
-
--- what an action comes to from a world that is the same
-pub from_same : (v s after : World) (a b : Action) (reply : Reply) → v ≡ s → a ≡ b → Comes v (act v b) reply after → Comes s (act s a) reply after
-from_same v s after a b reply e f comes = subst (λ u. Comes u (act u a) reply after) e (subst (λ c. Comes v (act v c) reply after) (sym f) comes)
-
--- the same, where something is known of every world
-pub from_every : (v s after : World) (a b : Action) (Q : World → Reply → Type 0) (E : Type 0) (r : Result Reply E) → v ≡ s → a ≡ b → ((reply : Reply) → Q v reply → Comes v (act v b) reply after)
-    → IfOk r (λ reply. (w : World) → Q w reply) → IfOk r (λ reply. Comes s (act s a) reply after)
-from_every v s after a b Q E r e f gives ok = if_ok (λ reply. (w : World) → Q w reply) (λ reply. Comes s (act s a) reply after) r (λ reply q. from_same v s after a b reply e f (gives reply (q v))) ok
-
--- ## Every script
-
-pub run_same : (v s after : World) (seat : ℕ) (a b : ScriptCommand) (reply : Reply) → v ≡ s → a ≡ b → Comes v (run v seat (phase_of v seat) b) reply after → Comes s (run s seat (phase_of s seat) a) reply after
-run_same v s after seat a b reply e f comes = subst (λ u. Comes u (run u seat (phase_of u seat) a) reply after) e (subst (λ c. Comes v (run v seat (phase_of v seat) c) reply after) (sym f) comes)
-
-pub run_every : (v s after : World) (seat : ℕ) (a b : ScriptCommand) (Q : World → Reply → Type 0) (E : Type 0) (r : Result Reply E) → v ≡ s → a ≡ b → ((reply : Reply) → Q v reply → Comes v (run v seat (phase_of v seat) b) reply after)
-    → IfOk r (λ reply. (w : World) → Q w reply) → IfOk r (λ reply. Comes s (run s seat (phase_of s seat) a) reply after)
-run_every v s after seat a b Q E r e f gives ok = if_ok (λ reply. (w : World) → Q w reply) (λ reply. Comes s (run s seat (phase_of s seat) a) reply after) r (λ reply q. run_same v s after seat a b reply e f (gives reply (q v))) ok
-
 -- ## A worker's command on keys
-
-pub work_every : (v s after : World) (seat : ℕ) (a : Action) (Q : World → Reply → Type 0) (E : Type 0) (r : Result Reply E) → v ≡ s → ((reply : Reply) → Q v reply → Comes v (work v seat (phase_of v seat) a) reply after)
-    → IfOk r (λ reply. (w : World) → Q w reply) → IfOk r (λ reply. Comes s (work s seat (phase_of s seat) a) reply after)
-work_every v s after seat a Q E r e gives ok =
-    if_ok (λ reply. (w : World) → Q w reply) (λ reply. Comes s (work s seat (phase_of s seat) a) reply after) r (λ reply q. subst (λ u. Comes u (work u seat (phase_of u seat) a) reply after) e (gives reply (q v))) ok
 
 either_private : (b : Bool) → is_private (cond b class.Private class.NoPrivate) ≡ true
 either_private true = refl

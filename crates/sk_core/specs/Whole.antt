@@ -1,33 +1,36 @@
--- What the parts of the store hold, as a world.
-use Rattle.std.specs.Prelude.{◌≤◌}
-use Rattle.sk_base.specs.Score.{last_moment}
+-- What the store serves, and what it keeps.
+use Rattle.std.specs.Prelude.{ℕ, Bool, ◌||◌, cond}
+use Rattle.sk_resp.specs.declared.refusal.Refusal.TheVariants.{OutOfTurn}
+use Rattle.sk_resp.specs.declared.reply.Reply.{Reply}
+use Rattle.sk_cmd.specs.declared.command.Command.{Command}
+use Rattle.sk_value.specs.declared.action.Action.{Action}
+use Rattle.sk_seats.specs.Phases.{is_plain}
+use Rattle.sk_seats.specs.declared.phase.Phase.{Phase}
 use Rattle.sk_model.specs.Covered.{IsCovered}
 use Rattle.sk_model.specs.Life.{IsSound}
+use Rattle.sk_model.specs.Outcome.{Comes, Outcome, refuses}
+use Rattle.sk_model.specs.Seats.{adds, is_workers}
+use Rattle.sk_model.specs.Step.{Steps, act}
+use Rattle.sk_model.specs.Workers.{work}
 use Rattle.sk_model.specs.World.{World}
-use Rattle.sk_jobs.specs.Stocked.{IsClosed}
-use Rattle.sk_core.specs.declared.parts.Parts.TheInside.{Inside}
+use Rattle.sk_store.specs.Stored.{IsReady, world}
+use Rattle.sk_store.specs.declared.store.Store.{Store}
 
-abbrev pub world_in : Inside → World
-world_in parts = record {
-  limits = parts.limits;
-  moment = parts.moment;
-  rows = parts.stock.places.stands.rows;
-  names = parts.stock.places.stands.names;
-  live = parts.stock.places.stands.lives.live;
-  tally = parts.stock.places.stands.lives.totals;
-  keys = parts.keys;
-  phases = parts.seats;
-  counters = parts.stock.counters.stands;
-  leases = parts.stock.leases.stands;
-  batches = parts.stock.batches.stands;
-}
+-- What a seat in this phase sends, by whether its command only reads: a worker's command, or one that all seats may send, or, from a Plain seat, any
+-- other.
+abbrev pub sent_by : World → ℕ → Phase → Bool → Action → Outcome
+sent_by w seat phase reads action = cond (is_workers action) (work w seat phase action) (cond (is_plain phase || (reads || adds action)) (act w action) (refuses OutOfTurn))
 
--- no step is open, and the moment is one that is told apart
-pub record IsKept (parts : Inside) : Type 0 where
-  pub closed : IsClosed parts.stock
-  pub early : parts.moment ≤ last_moment
+-- The store did what it makes of the command at this moment, or starved.
+abbrev pub Serves : Store → ℕ → ℕ → Command → Reply → Store → Type 0
+Serves old seat now command reply new = (o : Outcome) × Steps (world old) seat now command o × Comes (world old) o reply (world new)
 
 -- Each live job is kept, each pushed row is accounted for, and the callbacks that were pushed are no more than were fired.
 pub record KeepsLaws (w : World) : Type 0 where
   pub sound : IsSound w
   pub covered : IsCovered w.tally.inner w.batches
+
+-- no step is open, and the laws are kept
+pub record IsKept (s : Store) : Type 0 where
+  pub ready : IsReady s
+  pub laws : KeepsLaws (world s)

@@ -4,12 +4,12 @@ ghost use Rattle.sk_model.specs.Step.{is_script_built};
 
 use sk_cmd::ScriptCommand;
 
-/// The scripts that are built: all but those on locks and on periodic jobs.
+/// The scripts that are built: all but those on periodic jobs.
 pub fn is_script_built(script: &ScriptCommand) -> bool
     ensures { result ≡ is_script_built script.now }
 {
     match script {
-        ScriptCommand::Upush(_, _) | ScriptCommand::Lead(_) | ScriptCommand::Cron(..) => false,
+        ScriptCommand::Lead(_) | ScriptCommand::Cron(..) => false,
         _ => true,
     }
 }

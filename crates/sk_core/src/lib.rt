@@ -2,7 +2,7 @@
 #![tactic(auto)]
 
 mod built;
-mod parts;
+mod dispatch;
 mod rights;
 mod store;
 

@@ -7,19 +7,21 @@ ghost use Rattle.sk_model.specs.Step.{Steps, cut};
 ghost use Rattle.sk_model.specs.World.{first, phase_of};
 ghost use Rattle.sk_jobs.specs.Counting.{tally_of};
 
-use crate::parts::Parts;
+use crate::dispatch::step;
 use sk_cmd::Command;
+use sk_jobs::{numbers, tally};
 use sk_model::Limits;
 use sk_resp::{Memory, Reply};
 use sk_seats::Phase;
 use sk_status::{Numbers, Tally};
+use sk_store::Store;
 use std::alloc::Global;
 use std::marker::Model;
 
 /// All that the store keeps. Contracts see it as the abstract store's world, in which each live job is kept and each pushed row is accounted for.
 #[derive(Drop)]
 pub struct Core {
-    parts: Parts,
+    store: Store,
 }
 
 impl Model for Core {
@@ -27,11 +29,13 @@ impl Model for Core {
 
     ghost Value = { World };
 
-    ghost view = { λ core. core.parts };
+    ghost use Rattle.sk_store.specs.Stored.{world};
 
-    ghost use Rattle.sk_core.specs.Whole.{KeepsLaws};
+    ghost view = { λ core. world core.store };
 
-    ghost invariant = { λ core. KeepsLaws core.parts };
+    ghost use Rattle.sk_core.specs.Whole.{IsKept};
+
+    ghost invariant = { λ core. IsKept core.store };
 }
 
 impl Core {
@@ -41,7 +45,7 @@ impl Core {
         ensures { result ≡ first limits }
     {
         Core {
-            parts: Parts::new(alloc, limits),
+            store: Store::new(alloc, limits),
         }
     }
 
@@ -51,28 +55,28 @@ impl Core {
     pub fn step(&mut self, seat: u32, now: u64, command: Command) -> Reply
         ensures { (o : Outcome) × Steps self.old seat now command o × Comes self.old o result self.new }
     {
-        self.parts.step(seat, now, command)
+        step(&mut self.store, seat, now, command)
     }
 
     /// The seat is cut off: it is Plain from then on, and nothing else changes. Not even time goes on. Takes no memory.
     pub fn cut(&mut self, seat: u32)
         ensures { self.new ≡ perform self.old (cut seat).changes }
     {
-        self.parts.cut(seat);
+        self.store.seats.cut(seat);
     }
 
     /// What the seat is doing. Logarithmic.
     pub fn phase(&self, seat: u32) -> &Phase
         ensures { result.now ≡ phase_of self.now seat }
     {
-        self.parts.phase(seat)
+        self.store.seats.get(seat)
     }
 
     /// The numbers that the store tells of itself, those of the page of `SK.STATUS`. Looks at the queues and at the batches one after another.
     pub fn numbers(&self) -> Result<Numbers, Memory>
         ensures { IfOk result (λ n. n ≡ numbers self.now) }
     {
-        self.parts.numbers()
+        numbers(&self.store)
     }
 
     /// The rows that were ever pushed, by how they came, and their jobs, by how they ended. It balances: each row that was pushed had no head, or
@@ -81,6 +85,6 @@ impl Core {
         ensures is { result ≡ tally_of self.now }
         ensures balanced { result.outside + result.inner ≡ result.bare + result.again + result.live + result.returned + result.discarded + result.deleted + result.trimmed + result.muddled }
     {
-        self.parts.tally()
+        tally(&self.store)
     }
 }

@@ -1,19 +1,17 @@
 -- The callbacks that were pushed are no more than were fired, before a batch is told and after it.
-use Rattle.std.proofs.Common.{◌≡◌, ◌<◌, ◌≤◌, ◌^◌, ℕ, zero, suc, ◌+◌, List, [], ◌∷◌, length, refl, sym, ap, subst, ◌∙◌, arith}
-use Rattle.std.specs.Prelude.{Bool, ℤ, Option, Some, None, Result, Ok, Err, IfOk, OnOk}
+use Rattle.std.proofs.Common.{◌≡◌, ◌<◌, ◌≤◌, ◌^◌, ℕ, zero, suc, ◌+◌, List, [], ◌∷◌, length, refl, sym, subst, ◌∙◌, arith, true, ℤ}
+use Rattle.std.specs.Prelude.{Option, Some, None, Result, Ok, Err, IfOk, OnOk}
 use Rattle.sk_cmd.specs.declared.argument.Scored.{Scored}
-use Rattle.sk_cmd.specs.declared.argument.Side.{Side}
 use Rattle.sk_zset.specs.Pair.{Pair}
 use Rattle.sk_resp.specs.Spelling.{Bytes}
-use Rattle.sk_payload.specs.Head.{jid_of}
-use Rattle.sk_places.specs.declared.ending.Ending.{Ending}
 use Rattle.sk_places.specs.declared.totals.Totals.{Totals}
-use Rattle.sk_places.specs.Lives.{one_if, was_live}
 use Rattle.sk_places.specs.Totals.{last_outside, last_push, pushes_in}
-use Rattle.sk_places.proofs.Accounts.{end_inner}
+use Rattle.sk_places.specs.Lives.{Lived}
+use Rattle.sk_places.specs.Placed.{Placed, moved_if, without_if}
 use Rattle.sk_places.specs.declared.row.Place.{Place}
 use Rattle.sk_places.specs.declared.row.Row.{Row}
-use Rattle.sk_places.specs.Placed.{Placed, ended_row, ended_rows, moved_if, without_if}
+use Rattle.sk_cmd.specs.declared.argument.Side.{Side}
+use Rattle.sk_cmd.specs.declared.argument.Side.TheVariants.{Left}
 use Rattle.sk_batch.specs.Batched.{Batched}
 use Rattle.sk_batch.specs.Events.{fired, made, made_fires, marked}
 use Rattle.sk_batch.specs.Faults.{make_fault}
@@ -22,15 +20,18 @@ use Rattle.sk_batch.specs.declared.batch.Batch.{Batch}
 use Rattle.sk_batch.specs.declared.event.Event.{Event}
 use Rattle.sk_batch.specs.declared.firing.Firing.{Firing}
 use Rattle.sk_model.specs.Batches.{push_jobs}
-use Rattle.sk_model.specs.Change.{changed, perform}
+use Rattle.sk_model.specs.Change.{Change, perform}
 use Rattle.sk_model.specs.Covered.{IsCovered, fired_count}
 use Rattle.sk_model.specs.Sets.{put_as}
 use Rattle.sk_model.specs.Told.{tell_in}
 use Rattle.sk_model.specs.World.{World}
-use Rattle.sk_model.proofs.Covering.{count_few, quiet_calls, through_inner}
+use Rattle.sk_model.proofs.Covering.{count_few, covers_quiet, quiet_calls, through_inner}
+use Rattle.sk_model.proofs.Fired.{all_quiet}
 use Rattle.sk_model.proofs.Making.{clear_count, jobs_quiet}
 use Rattle.sk_model.proofs.Told.{tell_covers, told_count}
-use Rattle.sk_jobs.specs.Calls.{IsTold}
+use Rattle.sk_store.specs.declared.store.Store.{Store}
+use Rattle.sk_undo.specs.Steps.{Steps}
+use Rattle.sk_jobs.specs.Calls.{AreCovered, IsTold}
 
 -- ## How many pushes there are
 
@@ -66,16 +67,25 @@ pub on_if : {A E : Type 0} (P : A → Type 0) (Q : Type 0) (r : Result A E) → 
 on_if P Q (Ok x) f p = f x p
 on_if P Q (Err e) f p = tt
 
--- rows that are trimmed are no pushes
-pub ended_inner : (how : Ending) (rows : List Row) (p : Placed) → (ended_rows how rows p).lives.totals.inner ≡ p.lives.totals.inner
-ended_inner how [] p = refl
-ended_inner how (row ∷ rows) p = ended_inner how rows _ ∙ end_inner how (one_if (was_live (jid_of row.text) p.lives.live)) p.lives.totals
+-- changes that tell no batch of anything, and push no callback
+pub quiet_covered : (old new : World) (changes : List Change) → new ≡ perform old changes → all_quiet changes ≡ true → IsCovered old.tally.inner old.batches → IsCovered new.tally.inner new.batches
+quiet_covered old new changes e quiet c = subst (λ (w : World). IsCovered w.tally.inner w.batches) (sym e) (covers_quiet old changes quiet c)
 
--- nor a text that is put back
-pub put_inner : (w : World) (set : Scored) (pair : Pair) (found : Option Row) → (changed w (put_as set pair found)).tally.inner ≡ w.tally.inner
-put_inner w set pair None = refl
-put_inner w set pair (Some row) = refl
+pub put_quiet : (set : Scored) (pair : Pair) (found : Option Row) → all_quiet (put_as set pair found ∷ []) ≡ true
+put_quiet set pair None = refl
+put_quiet set pair (Some row) = refl
 
--- with other places of as many callbacks
-pub covered_with : (p q : Placed) (s : Batched) → p.lives.totals.inner ≡ q.lives.totals.inner → IsCovered q.lives.totals.inner s → IsCovered p.lives.totals.inner s
-covered_with p q s same c = subst (λ n. IsCovered n s) (sym same) c
+-- rows that go or move are no pushes
+pub without_lives : (o : Option Row) (p : Placed) → (without_if Left o p).lives ≡ p.lives
+without_lives None p = refl
+without_lives (Some row) p = refl
+
+pub moved_lives : (o : Option Row) (to : Place) (score : ℤ) (end : Side) (p : Placed) → (moved_if Left o to score end p).lives ≡ p.lives
+moved_lives None to score end p = refl
+moved_lives (Some row) to score end p = refl
+
+pub dropped_lives : (dropped o : Option Row) (to : Place) (score : ℤ) (end : Side) (p : Placed) → (moved_if Left o to score end (without_if Left dropped p)).lives ≡ p.lives
+dropped_lives dropped o to score end p = moved_lives o to score end (without_if Left dropped p) ∙ without_lives dropped p
+
+pub placed_covered : (s : Store) (p : Steps Placed) → p.stands.lives ≡ s.places.stands.lives → AreCovered s → AreCovered (record s { places = p })
+placed_covered s p same c = subst (λ (l : Lived). IsCovered l.totals.inner s.batches.stands) (sym same) c

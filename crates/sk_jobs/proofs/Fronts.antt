@@ -1,7 +1,7 @@
 -- Rows that stand in front of a place.
-use Rattle.std.proofs.Common.{◌≡◌, ◌≤◌, ◌+◌, ◌-◌, ℕ, ℤ, pos, zero, suc, Bool, true, false, List, [], ◌∷◌, ◌++◌, refl, sym, ap, ap₂, ◌∙◌, arith, length, length-drop, map, max, min, take, drop, filter, not}
+use Rattle.std.proofs.Common.{◌≡◌, ◌≤◌, ◌+◌, ◌-◌, ℕ, ℤ, pos, zero, suc, Bool, true, false, List, [], ◌∷◌, ◌++◌, refl, sym, ap, ap₂, ◌∙◌, arith, length, length-drop, max, min, take, drop, filter, not}
 use Rattle.std.specs.Prelude.{Option, Some, None, cond, option_map, ◌<◌, ◌+ℤ◌}
-use Rattle.std.specs.List.{count_by, list_all}
+use Rattle.std.specs.List.{count_by}
 use Rattle.std.specs.Ordering.{int_cmp, is_eq, is_le}
 use Rattle.std.specs.Str.{bytes_eq}
 use Rattle.std.proofs.lemmas.Int.{ints}
@@ -16,13 +16,16 @@ use Rattle.sk_places.specs.declared.row.Place.{Place}
 use Rattle.sk_places.specs.declared.row.Row.{Row}
 use Rattle.sk_places.specs.Rows.{first_row, row_at_end, insert_after, is_at, is_same, pair_of, place_cmp, put_row, row_of, rows_at, take_row}
 use Rattle.sk_zset.specs.Pair.{Pair}
-use Rattle.sk_places.specs.declared.ending.Ending.TheVariants.{Trimmed}
-use Rattle.sk_places.specs.Placed.{Placed, ended_if, ended_row, ended_rows}
+use Rattle.sk_places.specs.declared.row.Place.TheVariants.{Set}
+use Rattle.sk_cmd.specs.declared.argument.Scored.TheVariants.{Dead}
 use Rattle.sk_places.specs.Scores.{HasRange}
 use Rattle.sk_model.specs.World.{World}
+use Rattle.sk_model.specs.Change.{perform}
 use Rattle.sk_model.specs.Jobs.{is_old, kept_for, moment_score, surplus}
 use Rattle.sk_model.proofs.Taking.{passes}
-use Rattle.sk_jobs.specs.Sending.{rows_in}
+use Rattle.sk_store.specs.Stored.{world}
+use Rattle.sk_store.specs.declared.store.Store.{Store}
+use Rattle.sk_jobs.specs.Sending.{Takes, Trims, dead_rows, rows_in, texts_of, trims}
 use Rattle.sk_model.proofs.Texts.{at_place, bytes_tell, same_bytes, same_is, same_row}
 
 -- ## Tests whose rows stand in front
@@ -39,7 +42,7 @@ others_behind test (suc n) (row ∷ rows) h e =
     let first : test row ≡ true = passes test row (take n rows) (row ∷ rows) e in
     grind (arith, e, first, others_behind test n rows (omega (arith, h)))
 
-take_none : (n : ℕ) → take {A = Row} n [] ≡ []
+pub take_none : (n : ℕ) → take {A = Row} n [] ≡ []
 take_none zero = refl
 take_none (suc n) = refl
 
@@ -146,6 +149,10 @@ elsewhere place other row here apart = by_other (is_at other row) refl where
   by_other true there = sym (ap (λ (p : Place). is_eq (place_cmp p other)) (same_place_is place row.place here ∙ sym (same_place_is other row.place there)) ∙ same_place other) ∙ apart
   by_other false there = refl
 
+-- a test of places that one place fails is failed by each row there
+pub fails_at : (test : Place → Bool) (place : Place) (row : Row) → test place ≡ false → is_at place row ≡ true → test row.place ≡ false
+fails_at test place row fails here = ap test (sym (same_place_is place row.place here)) ∙ fails
+
 -- ## The row at the left end of a place
 
 pub some_row : (o : Option Row) → option_map pair_of o ≡ None → o ≡ None
@@ -168,53 +175,28 @@ same_text a b e = ap (λ (q : Pair). q.1) (same_pair e) where
 pub front_text : (place : Place) (row : Row) (more rows : List Row) (pair : Pair) → rows_at place rows ≡ row ∷ more → Some pair ≡ option_map pair_of (row_at_end Left place rows) → pair.1 ≡ row.text
 front_text place row more rows pair e is = let same : Some pair ≡ Some (pair_of row) = is ∙ ap (λ own. option_map pair_of (first_row own)) e in same_text pair (pair_of row) same
 
-pub front_gone : (place : Place) (row : Row) (more : List Row) (p : Placed) → rows_at place p.rows ≡ row ∷ more → ended_if Trimmed Left (row_at_end Left place p.rows) p ≡ ended_row Trimmed Left row p
-front_gone place row more p e = ap (λ own. ended_if Trimmed Left (first_row own) p) e
+-- what came of one of so many that are left to go
+pub record IsTrimmed (old next : Store) (text : Bytes) (k : ℕ) : Type 0 where
+  pub texts : text ∷ texts_of (take k (dead_rows (world next))) ≡ texts_of (take (suc k) (dead_rows (world old)))
+  pub trimmed : perform (world next) (trims (take k (dead_rows (world next)))) ≡ perform (world old) (trims (take (suc k) (dead_rows (world old))))
+  pub enough : k ≤ length (dead_rows (world next))
+  pub aside : Takes [] old next
 
--- one of so many that are left to go went
-pub one_gone : (place : Place) (p next : Placed) (text : Bytes) (k : ℕ) → suc k ≤ length (rows_at place p.rows) → ((row : Row) (more : List Row) → rows_at place p.rows ≡ row ∷ more → text ≡ row.text)
-    → ((row : Row) (more : List Row) → rows_at place p.rows ≡ row ∷ more → next ≡ ended_row Trimmed Left row p)
-    → (text ∷ map (λ (row : Row). row.text) (take k (rows_at place next.rows)) ≡ map (λ (row : Row). row.text) (take (suc k) (rows_at place p.rows)))
-    × ((ended_rows Trimmed (take k (rows_at place next.rows)) next ≡ ended_rows Trimmed (take (suc k) (rows_at place p.rows)) p) × (k ≤ length (rows_at place next.rows)))
-one_gone place p next text k enough told went = go (rows_at place p.rows) refl enough where
-  go : (own : List Row) → rows_at place p.rows ≡ own → suc k ≤ length own
-      → (text ∷ map (λ (row : Row). row.text) (take k (rows_at place next.rows)) ≡ map (λ (row : Row). row.text) (take (suc k) (rows_at place p.rows)))
-      × ((ended_rows Trimmed (take k (rows_at place next.rows)) next ≡ ended_rows Trimmed (take (suc k) (rows_at place p.rows)) p) × (k ≤ length (rows_at place next.rows)))
+pub one_trimmed : (old next : Store) (text : Bytes) (k : ℕ) → suc k ≤ length (dead_rows (world old)) → Trims old text next → IsTrimmed old next text k
+one_trimmed old next text k enough went = go (dead_rows (world old)) refl enough where
+  go : (own : List Row) → dead_rows (world old) ≡ own → suc k ≤ length own → IsTrimmed old next text k
   go [] e h = absurd (omega (arith, h))
   go (row ∷ more) e h =
-      let left : rows_at place next.rows ≡ more = ap (λ (q : Placed). rows_at place q.rows) (went row more e) ∙ front_taken (is_at place) row more p.rows e in (
-        ap₂ (λ t own. t ∷ map (λ (row : Row). row.text) (take k own)) (told row more e) left ∙ ap (λ own. map (λ (row : Row). row.text) (take (suc k) own)) (sym e),
-        (
-          ap₂ (λ own q. ended_rows Trimmed (take k own) q) left (went row more e) ∙ ap (λ own. ended_rows Trimmed (take (suc k) own) p) (sym e),
-          omega (arith, h, ap length left),
-        ),
-      )
-
--- ## Rows of other places
-
-all_own : (place : Place) (rows : List Row) → list_all (is_at place) (rows_at place rows) ≡ true
-all_own place [] = refl
-all_own place (row ∷ rows) = grind (arith, all_own place rows)
-
-all_take : (test : Row → Bool) (n : ℕ) (rows : List Row) → list_all test rows ≡ true → list_all test (take n rows) ≡ true
-all_take test zero rows all = refl
-all_take test (suc n) [] all = refl
-all_take test (suc n) (row ∷ rows) all = grind (arith, all, all_take test n rows)
-
--- a test of places that one place fails is failed by each row there
-pub fails_at : (test : Place → Bool) (place : Place) (row : Row) → test place ≡ false → is_at place row ≡ true → test row.place ≡ false
-fails_at test place row fails here = ap test (sym (same_place_is place row.place here)) ∙ fails
-
-others_left_of : (test : Place → Bool) (place : Place) (gone : List Row) (p : Placed) → test place ≡ false → list_all (is_at place) gone ≡ true → rows_in test (ended_rows Trimmed gone p).rows ≡ rows_in test p.rows
-others_left_of test place [] p fails all = refl
-others_left_of test place (row ∷ gone) p fails all =
-    let here : is_at place row ≡ true = grind (arith, all) in
-    let rest : list_all (is_at place) gone ≡ true = grind (arith, all) in
-    others_left_of test place gone (ended_row Trimmed Left row p) fails rest ∙ other_taken (λ r. test r.place) row p.rows (fails_at test place row fails here)
-
--- what goes from one place leaves the others as they are
-pub others_left : (test : Place → Bool) (place : Place) (n : ℕ) (p : Placed) → test place ≡ false → rows_in test (ended_rows Trimmed (take n (rows_at place p.rows)) p).rows ≡ rows_in test p.rows
-others_left test place n p fails = others_left_of test place (take n (rows_at place p.rows)) p fails (all_take (is_at place) n (rows_at place p.rows) (all_own place p.rows))
+      let w : World = world old in
+      let gone = went row more e in
+      let left : dead_rows (world next) ≡ more = ap dead_rows gone.1 ∙ front_taken (is_at (Set Dead)) row more w.rows e in
+      let here : is_at (Set Dead) row ≡ true = passes (is_at (Set Dead)) row more w.rows e in
+      record {
+        texts = ap₂ (λ t own. t ∷ texts_of (take k own)) gone.0 left ∙ ap (λ own. texts_of (take (suc k) own)) (sym e);
+        trimmed = ap₂ (λ v own. perform v (trims (take k own))) gone.1 left ∙ ap (λ own. perform w (trims (take (suc k) own))) (sym e);
+        enough = omega (arith, h, ap length left);
+        aside = λ test others aside is. ap (λ (v : World). rows_in test v.rows) gone.1 ∙ other_taken (λ r. test r.place) row w.rows (fails_at test (Set Dead) row aside.dead here) ∙ is;
+      }
 
 -- the row in front is the first of its text
 pub front_named : (text : Bytes) (row : Row) (more own : List Row) → own ≡ row ∷ more → text ≡ row.text → row_of text own ≡ Some row

@@ -8,6 +8,7 @@ pub mod Fronts
 pub mod Passing
 pub mod Rescuing
 pub mod SentOn
-pub mod Stocking
 pub mod Telling
+pub mod Turning
+pub mod UniquePushes
 pub mod Working

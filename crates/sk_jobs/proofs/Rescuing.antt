@@ -1,20 +1,19 @@
 -- What a rescue makes of one row, of the rows of a process, and of all that are left.
-use Rattle.std.proofs.Common.{◌≡◌, ◌≤◌, ◌<◌, ◌+◌, ℕ, Bool, true, false, List, [], ◌∷◌, ◌++◌, refl, sym, ap, ap₂, subst, ◌∙◌, append_assoc, arith, filter, length, length-append, not, pos}
+use Rattle.std.proofs.Common.{◌≡◌, ◌≤◌, ◌<◌, ◌+◌, ℕ, Bool, true, false, List, [], ◌∷◌, ◌++◌, refl, sym, ap, ap₂, subst, ◌∙◌, append_assoc, arith, filter, length, length-append, not}
 use Rattle.std.specs.Prelude.{Option, Some, None, cond, nat_le, nat_lt}
 use Rattle.std.specs.List.{list_all}
 use Rattle.std.proofs.lemmas.List.Elements.{filter_agree}
 use Rattle.std.specs.Ordering.{is_eq}
 use Rattle.std.proofs.lemmas.Bool.Decides.{nat_tests}
 use Rattle.sk_resp.specs.Spelling.{Bytes}
-use Rattle.sk_cmd.specs.declared.argument.Side.TheVariants.{Left, Right}
+use Rattle.sk_cmd.specs.declared.argument.Side.TheVariants.{Right}
 use Rattle.sk_payload.specs.Head.{head}
 use Rattle.sk_payload.specs.declared.head.Head.{Head}
 use Rattle.sk_places.specs.declared.row.Place.{Place}
 use Rattle.sk_places.specs.declared.row.Place.TheVariants.{Private, Queue, Set}
 use Rattle.sk_places.specs.declared.row.Row.{Row}
-use Rattle.sk_places.specs.Placed.{Placed, carried, moved_to}
-use Rattle.sk_places.specs.Rows.{ident_at, is_at, is_past, place_cmp, rows_at, take_row}
-use Rattle.sk_model.specs.World.{World, first}
+use Rattle.sk_places.specs.Rows.{ident_at, is_at, is_past, place_cmp, rows_at}
+use Rattle.sk_model.specs.World.{World}
 use Rattle.sk_model.specs.Change.{Change, Forgets, Recovers, changed, perform}
 use Rattle.sk_model.specs.Jobs.{Sent, and_then, bury, each, nothing, to_queue}
 use Rattle.sk_model.specs.Rescue.{bury_poison, is_left, is_poison, left_rows, recover, rescue_row}
@@ -22,16 +21,11 @@ use Rattle.sk_model.specs.Told.{fired_texts}
 use Rattle.sk_model.proofs.Good.{perform-append}
 use Rattle.sk_jobs.specs.declared.report.Report.{Report}
 use Rattle.sk_jobs.specs.Rescuing.{IsFront, IsNext, IsPassed}
-use Rattle.sk_jobs.specs.Stocked.{KeepsStep, at}
-use Rattle.sk_jobs.specs.declared.stock.Stock.{Stock}
-use Rattle.sk_seats.specs.Phases.{Phases}
-use Rattle.sk_undo.specs.Steps.{Steps, edited}
 use Rattle.sk_batch.specs.declared.firing.Firing.{Firing}
 use Rattle.sk_leases.specs.Lists.{count_standing}
-use Rattle.sk_leases.specs.Leased.{Leased, forgotten, recovered, standing}
+use Rattle.sk_leases.specs.Leased.{Leased, recovered, standing}
 use Rattle.sk_jobs.specs.Sending.{IsAside, IsSent, rows_in}
-use Rattle.sk_jobs.proofs.SentOn.{IsLeft, fired_append, one_sent}
-use Rattle.sk_jobs.proofs.Fronts.{front_taken, other_put}
+use Rattle.sk_jobs.proofs.SentOn.{IsLeft, fired_append}
 
 -- ## One row
 
@@ -62,13 +56,6 @@ noted_sent old mid new report row h found is noted poison sent =
           let t : IsSent after new report (recover after row h) = subst (λ (sent : Sent). IsSent after new report sent) (sym same) s in
           record { moved = t.moved; buried = t.buried; fired = t.fired; trimmed = t.trimmed; world = t.world }
 
--- What went to a queue is no more among those that pass.
-pub queue_left : (test : Place → Bool) (row : Row) (others : List Row) (queue : Bytes) (p new : Placed) → IsAside test → new ≡ moved_to Left row (Queue queue) (pos 0) Right p → rows_in test p.rows ≡ row ∷ others → rows_in test new.rows ≡ others
-queue_left test row others queue p new aside e front =
-    ap (λ (q : Placed). rows_in test q.rows) e
-    ∙ other_put (λ r. test r.place) Right (carried row (Queue queue) (pos 0)) (take_row Left row p.rows) (aside.queues queue)
-    ∙ front_taken (λ r. test r.place) row others p.rows front
-
 -- ## Of how many rows a report tells
 
 one_way : (b : Bool) (one other : Sent) → one.moved + one.buried ≡ 1 → other.moved + other.buried ≡ 1 → (cond b one other).moved + (cond b one other).buried ≡ 1
@@ -83,59 +70,15 @@ each_row : (w : World) (rows : List Row) → (each rescue_row w rows).moved + (e
 each_row w [] = refl
 each_row w (row ∷ rows) = omega (arith, one_row w row (head row.text), each_row (perform w (rescue_row w row (head row.text)).changes) rows)
 
--- ## Recoveries, as the world has them
-
--- the stock with other leases
-abbrev pub leased_in : Stock → Steps Leased → Stock
-leased_in s leases = record s { leases = leases }
-
--- they were forgotten
-pub forgot : (w : World) (moment : ℕ) (phases : Phases) (s new : Stock) (leases : Steps Leased) (jid : Bytes) → new ≡ leased_in s leases → leases ≡ edited (forgotten jid s.leases.stands) s.leases → at w moment new phases ≡ changed (at w moment s phases) (Forgets jid)
-forgot w moment phases s new leases jid e f = ap (λ n. at w moment n phases) (e ∙ ap (leased_in s) f)
-
--- one was noted
-pub recovers : (w : World) (moment : ℕ) (phases : Phases) (s : Stock) (leases : Steps Leased) (jid : Bytes) → leases ≡ edited (recovered jid moment s.leases.stands) s.leases → at w moment (leased_in s leases) phases ≡ changed (at w moment s phases) (Recovers jid)
-recovers w moment phases s leases jid e = ap (λ l. at w moment (leased_in s l) phases) e
+-- ## Recoveries
 
 at_least : (n m : ℕ) → n ≡ m → 3 ≤ n → nat_le 3 m ≡ true
 at_least n m e h = grind (arith, nat_tests, e, h)
 
 -- So many stand that the job is buried.
-pub poisoned : (w : World) (moment : ℕ) (phases : Phases) (s : Stock) (leases : Steps Leased) (jid : Bytes) (count : ℕ) → leases ≡ edited (recovered jid moment s.leases.stands) s.leases → count ≡ standing jid moment (recovered jid moment s.leases.stands) → 3 ≤ count
-    → is_poison (at w moment (leased_in s leases) phases) jid ≡ true
-poisoned w moment phases s leases jid count e f enough = at_least count (standing jid moment leases.stands) (f ∙ ap (λ (l : Steps Leased). standing jid moment l.stands) (sym e)) enough
-
--- ## The rows of a process
-
--- A private list is neither a queue nor the dead set.
-pub own_aside : (ident : Bytes) → IsAside (λ place. is_eq (place_cmp (Private ident) place))
-own_aside ident = record { queues = λ queue. refl; dead = refl }
-
--- a row in front, and more behind it
-pub record IsOne (own : List Row) : Type 0 where
-  pub row : Row
-  pub more : List Row
-  pub is : own ≡ row ∷ more
-
-pub one_of : (own : List Row) → 0 < length own → IsOne own
-one_of [] some = absurd (omega (arith, some))
-one_of (row ∷ more) some = record { row = row; more = more; is = refl }
-
-pub none_of : (n : ℕ) (own : List Row) → n ≡ length own → n ≤ 0 → own ≡ []
-none_of n [] e h = refl
-none_of n (row ∷ more) e h = absurd (omega (arith, e, h))
-
--- the first of them was rescued
-pub row_sent : (all own rest : List Row) (old now next : World) (report one told : Report) (first : IsOne own) → rest ≡ first.more → IsLeft rescue_row old now report all own
-    → IsSent now next one (rescue_row now first.row (head first.row.text)) → told.moved ≡ report.moved + one.moved → told.buried ≡ report.buried + one.buried → told.fired.items ≡ report.fired.items ++ one.fired.items → told.trimmed.items ≡ report.trimmed.items ++ one.trimmed.items
-    → IsLeft rescue_row old next told all rest
-row_sent all own rest old now next report one told first gone left sent moved buried fired trimmed =
-    subst (λ rows. IsLeft rescue_row old next told all rows) (sym gone)
-    (one_sent rescue_row old now next report one told all first.more first.row (subst (λ rows. IsLeft rescue_row old now report all rows) first.is left) sent moved buried fired trimmed)
-
--- the same step is open all the while
-pub both_keep : (a b c : Stock) → KeepsStep a b → KeepsStep b c → KeepsStep a c
-both_keep a b c s t = record { places = t.places ∙ s.places; leases = t.leases ∙ s.leases; batches = t.batches ∙ s.batches; counters = t.counters ∙ s.counters }
+pub poisoned : (w : World) (jid : Bytes) (moment count : ℕ) (was : Leased) → w.moment ≡ moment → w.leases ≡ recovered jid moment was → count ≡ standing jid moment (recovered jid moment was) → 3 ≤ count → is_poison w jid ≡ true
+poisoned w jid moment count was now noted is enough =
+    at_least count (standing jid w.moment w.leases) (is ∙ ap₂ (λ m l. standing jid m l) (sym now) (sym noted)) enough
 
 -- ## Rows of several processes
 
@@ -192,11 +135,11 @@ number_left : (old now : World) (report : Report) (all rest : List Row) → IsLe
 number_left old now report all rest left = omega (arith, left.moved, left.buried, each_row old all, each_row now rest)
 
 -- what is left of the others, where the heartbeats are the same
-pub left_after : (w : World) (moment : ℕ) (phases : Phases) (s next : Stock) (others : List Row) → next.leases.stands.beats ≡ s.leases.stands.beats → rows_in (is_left (at w moment s phases)) next.places.stands.rows ≡ others → left_rows (at w moment next phases) ≡ others
-left_after w moment phases s next others e f = filter_agree (λ row. is_left (at w moment next phases) row.place) (λ row. is_left (at w moment s phases) row.place) (λ row. same row.place) next.places.stands.rows ∙ f where
-  same : (place : Place) → is_left (at w moment next phases) place ≡ is_left (at w moment s phases) place
+pub left_after : (now next : World) (others : List Row) → next.moment ≡ now.moment → next.leases.beats ≡ now.leases.beats → rows_in (is_left now) next.rows ≡ others → left_rows next ≡ others
+left_after now next others at e f = filter_agree (λ row. is_left next row.place) (λ row. is_left now row.place) (λ row. same row.place) next.rows ∙ f where
+  same : (place : Place) → is_left next place ≡ is_left now place
   same (Queue queue) = refl
-  same (Private ident) = ap (λ beats. not (nat_lt 0 (count_standing ident moment beats))) e
+  same (Private ident) = ap₂ (λ m beats. not (nat_lt 0 (count_standing ident m beats))) at e
   same (Set set) = refl
 
 -- what is left is in no queue, and not in the dead set
@@ -226,10 +169,6 @@ front_of found ident w e next = subst (λ o. IsNext o w) e next
 
 pub none_of_all : (found : Option Bytes) (w : World) → found ≡ None → IsNext found w → left_rows w ≡ []
 none_of_all found w e next = subst (λ o. IsNext o w) e next
-
--- a world, to count in
-pub some_world : World
-some_world = first (record { rows = 0; bytes = 0; batches = 0 })
 
 -- whatever is left is in a private list
 listed : (w : World) (place : Place) → is_left w place ≡ true → is_past None (ident_at place) ≡ true

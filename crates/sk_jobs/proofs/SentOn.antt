@@ -1,25 +1,29 @@
 -- Jobs that are sent on, one after another.
-use Rattle.std.proofs.Common.{◌≡◌, ◌+◌, ℕ, Bool, false, List, [], ◌∷◌, ◌++◌, refl, sym, ap, ap₂, subst, ◌∙◌, arith, append_assoc, append-nil, pos}
-use Rattle.std.specs.Prelude.{Option}
+use Rattle.std.proofs.Common.{◌≡◌, ◌≤◌, ◌<◌, ◌+◌, ℕ, length, List, [], ◌∷◌, ◌++◌, refl, sym, ap, ap₂, subst, ◌∙◌, arith, append_assoc, append-nil, pos}
+use Rattle.std.specs.Prelude.{Option, false}
+use Rattle.std.specs.Ordering.{is_eq}
 use Rattle.sk_resp.specs.Spelling.{Bytes}
 use Rattle.sk_batch.specs.declared.firing.Firing.{Firing}
+use Rattle.sk_cmd.specs.declared.argument.Scored.{Scored}
+use Rattle.sk_cmd.specs.declared.argument.Scored.TheVariants.{Dead}
 use Rattle.sk_cmd.specs.declared.argument.Side.{Side}
 use Rattle.sk_cmd.specs.declared.argument.Side.TheVariants.{Left}
 use Rattle.sk_payload.specs.Head.{head}
 use Rattle.sk_payload.specs.declared.head.Head.{Head}
 use Rattle.sk_places.specs.declared.row.Row.{Row}
 use Rattle.sk_model.specs.World.{World}
-use Rattle.sk_places.specs.declared.row.Place.{Place}
-use Rattle.sk_places.specs.declared.row.Place.TheVariants.{Queue}
-use Rattle.sk_places.specs.Placed.{Placed, carried, moved_to}
-use Rattle.sk_places.specs.Rows.{take_row}
+use Rattle.sk_places.specs.declared.row.Place.TheVariants.{Private, Queue, Set}
+use Rattle.sk_places.specs.Placed.{carried}
+use Rattle.sk_places.specs.Rows.{place_cmp, take_row}
 use Rattle.sk_model.specs.Change.{perform}
-use Rattle.sk_model.specs.Jobs.{Sent, and_then, each}
+use Rattle.sk_model.specs.Jobs.{Sent, and_then, each, nothing}
 use Rattle.sk_model.specs.Told.{fired_texts, kind_text}
 use Rattle.sk_model.proofs.Good.{perform-append}
+use Rattle.sk_store.specs.Stored.{world}
+use Rattle.sk_store.specs.declared.store.Store.{Store}
 use Rattle.sk_jobs.specs.declared.report.Report.{Report}
-use Rattle.sk_jobs.specs.Sending.{IsSent, rows_in}
-use Rattle.sk_jobs.proofs.Fronts.{front_taken, other_put}
+use Rattle.sk_jobs.specs.Sending.{Carries, IsAside, IsSent, Takes, rows_in}
+use Rattle.sk_jobs.proofs.Fronts.{front_taken, other_put, turned}
 
 pub fired_append : (a b : List Firing) → fired_texts (a ++ b) ≡ fired_texts a ++ fired_texts b
 fired_append [] b = refl
@@ -60,7 +64,7 @@ none_sent way old report all none unburied fires texts = record {
 }
 
 -- one more was sent
-pub one_sent : (way : World → Row → Option Head → Sent) (old now next : World) (report one all_of : Report) (all more : List Row) (row : Row) → IsLeft way old now report all (row ∷ more) → IsSent now next one (way now row (head row.text))
+one_sent : (way : World → Row → Option Head → Sent) (old now next : World) (report one all_of : Report) (all more : List Row) (row : Row) → IsLeft way old now report all (row ∷ more) → IsSent now next one (way now row (head row.text))
     → all_of.moved ≡ report.moved + one.moved → all_of.buried ≡ report.buried + one.buried → all_of.fired.items ≡ report.fired.items ++ one.fired.items → all_of.trimmed.items ≡ report.trimmed.items ++ one.trimmed.items
     → IsLeft way old next all_of all more
 one_sent way old now next report one all_of all more row left sent moved buried fired trimmed =
@@ -79,6 +83,28 @@ one_sent way old now next report one all_of all more row left sent moved buried 
       world = ap (λ u. perform u (rest u).changes) sent.world ∙ sym (perform-append now first.changes (rest (perform now first.changes)).changes) ∙ left.world;
     }
 
+-- a row in front, and more behind it
+pub record IsOne (own : List Row) : Type 0 where
+  pub row : Row
+  pub more : List Row
+  pub is : own ≡ row ∷ more
+
+pub one_of : (own : List Row) → 0 < length own → IsOne own
+one_of [] some = absurd (omega (arith, some))
+one_of (row ∷ more) some = record { row = row; more = more; is = refl }
+
+pub none_of : (n : ℕ) (own : List Row) → n ≡ length own → n ≤ 0 → own ≡ []
+none_of n [] e h = refl
+none_of n (row ∷ more) e h = absurd (omega (arith, e, h))
+
+-- the first of them was sent
+pub row_sent : (way : World → Row → Option Head → Sent) (all own rest : List Row) (old now next : World) (report one told : Report) (first : IsOne own) → rest ≡ first.more → IsLeft way old now report all own
+    → IsSent now next one (way now first.row (head first.row.text)) → told.moved ≡ report.moved + one.moved → told.buried ≡ report.buried + one.buried → told.fired.items ≡ report.fired.items ++ one.fired.items → told.trimmed.items ≡ report.trimmed.items ++ one.trimmed.items
+    → IsLeft way old next told all rest
+row_sent way all own rest old now next report one told first gone left sent moved buried fired trimmed =
+    subst (λ rows. IsLeft way old next told all rows) (sym gone)
+    (one_sent way old now next report one told all first.more first.row (subst (λ rows. IsLeft way old now report all rows) first.is left) sent moved buried fired trimmed)
+
 -- all were sent
 pub all_sent : (way : World → Row → Option Head → Sent) (old now : World) (report : Report) (all rest : List Row) → rest ≡ [] → IsLeft way old now report all rest → IsSent old now report (each way old all)
 all_sent way old now report all rest e left = done (subst (λ r. IsLeft way old now report all r) e left) where
@@ -93,9 +119,21 @@ all_sent way old now report all rest e left = done (subst (λ r. IsLeft way old 
 
 -- ## One job
 
--- a job in front of those that pass went to a queue, where none passes
-pub moved_left : (test : Place → Bool) (row : Row) (more : List Row) (p new : Placed) (queue : Bytes) (end : Side) → test (Queue queue) ≡ false → rows_in test p.rows ≡ row ∷ more → new ≡ moved_to Left row (Queue queue) (pos 0) end p → rows_in test new.rows ≡ more
-moved_left test row more p new queue end fails e f =
-    ap (λ (q : Placed). rows_in test q.rows) f
-    ∙ other_put (λ r. test r.place) end (carried row (Queue queue) (pos 0)) (take_row Left row p.rows) fails
-    ∙ front_taken (λ r. test r.place) row more p.rows e
+-- a job in front of its place went to a queue
+pub carried_left : (old new : Store) (row : Row) (queue : Bytes) (end : Side) → Carries old row queue end new → Takes (row ∷ []) old new
+carried_left old new row queue end e = λ test others aside front.
+    let rows : List Row = (world old).rows in
+    ap (λ (w : World). rows_in test w.rows) e
+    ∙ other_put (λ r. test r.place) end (carried row (Queue queue) (pos 0)) (take_row Left row rows) (aside.queues queue)
+    ∙ front_taken (λ r. test r.place) row others rows front
+
+-- no queue is a set or a private list, and the dead set is no other
+pub set_aside : (set : Scored) → is_eq (place_cmp (Set Dead) (Set set)) ≡ false → IsAside (λ place. is_eq (place_cmp (Set set) place))
+set_aside set alive = record { queues = λ queue. refl; dead = turned (Set Dead) (Set set) alive }
+
+pub own_aside : (ident : Bytes) → IsAside (λ place. is_eq (place_cmp (Private ident) place))
+own_aside ident = record { queues = λ queue. refl; dead = refl }
+
+-- what is told where nothing was sent on
+pub nothing_sent : (w : World) (report : Report) → report.moved ≡ 0 → report.buried ≡ 0 → report.fired.items ≡ [] → report.trimmed.items ≡ [] → IsSent w w report nothing
+nothing_sent w report none unburied fires texts = record { moved = none; buried = unburied; fired = fires; trimmed = texts; world = refl }

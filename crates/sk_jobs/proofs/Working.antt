@@ -13,6 +13,7 @@ use Rattle.sk_resp.specs.declared.refusal.Refusal.{Refusal}
 use Rattle.sk_resp.specs.declared.refusal.Refusal.TheVariants.{BadPayload, OutOfTurn}
 use Rattle.sk_zset.specs.Pair.{Pair}
 use Rattle.sk_cmd.specs.declared.argument.Side.TheVariants.{Left, Right}
+use Rattle.sk_cmd.specs.declared.argument.Scored.{Scored}
 use Rattle.sk_cmd.specs.declared.argument.Scored.TheVariants.{Retry}
 use Rattle.sk_payload.specs.Head.{head}
 use Rattle.sk_payload.specs.declared.head.Head.{Head}
@@ -28,17 +29,21 @@ use Rattle.sk_seats.specs.declared.work.Stage.TheVariants.{Held, Put, Settled}
 use Rattle.sk_seats.specs.declared.work.Work.{Work}
 use Rattle.sk_seats.specs.Phases.{Phases, is_plain, phase_in, releasing, staging, turned, works_of}
 use Rattle.sk_seats.specs.Works.{first, is_done_as, is_held as is_held_stage, is_held_as, is_retried_as}
-use Rattle.sk_model.specs.Change.{Turns, changed, freed, freed_at, freed_work}
+use Rattle.sk_model.specs.Change.{changed, freed, freed_at, freed_work}
 use Rattle.sk_model.specs.Outcome.{Comes, Outcome, refuses}
 use Rattle.sk_value.specs.declared.action.Action.{Action}
 use Rattle.sk_value.specs.declared.action.Action.TheVariants as action
 use Rattle.sk_value.specs.declared.edit.Edit.{Edit}
 use Rattle.sk_value.specs.declared.edit.Edit.TheVariants as edit
-use Rattle.sk_model.specs.Seats.{fetched_from, only, released_by, releases, releases_by, where_some}
+use Rattle.sk_model.specs.Seats.{fetched_from, only, released_by, releases, releases_by, where_plain, where_some}
 use Rattle.sk_model.specs.Workers.{back, fetch, give, give_row, release, release_of, retry, retry_pair, work, work_as, work_edit}
-use Rattle.sk_model.specs.Sets.{put_back}
+use Rattle.sk_model.specs.Sets.{put_as, put_back}
 use Rattle.sk_model.specs.World.{World}
-use Rattle.sk_jobs.specs.Seated.{IsFound, ended_at, ended_by, ident_in, with_seats}
+use Rattle.sk_jobs.specs.Seated.{IsFound, ended_at, ended_by, ident_in}
+
+-- a world with these rows and names, and phases of seats
+abbrev pub with_seats : World → Placed → Phases → World
+with_seats w p phases = record w { rows = p.rows; names = p.names; live = p.lives.live; tally = p.lives.totals; phases = phases }
 
 pub still_some : {A B C : Type 0} (f : A → B) (g : C → B) (x : Option A) (y : Option C) → option_map f x ≡ option_map g y → is_some x ≡ is_some y
 still_some f g x y e = grind (arith, e)
@@ -103,6 +108,10 @@ done_stage text work done = was_not (is_held_stage work.stage) (both (not (is_he
   was_not true e = absurd (cc e)
   was_not false e = refl
 
+-- what a client's seat may do
+pub plain_is : (phase : Phase) (o : Outcome) → phase ≡ Plain → where_plain phase o ≡ o
+plain_is phase o is = ap (λ ph. where_plain ph o) is
+
 -- ## The release
 
 -- a work of this text, at a stage, is released
@@ -143,22 +152,33 @@ none_released w seat phase ident own text works joined none =
 
 -- ## ZADD on `retry`
 
+-- a text that is put back leaves the seats as they are
+pub put_leaves : (w : World) (set : Scored) (pair : Pair) (found : Option Row) → (changed w (put_as set pair found)).phases ≡ w.phases
+put_leaves w set pair None = refl
+put_leaves w set pair (Some row) = refl
+
 pub retry_is : (w : World) (seat : ℕ) (phase : Phase) (pair : Pair) → is_plain phase ≡ false → retry w seat phase (Some pair) ≡ where_some phase (is_retried_as pair.1) (λ ident. retry_pair w seat phase pair)
 retry_is w seat Plain pair kept = absurd (cc kept)
 retry_is w seat (Joined ident works) pair kept = refl
 
-pub retry_comes : (w : World) (fresh : Bool) (p new : Placed) (phases next : Phases) (seat : ℕ) (score : ℤ) (text payload : Bytes) (at : ℕ) → is_plain (phase_in phases seat) ≡ false → payload ≡ text → IsFound (is_retried_as payload) (phase_in phases seat) at
-    → fresh ≡ not (is_some (row_of payload (rows_at (Set Retry) p.rows))) → with_seats w new phases ≡ changed (with_seats w p phases) (put_back (with_seats w p phases) Retry (score, payload)) → next ≡ turned seat (staging (is_retried_as payload) Put (phase_in phases seat)) phases
-    → Comes (with_seats w p phases) (retry (with_seats w p phases) seat (phase_in phases seat) (Some (score, text))) (one_if fresh) (with_seats w new next)
-retry_comes w fresh p new phases next seat score text payload at kept same found e f g =
-    subst (λ t. Comes before (retry before seat phase (Some (score, t))) (one_if fresh) (with_seats w new next)) same
-    (subst (λ o. Comes before o (one_if fresh) (with_seats w new next)) (sym (retry_is before seat phase (score, payload) kept ∙ found_is phase (is_retried_as payload) at (λ ident. retry_pair before seat phase (score, payload)) found))
-    (record { reply_is = ap one_if e; new_is = ap (with_seats w new) g ∙ ap (λ v. changed v (Turns seat (staging (is_retried_as payload) Put phase))) f })) where
-      before : World
-      before = with_seats w p phases
-
+pub retry_comes : (w mid : World) (fresh : Bool) (next : Phases) (seat : ℕ) (score : ℤ) (text payload : Bytes) (at : ℕ) → is_plain (phase_in w.phases seat) ≡ false → payload ≡ text → IsFound (is_retried_as payload) (phase_in w.phases seat) at
+    → fresh ≡ not (is_some (row_of payload (rows_at (Set Retry) w.rows))) → mid ≡ changed w (put_back w Retry (score, payload)) → next ≡ turned seat (staging (is_retried_as payload) Put (phase_in w.phases seat)) w.phases
+    → Comes w (retry w seat (phase_in w.phases seat) (Some (score, text))) (one_if fresh) (record mid { phases = next })
+retry_comes w mid fresh next seat score text payload at kept same found e f g =
+    subst (λ t. Comes w (retry w seat phase (Some (score, t))) (one_if fresh) (record mid { phases = next })) same
+    (subst (λ o. Comes w o (one_if fresh) (record mid { phases = next })) (sym (retry_is w seat phase (score, payload) kept ∙ found_is phase (is_retried_as payload) at (λ ident. retry_pair w seat phase (score, payload)) found))
+    (record { reply_is = ap one_if e; new_is = ap₂ (λ (v : World) (p : Phases). record v { phases = p }) f g ∙ ap (λ p. record put { phases = turned seat after p }) (sym stays) })) where
       phase : Phase
-      phase = phase_in phases seat
+      phase = phase_in w.phases seat
+
+      after : Phase
+      after = staging (is_retried_as payload) Put phase
+
+      put : World
+      put = changed w (put_back w Retry (score, payload))
+
+      stays : put.phases ≡ w.phases
+      stays = put_leaves w Retry (score, payload) (row_of payload (rows_at (Set Retry) w.rows))
 
 -- ## SK.BACK
 

@@ -3,12 +3,19 @@ use Rattle.std.specs.Prelude.{◌≡◌, List, [], ◌∷◌, ◌++◌, Option, 
 use Rattle.sk_resp.specs.Spelling.{Bytes}
 use Rattle.sk_payload.specs.Head.{head}
 use Rattle.sk_payload.specs.declared.head.Head.{Head}
+use Rattle.sk_batch.specs.Batched.{Batched}
+use Rattle.sk_batch.specs.Events.{fired, marked}
+use Rattle.sk_batch.specs.Told.{fires_of, mark_of}
+use Rattle.sk_batch.specs.declared.event.Event.{Event}
 use Rattle.sk_batch.specs.declared.firing.Firing.{Firing}
 use Rattle.sk_batch.specs.declared.member.Member.{Member}
-use Rattle.sk_model.specs.Change.{Change, perform}
-use Rattle.sk_seats.specs.Phases.{Phases, some_has}
-use Rattle.sk_model.specs.Told.{Told, call, fired_texts}
+use Rattle.sk_counters.specs.Counters.{failed, processed}
+use Rattle.sk_model.specs.Change.{Change, Counts, perform}
+use Rattle.sk_model.specs.Covered.{IsCovered}
+use Rattle.sk_model.specs.Told.{Told, call, fired_texts, not_told, tell_in}
 use Rattle.sk_model.specs.World.{World}
+use Rattle.sk_store.specs.Stored.{world}
+use Rattle.sk_store.specs.declared.store.Store.{Store}
 
 -- the callbacks of firings are pushed, one after another
 abbrev pub calls : List Firing → List Change
@@ -27,11 +34,32 @@ member_in (Some h) = member_by h.jid h.bid
 abbrev pub member_of : Bytes → Option Member
 member_of text = member_in (head text)
 
--- the same jobs are in the seats' hands
-abbrev pub Alike : Phases → Phases → Type 0
-Alike phases others = (jid : Bytes) → some_has jid phases ≡ some_has jid others
+-- what the batch of a member is told, where there is one
+abbrev pub tell_member : Event → World → Option Member → Told
+tell_member event w None = not_told
+tell_member event w (Some member) = tell_in event w member.jid (Some member.bid)
+
+-- what the batch of a member fires then
+abbrev pub fires_on : Event → Member → Batched → List Firing
+fires_on event member = fires_of event member.bid member.jid
+
+-- and what is kept of it and of what it fires
+abbrev pub marks_on : Event → Member → Batched → Batched
+marks_on event member s = fired (fires_on event member s) (marked (mark_of event) member.bid member.jid s)
 
 -- this was told, and these texts name what was fired
 pub record IsTold (old new : World) (names : List Bytes) (told : Told) : Type 0 where
   pub fired : names ≡ fired_texts told.firings
   pub world : new ≡ perform old told.changes
+
+-- what a run counts that has raised
+abbrev pub counts_failed : List Change
+counts_failed = Counts processed ∷ Counts failed ∷ []
+
+-- and one that has returned
+abbrev pub counts_processed : List Change
+counts_processed = Counts processed ∷ []
+
+-- the callbacks that were pushed are no more than were fired of the batches
+abbrev pub AreCovered : Store → Type 0
+AreCovered s = IsCovered (world s).tally.inner (world s).batches

@@ -1,6 +1,6 @@
 // SK.BPUSH bid parent complete success death [payload ..], SK.BADD bid payload .., SK.BSTAT bid: batches of jobs (Sidekiq's wiki, "Batches"). A
 // batch and its jobs come in one step, whole or not at all.
-ghost use Rattle.std.specs.Prelude.{◌≡◌, ◌&&◌, ℕ, IfOk, OnErr, OnOk, None, cond, false, length, not, true};
+ghost use Rattle.std.specs.Prelude.{◌≡◌, ◌&&◌, IfOk, OnOk, None, cond, false, length, not, true};
 ghost use Rattle.std.specs.Result.{result_err};
 ghost use Rattle.sk_payload.specs.Head.{head as head_of, jid_of};
 ghost use Rattle.sk_payload.specs.Member.{is_name};
@@ -10,23 +10,19 @@ ghost use Rattle.sk_batch.specs.declared.batch_fault.BatchFault.TheVariants as f
 ghost use Rattle.sk_model.specs.Batches.{all_may_join, are_callbacks, batch_add, batch_of, batch_push, batch_stat, fault_say, is_callback, jids_of, join, make, may_call, may_join, or_none, push_jobs, unless};
 ghost use Rattle.sk_model.specs.Change.{perform};
 ghost use Rattle.sk_model.specs.Outcome.{Comes, Outcome, refuses};
-ghost use Rattle.sk_seats.specs.Phases.{Phases};
-ghost use Rattle.sk_model.specs.Room.{HasRoom, is_too_much, with_pushed};
-ghost use Rattle.sk_model.specs.World.{World};
+ghost use Rattle.sk_model.specs.Room.{HasRoom, is_too_much};
 ghost use Rattle.sk_undo.specs.Steps.{edited};
 ghost use Rattle.sk_value.specs.Answer.{counted};
-ghost use Rattle.sk_jobs.specs.Batching.{limited, unless_told};
-ghost use Rattle.sk_jobs.specs.Seated.{with_seats};
-ghost use Rattle.sk_jobs.specs.Stocked.{AreCovered, IsClosed, KeepsStep, at};
+ghost use Rattle.sk_jobs.specs.Batching.{batch_in, unless_told};
+ghost use Rattle.sk_jobs.specs.Calls.{AreCovered};
+ghost use Rattle.sk_store.specs.Stored.{InStep, IsReady, Runs, world};
 
-use crate::calls::{call_all, push_job};
-use crate::stock::Stock;
+use crate::calls::{call_all, push_job, word_of};
 use sk_batch::{Batch, BatchFault, Batches, Callbacks, Firing};
-use sk_model::{Limits, bytes_of, is_full};
 use sk_payload::{Payload, payloads_of};
-use sk_places::{Origin, Places};
+use sk_places::Origin;
 use sk_resp::{Memory, Refusal, Replies, Reply, Say, Word, Words};
-use sk_seats::Seats;
+use sk_store::{Store, bytes_of};
 use sk_value::{as_reply, counted, one_if, refused};
 use std::alloc::Global;
 use std::marker::Model;
@@ -98,11 +94,10 @@ fn batch_of(
 fn jid_of(alloc: Global, payload: &Payload) -> Result<Option<Word>, Memory>
     ensures { IfOk result (λ jid. jid ≡ jid_of payload.now) }
 {
-    let Some(head) = payload.head() else {
-        return Ok(None);
-    };
-    let jid = head.jid.text().as_bytes().to_vec(alloc)?;
-    Ok(Some(Word::new(jid)))
+    match payload.jid() {
+        Some(jid) => Ok(Some(word_of(alloc, jid)?)),
+        None => Ok(None),
+    }
 }
 
 // The jobs that payloads name.
@@ -168,12 +163,12 @@ impl Jobs {
     }
 
     // They are more than the store takes.
-    fn are_too_much(&self, limits: &Limits, places: &Places) -> bool
-        ensures is { (w : World) (phases : Phases) → result ≡ is_too_much (with_pushed w limits.now phases places.now.stands) self.now }
-        ensures room { result ≡ false → HasRoom (length self.now) places.now.stands.lives.totals }
+    fn are_too_much(&self, store: &Store) -> bool
+        ensures is { result ≡ is_too_much (world store.now) self.now }
+        ensures room { result ≡ false → HasRoom (length self.now) (world store.now).tally }
     {
         let count = self.payloads.len();
-        count > 0 && is_full(limits, places, count, self.bytes)
+        count > 0 && store.is_full(count, self.bytes)
     }
 }
 
@@ -291,41 +286,41 @@ fn check_new(batches: &Batches, bid: &[u8], jids: &[Word]) -> Result<(), BatchFa
 }
 
 // All rules on a new batch and its first jobs.
-fn check_push(limits: &Limits, stock: &Stock, batch: &Batch, jobs: &Jobs) -> Result<(), Say>
-    ensures told { (w : World) (moment : ℕ) (phases : Phases) → batch_push (limited limits.now (at w moment stock.now phases)) batch.now jobs.now ≡ unless_told result (make batch.now jobs.now) }
-    ensures kept { OnOk result (make_fault batch.now.bid batch.now.parent (jids_of jobs.now) stock.now.batches.stands ≡ None) }
-    ensures room { OnOk result (HasRoom (length jobs.now) stock.now.places.stands.lives.totals) }
+fn check_push(store: &Store, batch: &Batch, jobs: &Jobs) -> Result<(), Say>
+    ensures told { batch_push (world store.now) batch.now jobs.now ≡ unless_told result (make batch.now jobs.now) }
+    ensures kept { OnOk result (make_fault batch.now.bid batch.now.parent (jids_of jobs.now) (world store.now).batches ≡ None) }
+    ensures room { OnOk result (HasRoom (length jobs.now) (world store.now).tally) }
 {
     let bid = batch.bid.bytes();
     check(is_bid(bid), Refusal::NoBatch)?;
-    told(check_bid(&stock.batches, batch))?;
+    told(check_bid(&store.batches, batch))?;
     check(are_fit(batch, jobs), Refusal::BadPayload)?;
-    told(check_new(&stock.batches, bid, jobs.jids()))?;
-    check(!jobs.are_too_much(limits, &stock.places), Refusal::Full)
+    told(check_new(&store.batches, bid, jobs.jids()))?;
+    check(!jobs.are_too_much(store), Refusal::Full)
 }
 
 // All rules on jobs that a batch gets.
-fn check_add(limits: &Limits, stock: &Stock, bid: &[u8], jobs: &Jobs) -> Result<(), Say>
-    ensures told { (w : World) (moment : ℕ) (phases : Phases) → batch_add (limited limits.now (at w moment stock.now phases)) bid.now jobs.now ≡ unless_told result (join bid.now jobs.now) }
-    ensures kept { OnOk result (add_fault bid.now (jids_of jobs.now) stock.now.batches.stands ≡ None) }
-    ensures room { OnOk result (HasRoom (length jobs.now) stock.now.places.stands.lives.totals) }
+fn check_add(store: &Store, bid: &[u8], jobs: &Jobs) -> Result<(), Say>
+    ensures told { batch_add (world store.now) bid.now jobs.now ≡ unless_told result (join bid.now jobs.now) }
+    ensures kept { OnOk result (add_fault bid.now (jids_of jobs.now) (world store.now).batches ≡ None) }
+    ensures room { OnOk result (HasRoom (length jobs.now) (world store.now).tally) }
 {
-    told(stock.batches.check_batch(bid))?;
+    told(store.batches.check_batch(bid))?;
     check(jobs.may_join(bid), Refusal::BadPayload)?;
-    told(stock.batches.check_jids(bid, jobs.jids()))?;
-    check(!jobs.are_too_much(limits, &stock.places), Refusal::Full)
+    told(store.batches.check_jids(bid, jobs.jids()))?;
+    check(!jobs.are_too_much(store), Refusal::Full)
 }
 
 // ## The jobs come
 
 // The jobs are pushed, one after another, each at the left end of the queue that its head names.
-fn push_jobs(seats: &Seats, places: &mut Places, payloads: Vec<Payload>) -> Result<(), Memory>
-    requires { HasRoom (length payloads.items) places.old.stands.lives.totals }
-    ensures ok { OnOk result ((w : World) → with_seats w places.new.stands seats.now ≡ perform (with_seats w places.old.stands seats.now) (push_jobs payloads.items)) }
-    ensures step { places.new.stood ≡ places.old.stood }
+fn push_jobs(store: &mut Store, payloads: Vec<Payload>) -> Result<(), Memory>
+    requires { HasRoom (length payloads.items) (world store.old).tally }
+    ensures ok { OnOk result (world store.new ≡ perform (world store.old) (push_jobs payloads.items)) }
+    ensures step { InStep store.old store.new }
 {
     for payload in payloads {
-        push_job(seats, places, payload, Origin::Outside)?;
+        push_job(store, payload, Origin::Outside)?;
     }
     Ok(())
 }
@@ -363,43 +358,31 @@ fn add_jobs(alloc: Global, batches: &mut Batches, bid: &[u8], jids: Vec<Word>) -
 }
 
 // The batch is made with its jobs, and they are pushed; without any it fires at once. After want of memory a part of it is done.
-fn make_open(
-    alloc: Global,
-    seats: &Seats,
-    stock: &mut Stock,
-    batch: Batch,
-    jobs: Jobs,
-) -> Result<Reply, Memory>
-    requires clear { make_fault batch.bid batch.parent (jids_of jobs) stock.old.batches.stands ≡ None }
-    requires room { HasRoom (length jobs) stock.old.places.stands.lives.totals }
-    requires covered { AreCovered stock.old }
-    ensures ok { IfOk result (λ reply. (w : World) (moment : ℕ) → Comes (at w moment stock.old seats.now) (make batch jobs) reply (at w moment stock.new seats.now)) }
-    ensures step { KeepsStep stock.old stock.new }
+fn make_open(store: &mut Store, batch: Batch, jobs: Jobs) -> Result<Reply, Memory>
+    requires clear { make_fault batch.bid batch.parent (jids_of jobs) (world store.old).batches ≡ None }
+    requires room { HasRoom (length jobs) (world store.old).tally }
+    requires covered { AreCovered store.old }
+    ensures ok { IfOk result (λ reply. Comes (world store.old) (make batch jobs) reply (world store.new)) }
+    ensures step { InStep store.old store.new }
 {
-    let firings = make_batch(alloc, &mut stock.batches, batch, jobs.jids)?;
-    let _batches = stock.batches.len(); // for what it says of their number
-    push_jobs(seats, &mut stock.places, jobs.payloads)?;
-    let _pushes = stock.places.push_count(); // and this of the clients' pushes
-    let fired = call_all(alloc, seats, &mut stock.places, firings)?;
-    as_reply(alloc, fired)
+    let firings = make_batch(store.alloc, &mut store.batches, batch, jobs.jids)?;
+    let _batches = store.batches.len(); // for what it says of their number
+    push_jobs(store, jobs.payloads)?;
+    let _pushes = store.places.push_count(); // and this of the clients' pushes
+    let fired = call_all(store, firings)?;
+    as_reply(store.alloc, fired)
 }
 
 // The batch gets the jobs, and they are pushed. After want of memory a part of it is done.
-fn join_open(
-    alloc: Global,
-    seats: &Seats,
-    stock: &mut Stock,
-    bid: &[u8],
-    jobs: Jobs,
-) -> Result<Reply, Memory>
-    requires clear { add_fault bid.now (jids_of jobs) stock.old.batches.stands ≡ None }
-    requires room { HasRoom (length jobs) stock.old.places.stands.lives.totals }
-    ensures ok { IfOk result (λ reply. (w : World) (moment : ℕ) → Comes (at w moment stock.old seats.now) (join bid.now jobs) reply (at w moment stock.new seats.now)) }
-    ensures step { KeepsStep stock.old stock.new }
+fn join_open(store: &mut Store, bid: &[u8], jobs: Jobs) -> Result<Reply, Memory>
+    requires clear { add_fault bid.now (jids_of jobs) (world store.old).batches ≡ None }
+    requires room { HasRoom (length jobs) (world store.old).tally }
+    ensures ok { IfOk result (λ reply. Comes (world store.old) (join bid.now jobs) reply (world store.new)) }
+    ensures step { InStep store.old store.new }
 {
     let count = jobs.payloads.len();
-    add_jobs(alloc, &mut stock.batches, bid, jobs.jids)?;
-    push_jobs(seats, &mut stock.places, jobs.payloads)?;
+    add_jobs(store.alloc, &mut store.batches, bid, jobs.jids)?;
+    push_jobs(store, jobs.payloads)?;
     Ok(counted(count))
 }
 
@@ -414,34 +397,26 @@ fn join_open(
 /// - [`Refusal::BadPayload`], where a callback has no head, a batch or a lock, or where the text of a job doesn't name the batch,
 /// - [`Refusal::RepeatedJid`], where a job comes twice, and
 /// - [`Refusal::Full`], where there are as many batches, rows, bytes or pushes as there may be.
-pub fn push_batch(
-    alloc: Global,
-    limits: &Limits,
-    seats: &Seats,
-    stock: &mut Stock,
-    words: BatchWords,
-) -> Result<Reply, Memory>
-    requires closed { IsClosed stock.old }
-    requires covered { AreCovered stock.old }
-    ensures ok { IfOk result (λ reply. (w : World) (moment : ℕ) → Comes (limited limits.now (at w moment stock.old seats.now)) (batch_push (limited limits.now (at w moment stock.old seats.now)) (batch_of words.bid words.parent words.complete words.success words.death) words.texts) reply (limited limits.now (at w moment stock.new seats.now))) }
-    ensures closed { IsClosed stock.new }
-    ensures err { OnErr result (stock.new ≡ stock.old) }
+pub fn push_batch(store: &mut Store, words: BatchWords) -> Result<Reply, Memory>
+    requires ready { IsReady store.old }
+    requires covered { AreCovered store.old }
+    ensures { Runs store.old (batch_push (world store.old) (batch_in words) words.texts) result store.new }
 {
     let batch = batch_of(
-        alloc,
+        store.alloc,
         words.bid,
         words.parent,
         words.complete,
         words.success,
         words.death,
     )?;
-    let jobs = Jobs::of(alloc, words.texts)?;
-    if let Err(say) = check_push(limits, stock, &batch, &jobs) {
+    let jobs = Jobs::of(store.alloc, words.texts)?;
+    if let Err(say) = check_push(store, &batch, &jobs) {
         return Ok(Reply::Say(say));
     }
-    stock.begin();
-    let done = make_open(alloc, seats, stock, batch, jobs);
-    stock.close(done)
+    store.begin();
+    let done = make_open(store, batch, jobs);
+    store.close(done)
 }
 
 /// SK.BADD: a batch gets more jobs, and they are pushed. The answer tells how many they are. Each text is parsed here, once. It is refused with
@@ -451,37 +426,29 @@ pub fn push_batch(
 /// - [`Refusal::BadPayload`], where the text of a job doesn't name the batch,
 /// - [`Refusal::RepeatedJid`], where a job comes twice, or is in the batch, and
 /// - [`Refusal::Full`], where there are as many rows, bytes or pushes as there may be.
-pub fn add_to_batch(
-    alloc: Global,
-    limits: &Limits,
-    seats: &Seats,
-    stock: &mut Stock,
-    bid: &Word,
-    texts: Words,
-) -> Result<Reply, Memory>
-    requires { IsClosed stock.old }
-    ensures ok { IfOk result (λ reply. (w : World) (moment : ℕ) → Comes (limited limits.now (at w moment stock.old seats.now)) (batch_add (limited limits.now (at w moment stock.old seats.now)) bid.now texts) reply (limited limits.now (at w moment stock.new seats.now))) }
-    ensures closed { IsClosed stock.new }
-    ensures err { OnErr result (stock.new ≡ stock.old) }
+pub fn add_to_batch(store: &mut Store, bid: &Word, texts: Words) -> Result<Reply, Memory>
+    requires { IsReady store.old }
+    ensures { Runs store.old (batch_add (world store.old) bid.now texts) result store.new }
 {
-    let jobs = Jobs::of(alloc, texts)?;
-    if let Err(say) = check_add(limits, stock, bid.bytes(), &jobs) {
+    let jobs = Jobs::of(store.alloc, texts)?;
+    if let Err(say) = check_add(store, bid.bytes(), &jobs) {
         return Ok(Reply::Say(say));
     }
-    stock.begin();
-    let done = join_open(alloc, seats, stock, bid.bytes(), jobs);
-    stock.close(done)
+    store.begin();
+    let done = join_open(store, bid.bytes(), jobs);
+    store.close(done)
 }
 
 /// SK.BSTAT: how many members the batch has, how many of them haven't returned and how many weren't reported, 1 where one was buried and else 0, and
 /// how many members of the batch and of those within it haven't returned. It is refused where there is no such batch.
-pub fn batch_stat(alloc: Global, stock: &Stock, bid: &Word) -> Result<Reply, Memory>
-    ensures { IfOk result (λ reply. (w : World) (moment : ℕ) (phases : Phases) → Comes (at w moment stock.now phases) (batch_stat (at w moment stock.now phases) bid.now) reply (at w moment stock.now phases)) }
+pub fn batch_stat(store: &Store, bid: &Word) -> Result<Reply, Memory>
+    requires { IsReady store.now }
+    ensures { Runs store.now (batch_stat (world store.now) bid.now) result store.now }
 {
-    let Some(stat) = stock.batches.stat(bid.bytes()) else {
+    let Some(stat) = store.batches.stat(bid.bytes()) else {
         return Ok(refused(Refusal::NoBatch));
     };
-    let mut parts = Vec::with_capacity(alloc, 5)?;
+    let mut parts = Vec::with_capacity(store.alloc, 5)?;
     parts.push(counted(stat.members as usize))?;
     parts.push(counted(stat.pending as usize))?;
     parts.push(counted(stat.unreported as usize))?;

@@ -1,50 +1,40 @@
 // What batches are told of jobs, and the callbacks that are pushed then (Sidekiq's wiki, "Batches").
-ghost use Rattle.std.specs.Prelude.{◌≡◌, ◌≤◌, ◌+◌, ◌∷◌, ◌++◌, [], ℕ, Bool, IfOk, OnErr, OnOk, Some, length};
-ghost use Rattle.sk_resp.specs.Spelling.{Bytes};
+ghost use Rattle.std.specs.Prelude.{◌≡◌, ◌≤◌, ◌+◌, ◌∷◌, ◌++◌, [], IfOk, OnOk, Some, length};
 ghost use Rattle.sk_undo.specs.Steps.{edited};
 ghost use Rattle.sk_places.specs.Totals.{IsCountable, last_push, pushes_in};
 ghost use Rattle.sk_places.specs.declared.origin.Origin.TheVariants.{Inner};
-ghost use Rattle.sk_batch.specs.Events.{fired as marked_fired, marked};
-ghost use Rattle.sk_batch.specs.Told.{fires_of, mark_of};
 ghost use Rattle.sk_model.specs.Change.{perform};
-ghost use Rattle.sk_seats.specs.Phases.{Phases};
-ghost use Rattle.sk_model.specs.Told.{call, fired_texts, kind_text, push_job, tell, tell_in};
-ghost use Rattle.sk_model.specs.World.{World};
-ghost use Rattle.sk_jobs.specs.Calls.{Alike, IsTold, calls, member_of};
-ghost use Rattle.sk_places.specs.declared.row.Place.{Place};
-ghost use Rattle.sk_jobs.specs.Seated.{with_seats};
-ghost use Rattle.sk_jobs.specs.Sending.{IsAside, rows_in};
-ghost use Rattle.sk_jobs.specs.Stocked.{AreCovered, KeepsStep, at};
+ghost use Rattle.sk_model.specs.Told.{call, fired_texts, kind_text, push_job};
+ghost use Rattle.sk_store.specs.Stored.{InStep, world};
+ghost use Rattle.sk_jobs.specs.Calls.{AreCovered, IsTold, calls, fires_on, marks_on, member_of, tell_member};
+ghost use Rattle.sk_jobs.specs.Sending.{Takes};
 
-use crate::stock::Stock;
 use sk_base::Score;
 use sk_batch::{Batches, Event, Firing, Kind, Member};
 use sk_cmd::Side;
 use sk_payload::Payload;
-use sk_places::{Origin, Place, Places};
+use sk_places::{Origin, Place};
 use sk_resp::{Memory, Text, Word};
-use sk_seats::Seats;
+use sk_store::Store;
 use std::alloc::Global;
 
 /// A job is pushed at the left end of the queue that its head names. One without a head is pushed nowhere.
-pub fn push_job(
-    seats: &Seats,
-    places: &mut Places,
-    payload: Payload,
-    from: Origin,
-) -> Result<(), Memory>
-    requires { IsCountable from places.old.stands.lives.totals }
-    ensures ok { OnOk result ((w : World) (phases : Phases) → Alike phases seats.now → with_seats w places.new.stands phases ≡ perform (with_seats w places.old.stands phases) (push_job from payload)) }
-    ensures aside { OnOk result ((test : Place → Bool) → IsAside test → rows_in test places.new.stands.rows ≡ rows_in test places.old.stands.rows) }
-    ensures few { OnOk result (pushes_in places.new.stands.lives.totals ≤ pushes_in places.old.stands.lives.totals + 1) }
-    ensures step { places.new.stood ≡ places.old.stood }
+pub fn push_job(store: &mut Store, payload: Payload, from: Origin) -> Result<(), Memory>
+    requires { IsCountable from (world store.old).tally }
+    ensures ok { OnOk result (world store.new ≡ perform (world store.old) (push_job from payload)) }
+    ensures aside { OnOk result (Takes [] store.old store.new) }
+    ensures few { OnOk result (pushes_in (world store.new).tally ≤ pushes_in (world store.old).tally + 1) }
+    ensures step { InStep store.old store.new }
 {
     let Some(head) = payload.head() else {
         return Ok(());
     };
     let queue = Place::Queue(head.queue.copy()?);
-    let held = seats.have(&payload);
-    places.push(queue, Score::of_moment(0), Side::Left, payload, from, held)
+    let held = store.seats.have(&payload);
+    let start = Score::of_moment(0);
+    store
+        .places
+        .push(queue, start, Side::Left, payload, from, held)
 }
 
 // The name of a kind.
@@ -60,44 +50,33 @@ fn name_of(alloc: Global, kind: Kind) -> Result<Word, Memory>
 }
 
 // The callback of a firing is pushed, where there is one, and the firing is told.
-fn call(
-    alloc: Global,
-    seats: &Seats,
-    places: &mut Places,
-    fired: &mut Vec<Word>,
-    firing: Firing,
-) -> Result<(), Memory>
-    requires { IsCountable Inner places.old.stands.lives.totals }
-    ensures ok { OnOk result ((w : World) (phases : Phases) → Alike phases seats.now → with_seats w places.new.stands phases ≡ perform (with_seats w places.old.stands phases) (call firing.payload)) }
+fn call(store: &mut Store, fired: &mut Vec<Word>, firing: Firing) -> Result<(), Memory>
+    requires { IsCountable Inner (world store.old).tally }
+    ensures ok { OnOk result (world store.new ≡ perform (world store.old) (call firing.payload)) }
     ensures texts { OnOk result (fired.new.items ≡ fired.old.items ++ firing.bid ∷ kind_text firing.kind ∷ []) }
-    ensures aside { OnOk result ((test : Place → Bool) → IsAside test → rows_in test places.new.stands.rows ≡ rows_in test places.old.stands.rows) }
-    ensures few { OnOk result (pushes_in places.new.stands.lives.totals ≤ pushes_in places.old.stands.lives.totals + 1) }
-    ensures step { places.new.stood ≡ places.old.stood }
+    ensures aside { OnOk result (Takes [] store.old store.new) }
+    ensures few { OnOk result (pushes_in (world store.new).tally ≤ pushes_in (world store.old).tally + 1) }
+    ensures step { InStep store.old store.new }
 {
     fired.push(firing.bid)?;
-    fired.push(name_of(alloc, firing.kind)?)?;
+    fired.push(name_of(store.alloc, firing.kind)?)?;
     match firing.payload {
-        Some(payload) => push_job(seats, places, payload, Origin::Inner),
+        Some(payload) => push_job(store, payload, Origin::Inner),
         None => Ok(()),
     }
 }
 
 /// The callbacks of firings are pushed, one after another. Answers the batch and the kind of each firing, in order.
-pub fn call_all(
-    alloc: Global,
-    seats: &Seats,
-    places: &mut Places,
-    firings: Vec<Firing>,
-) -> Result<Vec<Word>, Memory>
-    requires { pushes_in places.old.stands.lives.totals + length firings.items ≤ last_push }
-    ensures ok { OnOk result ((w : World) (phases : Phases) → Alike phases seats.now → with_seats w places.new.stands phases ≡ perform (with_seats w places.old.stands phases) (calls firings.items)) }
+pub fn call_all(store: &mut Store, firings: Vec<Firing>) -> Result<Vec<Word>, Memory>
+    requires { pushes_in (world store.old).tally + length firings.items ≤ last_push }
+    ensures ok { OnOk result (world store.new ≡ perform (world store.old) (calls firings.items)) }
     ensures texts { IfOk result (λ fired. fired.items ≡ fired_texts firings.items) }
-    ensures aside { OnOk result ((test : Place → Bool) → IsAside test → rows_in test places.new.stands.rows ≡ rows_in test places.old.stands.rows) }
-    ensures step { places.new.stood ≡ places.old.stood }
+    ensures aside { OnOk result (Takes [] store.old store.new) }
+    ensures step { InStep store.old store.new }
 {
-    let mut fired = Vec::new(alloc);
+    let mut fired = Vec::new(store.alloc);
     for firing in firings {
-        call(alloc, seats, places, &mut fired, firing)?;
+        call(store, &mut fired, firing)?;
     }
     Ok(fired)
 }
@@ -109,8 +88,8 @@ fn fire(
     event: Event,
     member: &Member,
 ) -> Result<Vec<Firing>, Memory>
-    ensures fires { IfOk result (λ firings. firings.items ≡ fires_of event member.now.bid member.now.jid batches.old.stands) }
-    ensures ok { OnOk result (batches.new ≡ edited (marked_fired (fires_of event member.now.bid member.now.jid batches.old.stands) (marked (mark_of event) member.now.bid member.now.jid batches.old.stands)) batches.old) }
+    ensures fires { IfOk result (λ firings. firings.items ≡ fires_on event member.now batches.old.stands) }
+    ensures ok { OnOk result (batches.new ≡ edited (marks_on event member.now batches.old.stands) batches.old) }
     ensures step { batches.new.stood ≡ batches.old.stood }
 {
     let (bid, jid) = (member.bid.bytes(), member.jid.bytes());
@@ -122,43 +101,30 @@ fn fire(
 }
 
 // A batch is told what has come of its member, and what it fires is called.
-fn tell_batch(
-    alloc: Global,
-    seats: &Seats,
-    stock: &mut Stock,
-    event: Event,
-    member: &Member,
-) -> Result<Vec<Word>, Memory>
-    requires { AreCovered stock.old }
-    ensures ok { IfOk result (λ fired. (w : World) (moment : ℕ) (phases : Phases) → Alike phases seats.now → IsTold (at w moment stock.old phases) (at w moment stock.new phases) fired.items (tell_in event (at w moment stock.old phases) member.now.jid (Some member.now.bid))) }
-    ensures aside { OnOk result ((test : Place → Bool) → IsAside test → rows_in test stock.new.places.stands.rows ≡ rows_in test stock.old.places.stands.rows) }
-    ensures covered { OnOk result (AreCovered stock.new) }
-    ensures step { KeepsStep stock.old stock.new }
+fn tell_batch(store: &mut Store, event: Event, member: &Member) -> Result<Vec<Word>, Memory>
+    requires { AreCovered store.old }
+    ensures ok { IfOk result (λ fired. IsTold (world store.old) (world store.new) fired.items (tell_member event (world store.old) (Some member.now))) }
+    ensures aside { OnOk result (Takes [] store.old store.new) }
+    ensures covered { OnOk result (AreCovered store.new) }
+    ensures step { InStep store.old store.new }
 {
-    let firings = fire(alloc, &mut stock.batches, event, member)?;
-    let _batches = stock.batches.len(); // for what it says of their number
-    let _pushes = stock.places.push_count(); // and this of the clients' pushes
-    call_all(alloc, seats, &mut stock.places, firings)
+    let firings = fire(store.alloc, &mut store.batches, event, member)?;
+    let _batches = store.batches.len(); // for what it says of their number
+    let _pushes = store.places.push_count(); // and this of the clients' pushes
+    call_all(store, firings)
 }
 
-/// The batch of a job is told what has come of it, where its head names one, and what it fires is called. Answers the batch and the kind of each
-/// firing, in order.
-pub fn tell(
-    alloc: Global,
-    seats: &Seats,
-    stock: &mut Stock,
-    event: Event,
-    member: Option<Member>,
-) -> Result<Vec<Word>, Memory>
-    requires { AreCovered stock.old }
-    ensures ok { IfOk result (λ fired. (w : World) (moment : ℕ) (phases : Phases) (text : Bytes) → member ≡ member_of text → Alike phases seats.now → IsTold (at w moment stock.old phases) (at w moment stock.new phases) fired.items (tell event (at w moment stock.old phases) text)) }
-    ensures aside { OnOk result ((test : Place → Bool) → IsAside test → rows_in test stock.new.places.stands.rows ≡ rows_in test stock.old.places.stands.rows) }
-    ensures covered { OnOk result (AreCovered stock.new) }
-    ensures step { KeepsStep stock.old stock.new }
+/// The batch of a member is told what has come of its job, and what it fires is called. Answers the batch and the kind of each firing, in order.
+pub fn tell(store: &mut Store, event: Event, member: Option<Member>) -> Result<Vec<Word>, Memory>
+    requires { AreCovered store.old }
+    ensures ok { IfOk result (λ fired. IsTold (world store.old) (world store.new) fired.items (tell_member event (world store.old) member)) }
+    ensures aside { OnOk result (Takes [] store.old store.new) }
+    ensures covered { OnOk result (AreCovered store.new) }
+    ensures step { InStep store.old store.new }
 {
     match member {
-        Some(member) => tell_batch(alloc, seats, stock, event, &member),
-        None => Ok(Vec::new(alloc)),
+        Some(member) => tell_batch(store, event, &member),
+        None => Ok(Vec::new(store.alloc)),
     }
 }
 

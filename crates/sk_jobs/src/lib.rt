@@ -1,4 +1,4 @@
-//! The commands of workers, and the store's own scripts: what moves jobs between queues, private lists and sets, and what is told of batches.
+//! The commands of workers, and the store's own commands: what moves jobs between queues, private lists and sets, and what is told of batches.
 #![tactic(auto)]
 
 mod batches;
@@ -7,16 +7,18 @@ mod calls;
 mod dead;
 mod fetches;
 mod hands;
+mod lock_digest;
+mod locking;
 mod processes;
 mod releases;
 mod report;
-mod rescue;
+mod rescues;
 mod retries;
 mod runs;
 mod scripts;
 mod sending;
 mod status;
-mod stock;
+mod unique;
 mod workers;
 
 pub use batches::{BatchWords, add_to_batch, batch_stat, push_batch};
@@ -24,8 +26,8 @@ pub use burials::bury;
 pub use processes::{beat, join};
 pub use releases::back;
 pub use runs::{discard, fail, start, succeed};
-pub use scripts::{SetScript, send};
+pub use scripts::{due, kill, rescue, revive};
 pub use status::{locate, numbers, status_page, tally};
 pub use std::alloc::AllocError as Memory;
-pub use stock::Stock;
+pub use unique::push_unique;
 pub use workers::work;

@@ -1,14 +1,16 @@
 // How a worker lets go of a job: LREM sq:ident 1 payload, and SK.BACK payload. The job has stood in the private list all the while.
-ghost use Rattle.std.specs.Prelude.{◌≡◌, IfOk, List, None, OnErr, Some, option_map};
+ghost use Rattle.std.specs.Prelude.{◌≡◌, IfOk, List, None, Some, option_map};
 ghost use Rattle.sk_payload.specs.Head.{head};
-ghost use Rattle.sk_seats.specs.Phases.{phase_in};
 ghost use Rattle.sk_seats.specs.Works.{is_held_as};
+ghost use Rattle.sk_model.specs.Outcome.{Comes};
 ghost use Rattle.sk_model.specs.Workers.{back, release_of};
+ghost use Rattle.sk_model.specs.World.{phase_of};
 ghost use Rattle.sk_seats.specs.declared.phase.Phase.TheVariants as Phase;
 ghost use Rattle.sk_seats.specs.declared.work.Work.{Work};
 ghost use Rattle.sk_model.specs.Change.{ending_of};
 ghost use Rattle.sk_undo.specs.Steps.{edited};
-ghost use Rattle.sk_jobs.specs.Seated.{ComesSeated, IsFound, ended_by, ident_in};
+ghost use Rattle.sk_store.specs.Stored.{IsReady, Runs, world};
+ghost use Rattle.sk_jobs.specs.Seated.{IsFound, ended_by, ident_in};
 
 use crate::calls::word_of;
 use crate::hands::find_held;
@@ -16,7 +18,8 @@ use sk_base::Score;
 use sk_cmd::Side;
 use sk_places::{Ending, Place, Places};
 use sk_resp::{Memory, Refusal, Reply, Text, Word};
-use sk_seats::{End, Phase, Seats, Stage, Work};
+use sk_seats::{End, Phase, Stage, Work};
+use sk_store::Store;
 use sk_value::{one_if, refused};
 use std::alloc::Global;
 
@@ -43,23 +46,23 @@ fn end_job(places: &mut Places, work: &Work)
 /// The release of the first job of this text that the seat has put back or is done with: of the rows of the text in the private list of its process
 /// the leftmost goes. It is out of turn where the seat has none. The answer tells whether there was a row, which a rescue may have taken. Takes no
 /// memory.
-pub fn release(places: &mut Places, seats: &mut Seats, seat: u32, ident: Word, text: &Word) -> Reply
-    requires closed { places.old.stood ≡ None }
-    requires joined { (works : List Work) × (phase_in seats.old seat ≡ Phase.Joined ident works) }
-    ensures done { ComesSeated (λ w. release_of w seat (phase_in seats.old seat) ident (Some text.now)) places.old.stands seats.old result places.new.stands seats.new }
-    ensures closed { places.new.stood ≡ None }
+pub fn release(store: &mut Store, seat: u32, ident: Word, text: &Word) -> Reply
+    requires ready { IsReady store.old }
+    requires joined { (works : List Work) × (phase_of (world store.old) seat ≡ Phase.Joined ident works) }
+    ensures done { Comes (world store.old) (release_of (world store.old) seat (phase_of (world store.old) seat) ident (Some text.now)) result (world store.new) }
+    ensures ready { IsReady store.new }
 {
-    let Phase::Joined(_, works) = seats.get(seat) else {
+    let Phase::Joined(_, works) = store.seats.get(seat) else {
         unreachable!();
     };
     let Some(at) = works.find_done(text.bytes()) else {
         return refused(Refusal::OutOfTurn);
     };
     let list = Place::Private(ident);
-    let was = places.find(&list, text.bytes()).is_some();
-    end_job(places, works.get(at));
-    places.take_copy(&list, text);
-    seats.release(seat, at);
+    let was = store.places.find(&list, text.bytes()).is_some();
+    end_job(&mut store.places, works.get(at));
+    store.places.take_copy(&list, text);
+    store.seats.release(seat, at);
     one_if(was)
 }
 
@@ -84,31 +87,25 @@ fn way_back(
 
 /// SK.BACK: the first job of this text that the seat holds goes back to the right end of its queue, and is fetched first. It is refused without a
 /// head. The answer tells whether it was still in the private list.
-pub fn back(
-    alloc: Global,
-    places: &mut Places,
-    seats: &mut Seats,
-    seat: u32,
-    text: &Word,
-) -> Result<Reply, Memory>
-    ensures ok { IfOk result (λ reply. ComesSeated (λ w. back w seat (phase_in seats.old seat) text.now) places.old.stands seats.old reply places.new.stands seats.new) }
-    ensures step { places.new.stood ≡ places.old.stood }
-    ensures err { OnErr result ((places.new ≡ places.old) × (seats.new ≡ seats.old)) }
+pub fn back(store: &mut Store, seat: u32, text: &Word) -> Result<Reply, Memory>
+    requires { IsReady store.old }
+    ensures { Runs store.old (back (world store.old) seat (phase_of (world store.old) seat) text.now) result store.new }
 {
-    let at = match find_held(seats.get(seat), text) {
+    let at = match find_held(store.seats.get(seat), text) {
         Ok(at) => at,
         Err(refusal) => return Ok(refused(refusal)),
     };
-    let Some((ident, queue)) = way_back(alloc, seats.get(seat), text, at)? else {
+    let way = way_back(store.alloc, store.seats.get(seat), text, at)?;
+    let Some((ident, queue)) = way else {
         return Ok(refused(Refusal::BadPayload));
     };
-    let was = places.shift_text(
+    let was = store.places.shift_text(
         &Place::Private(ident),
         text.bytes(),
         Place::Queue(queue),
         Score::of_moment(0),
         Side::Right,
     )?;
-    seats.release(seat, at);
+    store.seats.release(seat, at);
     Ok(one_if(was))
 }

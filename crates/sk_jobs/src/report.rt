@@ -1,7 +1,9 @@
 // What came of jobs that were sent on.
 ghost use Rattle.std.specs.Prelude.{◌≡◌, ◌+◌, ◌<◌, ◌^◌, ◌++◌, [], IfOk, OnOk};
 ghost use Rattle.sk_model.specs.Jobs.{Sent, reports};
-ghost use Rattle.sk_model.specs.Told.{fired_texts};
+ghost use Rattle.sk_model.specs.Outcome.{Comes};
+ghost use Rattle.sk_model.specs.World.{World};
+ghost use Rattle.sk_jobs.specs.Sending.{IsSent};
 
 use sk_resp::{Memory, Replies, Reply, Word};
 use sk_value::{as_reply, counted};
@@ -64,8 +66,8 @@ impl Report {
 
     /// How many were moved and buried, what was fired, and the texts that the dead set dropped.
     pub fn told(self, alloc: Global) -> Result<Reply, Memory>
-        requires few { self.moved + self.buried < 2 ^ 63 }
-        ensures { IfOk result (λ reply. (sent : Sent) → self.moved ≡ sent.moved → self.buried ≡ sent.buried → self.fired.items ≡ fired_texts sent.firings → self.trimmed.items ≡ sent.trimmed → reply ≡ (reports sent).reply) }
+        requires { self.moved + self.buried < 2 ^ 63 }
+        ensures { IfOk result (λ reply. (old new : World) (sent : Sent) → IsSent old new self sent → Comes old (reports sent) reply new) }
     {
         let mut parts = Vec::with_capacity(alloc, 4)?;
         parts.push(counted(self.moved))?;

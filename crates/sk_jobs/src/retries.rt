@@ -1,38 +1,39 @@
 // ZADD retry score payload from a worker's seat: the text of a job that has failed waits for its next run.
 ghost use Rattle.std.specs.Prelude.{◌≡◌, IfOk, OnErr, OnOk, Some, false, not};
 ghost use Rattle.std.specs.Option.{is_some};
-ghost use Rattle.sk_places.specs.Rows.{row_of, rows_at};
-ghost use Rattle.sk_places.specs.declared.row.Place.TheVariants.{Set};
+ghost use Rattle.sk_places.specs.Rows.{row_of};
 ghost use Rattle.sk_model.specs.Change.{changed};
-ghost use Rattle.sk_seats.specs.Phases.{Phases, is_plain, phase_in};
+ghost use Rattle.sk_seats.specs.Phases.{is_plain};
 ghost use Rattle.sk_model.specs.Sets.{put_back};
 ghost use Rattle.sk_model.specs.Workers.{retry};
-ghost use Rattle.sk_model.specs.World.{World};
-ghost use Rattle.sk_jobs.specs.Seated.{ComesSeated, with_seats};
+ghost use Rattle.sk_model.specs.World.{phase_of};
+ghost use Rattle.sk_store.specs.Stored.{InStep, IsReady, Runs, world};
+ghost use Rattle.sk_jobs.specs.Sending.{set_rows};
 
 use crate::hands::find_retried;
 use sk_base::Score;
 use sk_cmd::{Scored, Side};
 use sk_payload::Payload;
-use sk_places::{Place, Places};
+use sk_places::Place;
 use sk_resp::{Memory, Reply, Word};
-use sk_seats::{Seats, Stage};
+use sk_seats::Stage;
+use sk_store::Store;
 use sk_value::{one_if, refused};
-use std::alloc::Global;
 
 /// The payload goes into the set, and a text that is there gets the score. The answer tells whether it is new.
 pub fn put_back(
-    places: &mut Places,
+    store: &mut Store,
     set: Scored,
     score: Score,
     payload: Payload,
 ) -> Result<bool, Memory>
-    ensures answer { IfOk result (λ new. new ≡ not (is_some (row_of payload (rows_at (Set set) places.old.stands.rows)))) }
-    ensures ok { OnOk result ((w : World) (phases : Phases) → with_seats w places.new.stands phases ≡ changed (with_seats w places.old.stands phases) (put_back (with_seats w places.old.stands phases) set (score, payload))) }
-    ensures step { places.new.stood ≡ places.old.stood }
-    ensures err { OnErr result (places.new ≡ places.old) }
+    ensures answer { IfOk result (λ new. new ≡ not (is_some (row_of payload (set_rows set (world store.old))))) }
+    ensures ok { OnOk result (world store.new ≡ changed (world store.old) (put_back (world store.old) set (score, payload))) }
+    ensures step { InStep store.old store.new }
+    ensures err { OnErr result (store.new ≡ store.old) }
 {
     let place = Place::Set(set);
+    let places = &mut store.places;
     let text = payload.text().bytes();
     if places.shift_text(&place, text, Place::Set(set), score, Side::Left)? {
         return Ok(false);
@@ -43,25 +44,18 @@ pub fn put_back(
 
 /// The text of a failed job goes into `retry`, where it follows a job that the seat holds. The seat has still to release that job. The answer tells
 /// how many are new. The text is parsed here, once.
-pub fn retry(
-    alloc: Global,
-    places: &mut Places,
-    seats: &mut Seats,
-    seat: u32,
-    pair: (Score, Word),
-) -> Result<Reply, Memory>
-    requires { is_plain (phase_in seats.old seat) ≡ false }
-    ensures ok { IfOk result (λ reply. ComesSeated (λ w. retry w seat (phase_in seats.old seat) (Some pair)) places.old.stands seats.old reply places.new.stands seats.new) }
-    ensures step { places.new.stood ≡ places.old.stood }
-    ensures err { OnErr result ((places.new ≡ places.old) × (seats.new ≡ seats.old)) }
+pub fn retry(store: &mut Store, seat: u32, pair: (Score, Word)) -> Result<Reply, Memory>
+    requires ready { IsReady store.old }
+    requires joined { is_plain (phase_of (world store.old) seat) ≡ false }
+    ensures { Runs store.old (retry (world store.old) seat (phase_of (world store.old) seat) (Some pair)) result store.new }
 {
     let (score, text) = pair;
-    let payload = Payload::of(alloc, text)?;
-    let at = match find_retried(seats.get(seat), &payload) {
+    let payload = Payload::of(store.alloc, text)?;
+    let at = match find_retried(store.seats.get(seat), &payload) {
         Ok(at) => at,
         Err(refusal) => return Ok(refused(refusal)),
     };
-    let new = put_back(places, Scored::Retry, score, payload)?;
-    seats.stage(seat, at, Stage::Put);
+    let new = put_back(store, Scored::Retry, score, payload)?;
+    store.seats.stage(seat, at, Stage::Put);
     Ok(one_if(new))
 }

@@ -1,152 +1,126 @@
 // What a worker tells of the run of its job: SK.START payload, SK.FAIL payload, SK.OK payload, SK.DROP payload.
-ghost use Rattle.std.specs.Prelude.{◌≡◌, ◌∷◌, ◌≤◌, [], ℕ, IfOk, OnErr};
+ghost use Rattle.std.specs.Prelude.{◌≡◌, ◌≤◌, IfOk};
 ghost use Rattle.sk_base.specs.Score.{last_moment};
-ghost use Rattle.sk_resp.specs.Spelling.{Bytes};
 ghost use Rattle.sk_batch.specs.declared.event.Event.TheVariants as event;
-ghost use Rattle.sk_counters.specs.Counters.{failed, processed};
-ghost use Rattle.sk_places.specs.Placed.{Placed};
-ghost use Rattle.sk_model.specs.Change.{Counts, Turns};
 ghost use Rattle.sk_model.specs.Outcome.{Comes};
-ghost use Rattle.sk_seats.specs.Phases.{Phases, phase_in, turned};
 ghost use Rattle.sk_model.specs.Told.{and_tell};
 ghost use Rattle.sk_model.specs.Workers.{drop, fail, ok, start};
-ghost use Rattle.sk_model.specs.World.{World};
-ghost use Rattle.sk_jobs.specs.Calls.{Alike, member_of};
-ghost use Rattle.sk_jobs.specs.Seated.{with_seats, IsFound};
-ghost use Rattle.sk_jobs.specs.Stocked.{ComesStocked, AreCovered, IsClosed, KeepsStep, at};
+ghost use Rattle.sk_model.specs.World.{phase_of};
 ghost use Rattle.sk_seats.specs.Works.{is_held_as};
-ghost use Rattle.sk_seats.specs.declared.phase.Phase.{Phase};
+ghost use Rattle.sk_store.specs.Stored.{InStep, IsReady, Runs, world};
+ghost use Rattle.sk_jobs.specs.Calls.{AreCovered, counts_failed, counts_processed, member_of};
+ghost use Rattle.sk_jobs.specs.Seated.{IsFound};
 
 use crate::calls::{member_of, tell};
 use crate::hands::find_held;
-use crate::stock::Stock;
+use crate::locking::{held_lock_at, let_go};
 use sk_batch::{Event, Member};
 use sk_counters::Counted;
+use sk_payload::Until;
 use sk_resp::{Memory, Reply, Say, Word};
-use sk_seats::{End, Phase, Seats, Stage};
+use sk_seats::{End, Phase, Stage};
+use sk_store::Store;
 use sk_value::{as_reply, refused};
-use std::alloc::Global;
 
-/// SK.START: a job that the seat holds is about to run.
-pub fn start(seats: &Seats, seat: u32, text: &Word) -> Reply
-    ensures { (w : World) → Comes w (start (phase_in seats.now seat) text.now) result w }
+/// SK.START: a job that the seat holds is about to run. It lets go of a lock that it holds until then.
+pub fn start(store: &mut Store, seat: u32, text: &Word) -> Result<Reply, Memory>
+    requires { IsReady store.old }
+    ensures { Runs store.old (start (phase_of (world store.old) seat) text.now) result store.new }
 {
-    match find_held(seats.get(seat), text) {
-        Ok(_) => Reply::Say(Say::Ok),
-        Err(refusal) => refused(refusal),
-    }
+    let at = match find_held(store.seats.get(seat), text) {
+        Ok(at) => at,
+        Err(refusal) => return Ok(refused(refusal)),
+    };
+    let lock = held_lock_at(store, Until::Start, seat, text, at)?;
+    let_go(store, lock);
+    Ok(Reply::Say(Say::Ok))
 }
 
 // The member that a job of this text in the seat's hands is, where its head names a batch.
-fn member_at(alloc: Global, phase: &Phase, text: &Word, at: usize) -> Result<Option<Member>, Memory>
-    requires { IsFound (is_held_as text.now) phase.now at }
+fn member_at(store: &Store, seat: u32, text: &Word, at: usize) -> Result<Option<Member>, Memory>
+    requires { IsFound (is_held_as text.now) (phase_of (world store.now) seat) at }
     ensures { IfOk result (λ member. member ≡ member_of text.now) }
 {
-    match phase {
+    match store.seats.get(seat) {
         Phase::Plain => unreachable!(),
-        Phase::Joined(_, works) => member_of(alloc, &works.get(at).payload),
+        Phase::Joined(_, works) => member_of(store.alloc, &works.get(at).payload),
     }
 }
 
-// The run of a job has ended: it counts, and its batch is told. After want of memory a part of it is done.
-fn fail_open(
-    alloc: Global,
-    moment: u64,
-    seats: &Seats,
-    stock: &mut Stock,
-    member: Option<Member>,
-) -> Result<Reply, Memory>
-    requires early { moment ≤ last_moment }
-    requires covered { AreCovered stock.old }
-    ensures ok { IfOk result (λ reply. (w : World) (text : Bytes) → member ≡ member_of text → Comes (at w moment stock.old seats.now) (and_tell event.Reported (at w moment stock.old seats.now) text (Counts processed ∷ Counts failed ∷ [])) reply (at w moment stock.new seats.now)) }
-    ensures step { KeepsStep stock.old stock.new }
+// The run of a job that the seat holds has ended: it counts, and its batch is told. After want of memory a part of it is done.
+fn fail_open(store: &mut Store, seat: u32, text: &Word, at: usize) -> Result<Reply, Memory>
+    requires early { store.old.moment ≤ last_moment }
+    requires covered { AreCovered store.old }
+    requires found { IsFound (is_held_as text.now) (phase_of (world store.old) seat) at }
+    ensures ok { IfOk result (λ reply. Comes (world store.old) (and_tell event.Reported (world store.old) text.now counts_failed) reply (world store.new)) }
+    ensures step { InStep store.old store.new }
 {
-    stock.counters.raise(Counted::Processed, moment)?;
-    stock.counters.raise(Counted::Failed, moment)?;
-    let fired = tell(alloc, seats, stock, Event::Reported, member)?;
-    as_reply(alloc, fired)
+    let member = member_at(store, seat, text, at)?;
+    store.counters.raise(Counted::Processed, store.moment)?;
+    store.counters.raise(Counted::Failed, store.moment)?;
+    let fired = tell(store, Event::Reported, member)?;
+    as_reply(store.alloc, fired)
 }
 
 /// SK.FAIL: a job that the seat holds has raised. The answer names what its batch fired.
-pub fn fail(
-    alloc: Global,
-    moment: u64,
-    seats: &Seats,
-    stock: &mut Stock,
-    seat: u32,
-    text: &Word,
-) -> Result<Reply, Memory>
-    requires early { moment ≤ last_moment }
-    requires closed { IsClosed stock.old }
-    requires covered { AreCovered stock.old }
-    ensures ok { IfOk result (λ reply. ComesStocked (λ w. fail w (phase_in seats.now seat) text.now) moment stock.old seats.now reply stock.new seats.now) }
-    ensures closed { IsClosed stock.new }
-    ensures err { OnErr result (stock.new ≡ stock.old) }
+pub fn fail(store: &mut Store, seat: u32, text: &Word) -> Result<Reply, Memory>
+    requires ready { IsReady store.old }
+    requires covered { AreCovered store.old }
+    ensures { Runs store.old (fail (world store.old) (phase_of (world store.old) seat) text.now) result store.new }
 {
-    let at = match find_held(seats.get(seat), text) {
+    let at = match find_held(store.seats.get(seat), text) {
         Ok(at) => at,
         Err(refusal) => return Ok(refused(refusal)),
     };
-    let member = member_at(alloc, seats.get(seat), text, at)?;
-    stock.begin();
-    let done = fail_open(alloc, moment, seats, stock, member);
-    stock.close(done)
+    store.begin();
+    let done = fail_open(store, seat, text, at);
+    store.close(done)
 }
 
 // The run of a job has ended well, in the same way. The seat turns then.
-fn succeed_open(
-    alloc: Global,
-    moment: u64,
-    seats: &Seats,
-    stock: &mut Stock,
-    member: Option<Member>,
-) -> Result<Reply, Memory>
-    requires early { moment ≤ last_moment }
-    requires covered { AreCovered stock.old }
-    ensures ok { IfOk result (λ reply. (w : World) (phases : Phases) (seat : ℕ) (phase : Phase) (text : Bytes) → member ≡ member_of text → Alike (turned seat phase phases) seats.now → Comes (at w moment stock.old phases) (and_tell event.Returned (at w moment stock.old phases) text (Turns seat phase ∷ Counts processed ∷ [])) reply (at w moment stock.new (turned seat phase phases))) }
-    ensures step { KeepsStep stock.old stock.new }
+fn succeed_open(store: &mut Store, seat: u32, text: &Word, at: usize) -> Result<Reply, Memory>
+    requires early { store.old.moment ≤ last_moment }
+    requires covered { AreCovered store.old }
+    requires found { IsFound (is_held_as text.now) (phase_of (world store.old) seat) at }
+    ensures ok { IfOk result (λ reply. Comes (world store.old) (and_tell event.Returned (world store.old) text.now counts_processed) reply (world store.new)) }
+    ensures step { InStep store.old store.new }
 {
-    stock.counters.raise(Counted::Processed, moment)?;
-    let fired = tell(alloc, seats, stock, Event::Returned, member)?;
-    as_reply(alloc, fired)
+    let member = member_at(store, seat, text, at)?;
+    store.counters.raise(Counted::Processed, store.moment)?;
+    let fired = tell(store, Event::Returned, member)?;
+    as_reply(store.alloc, fired)
 }
 
 /// SK.OK: the first job of this text that the seat holds has returned, and the seat has still to release it. The answer names what its batch fired.
-pub fn succeed(
-    alloc: Global,
-    moment: u64,
-    seats: &mut Seats,
-    stock: &mut Stock,
-    seat: u32,
-    text: &Word,
-) -> Result<Reply, Memory>
-    requires early { moment ≤ last_moment }
-    requires closed { IsClosed stock.old }
-    requires covered { AreCovered stock.old }
-    ensures ok { IfOk result (λ reply. ComesStocked (λ w. ok w seat (phase_in seats.old seat) text.now) moment stock.old seats.old reply stock.new seats.new) }
-    ensures closed { IsClosed stock.new }
-    ensures err { OnErr result ((stock.new ≡ stock.old) × (seats.new ≡ seats.old)) }
+/// It lets go of a lock that it holds until then.
+pub fn succeed(store: &mut Store, seat: u32, text: &Word) -> Result<Reply, Memory>
+    requires ready { IsReady store.old }
+    requires covered { AreCovered store.old }
+    ensures { Runs store.old (ok (world store.old) seat (phase_of (world store.old) seat) text.now) result store.new }
 {
-    let at = match find_held(seats.get(seat), text) {
+    let at = match find_held(store.seats.get(seat), text) {
         Ok(at) => at,
         Err(refusal) => return Ok(refused(refusal)),
     };
-    let member = member_at(alloc, seats.get(seat), text, at)?;
-    stock.begin();
-    let done = succeed_open(alloc, moment, seats, stock, member);
-    let reply = stock.close(done)?;
-    seats.stage(seat, at, Stage::Settled(End::Returned));
+    let lock = held_lock_at(store, Until::Success, seat, text, at)?;
+    store.begin();
+    let done = succeed_open(store, seat, text, at);
+    let reply = store.close(done)?;
+    store.seats.stage(seat, at, Stage::Settled(End::Returned));
+    let_go(store, lock);
     Ok(reply)
 }
 
 /// SK.DROP: the first job of this text that the seat holds is given up, and the seat has still to release it. Takes no memory.
-pub fn discard(seats: &mut Seats, seat: u32, text: &Word) -> Reply
-    ensures { (w : World) (p : Placed) → Comes (with_seats w p seats.old) (drop seat (phase_in seats.old seat) text.now) result (with_seats w p seats.new) }
+pub fn discard(store: &mut Store, seat: u32, text: &Word) -> Reply
+    requires { IsReady store.old }
+    ensures done { Comes (world store.old) (drop seat (phase_of (world store.old) seat) text.now) result (world store.new) }
+    ensures ready { IsReady store.new }
 {
-    let at = match find_held(seats.get(seat), text) {
+    let at = match find_held(store.seats.get(seat), text) {
         Ok(at) => at,
         Err(refusal) => return refused(refusal),
     };
-    seats.stage(seat, at, Stage::Settled(End::Discarded));
+    store.seats.stage(seat, at, Stage::Settled(End::Discarded));
     Reply::Say(Say::Ok)
 }

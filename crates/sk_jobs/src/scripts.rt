@@ -1,153 +1,149 @@
 // SK.DUE set limit, SK.REVIVE set text, SK.KILL set text, SK.RESCUE: jobs that go from a set, or from the private lists of processes that are gone,
-// to their queues or to the dead set. Each is one step, whole or not at all.
-ghost use Rattle.std.specs.Prelude.{◌≡◌, ◌≤◌, ℕ, false, nat_abs, IfOk, OnErr, filter, length, take};
-ghost use Rattle.std.specs.Ordering.{int_cmp, is_eq, is_le};
+// to their queues or to the dead set. Each is one step, whole or not at all, and is refused from a worker's seat.
+ghost use Rattle.std.specs.Prelude.{◌≡◌, ◌≤◌, false, nat_abs, IfOk, OnErr, length, take};
+ghost use Rattle.std.specs.Ordering.{is_eq};
 ghost use Rattle.sk_base.specs.Score.{last_moment};
 ghost use Rattle.sk_cmd.specs.declared.argument.Scored.TheVariants.{Dead};
-ghost use Rattle.sk_places.specs.Rows.{place_cmp, row_of, rows_at};
+ghost use Rattle.sk_places.specs.Rows.{place_cmp, row_of};
 ghost use Rattle.sk_places.specs.declared.row.Place.TheVariants.{Set};
-ghost use Rattle.sk_places.specs.declared.row.Row.{Row};
-ghost use Rattle.sk_model.specs.Jobs.{due, each, kill, kill_row, moment_score, reports, revive, send};
+ghost use Rattle.sk_model.specs.Jobs.{due, each, kill, kill_row, reports, revive, send};
 ghost use Rattle.sk_model.specs.Outcome.{Comes};
-ghost use Rattle.sk_seats.specs.Phases.{phase_in};
+ghost use Rattle.sk_model.specs.Rescue.{rescue};
 ghost use Rattle.sk_model.specs.Seats.{where_plain};
-ghost use Rattle.sk_model.specs.World.{World};
-ghost use Rattle.sk_jobs.specs.Scripts.{sent};
-ghost use Rattle.sk_jobs.specs.Sending.{ComesAlike, with_moment};
-ghost use Rattle.sk_jobs.specs.Stocked.{ComesStocked, AreCovered, IsClosed, KeepsStep, at};
+ghost use Rattle.sk_model.specs.World.{phase_of};
+ghost use Rattle.sk_store.specs.Stored.{InStep, IsReady, Runs, world};
+ghost use Rattle.sk_jobs.specs.Calls.{AreCovered};
+ghost use Rattle.sk_jobs.specs.Sending.{due_in, set_rows};
 
 use crate::calls::member_of;
 use crate::dead::bury;
 use crate::report::Report;
-use crate::rescue::rescue;
+use crate::rescues::rescue_open;
 use crate::sending::send_front;
-use crate::stock::Stock;
 use sk_base::{Bound, Score};
 use sk_cmd::{Scored, Side};
-use sk_places::{Place, Places};
+use sk_places::Place;
 use sk_resp::{Memory, Refusal, Reply, Word};
-use sk_seats::{Phase, Seats};
+use sk_seats::Phase;
+use sk_store::Store;
 use sk_value::{counted, refused};
-use std::alloc::Global;
 
-/// A script that sends jobs on.
-#[derive(Drop)]
-pub enum SetScript {
-    /// `SK.DUE schedule|retry limit`
-    Due(Scored, i64),
-    /// `SK.REVIVE schedule|retry|dead payload`
-    Revive(Scored, Word),
-    /// `SK.KILL schedule|retry payload`
-    Kill(Scored, Word),
-    /// `SK.RESCUE`
-    Rescue,
-}
+// ## SK.DUE
 
 // How many of a set's jobs are sent on: those whose moment has come, and at most so many.
-fn due_count(places: &Places, moment: u64, set: Scored, limit: i64) -> usize
-    requires { moment ≤ last_moment }
-    ensures is { (w : World) → take (nat_abs limit) (filter (λ (row : Row). is_le (int_cmp row.score (moment_score (with_moment w moment places.now.stands)))) (rows_at (Set set) places.now.stands.rows)) ≡ take result (rows_at (Set set) places.now.stands.rows) }
-    ensures within { result ≤ length (rows_at (Set set) places.now.stands.rows) }
+fn due_count(store: &Store, set: Scored, limit: i64) -> usize
+    requires { store.now.moment ≤ last_moment }
+    ensures is { due_in set (nat_abs limit) (world store.now) ≡ take result (set_rows set (world store.now)) }
+    ensures within { result ≤ length (set_rows set (world store.now)) }
 {
-    let now = Bound::At(Score::of_moment(moment));
-    let (_, end) = places.range_of(set, Bound::Low, now);
+    let now = Bound::At(Score::of_moment(store.moment));
+    let (_, end) = store.places.range_of(set, Bound::Low, now);
     end.min(limit.unsigned_abs() as usize)
 }
 
 // Jobs whose moment has come go to their queues, at most so many.
-fn send_due(
-    alloc: Global,
-    moment: u64,
-    seats: &Seats,
-    stock: &mut Stock,
-    set: Scored,
-    limit: i64,
-) -> Result<Reply, Memory>
-    requires early { moment ≤ last_moment }
+fn send_due(store: &mut Store, set: Scored, limit: i64) -> Result<Reply, Memory>
+    requires early { store.old.moment ≤ last_moment }
     requires alive { is_eq (place_cmp (Set Dead) (Set set)) ≡ false }
-    requires covered { AreCovered stock.old }
-    ensures ok { IfOk result (λ reply. ComesAlike (λ w. reports (each send w (take (nat_abs limit) (filter (λ (row : Row). is_le (int_cmp row.score (moment_score w))) (rows_at (Set set) stock.old.places.stands.rows))))) moment stock.old seats.now reply stock.new) }
-    ensures step { KeepsStep stock.old stock.new }
+    requires covered { AreCovered store.old }
+    ensures ok { IfOk result (λ reply. Comes (world store.old) (reports (each send (world store.old) (due_in set (nat_abs limit) (world store.old)))) reply (world store.new)) }
+    ensures step { InStep store.old store.new }
 {
-    let _count = stock.places.len(&Place::Set(set)); // for what it says of their number
-    let count = due_count(&stock.places, moment, set, limit);
-    let report = send_front(alloc, moment, seats, stock, set, count)?;
-    report.told(alloc)
+    let _count = store.places.len(&Place::Set(set)); // for what it says of their number
+    let count = due_count(store, set, limit);
+    let report = send_front(store, set, count)?;
+    report.told(store.alloc)
 }
 
-// SK.DUE. Jobs of the dead set wait for no moment.
-fn due(
-    alloc: Global,
-    moment: u64,
-    seats: &Seats,
-    stock: &mut Stock,
-    set: Scored,
-    limit: i64,
-) -> Result<Reply, Memory>
-    requires early { moment ≤ last_moment }
-    requires covered { AreCovered stock.old }
-    ensures ok { IfOk result (λ reply. ComesAlike (λ w. due w set (nat_abs limit)) moment stock.old seats.now reply stock.new) }
-    ensures step { KeepsStep stock.old stock.new }
+// Jobs of the dead set wait for no moment.
+fn due_open(store: &mut Store, set: Scored, limit: i64) -> Result<Reply, Memory>
+    requires early { store.old.moment ≤ last_moment }
+    requires covered { AreCovered store.old }
+    ensures ok { IfOk result (λ reply. Comes (world store.old) (due (world store.old) set (nat_abs limit)) reply (world store.new)) }
+    ensures step { InStep store.old store.new }
 {
     match set {
-        Scored::Schedule => send_due(alloc, moment, seats, stock, Scored::Schedule, limit),
-        Scored::Retry => send_due(alloc, moment, seats, stock, Scored::Retry, limit),
-        Scored::Dead => Report::nothing(alloc).told(alloc),
+        Scored::Schedule => send_due(store, Scored::Schedule, limit),
+        Scored::Retry => send_due(store, Scored::Retry, limit),
+        Scored::Dead => Report::nothing(store.alloc).told(store.alloc),
     }
 }
+
+/// SK.DUE: the jobs of a set whose moment has come go to the left ends of their queues, at most so many, and those without a head to the dead set. The
+/// answer is the report.
+pub fn due(store: &mut Store, seat: u32, set: Scored, limit: i64) -> Result<Reply, Memory>
+    requires ready { IsReady store.old }
+    requires covered { AreCovered store.old }
+    ensures { Runs store.old (where_plain (phase_of (world store.old) seat) (due (world store.old) set (nat_abs limit))) result store.new }
+{
+    match store.seats.get(seat) {
+        Phase::Plain => {
+            store.begin();
+            let done = due_open(store, set, limit);
+            store.close(done)
+        }
+        _ => Ok(refused(Refusal::OutOfTurn)),
+    }
+}
+
+// ## SK.KILL
 
 // The job is buried, where it is there.
-fn bury_one(
-    alloc: Global,
-    moment: u64,
-    seats: &Seats,
-    stock: &mut Stock,
-    set: Scored,
-    text: &Word,
-) -> Result<Reply, Memory>
-    requires early { moment ≤ last_moment }
+fn bury_one(store: &mut Store, set: Scored, text: &Word) -> Result<Reply, Memory>
+    requires early { store.old.moment ≤ last_moment }
     requires alive { is_eq (place_cmp (Set Dead) (Set set)) ≡ false }
-    requires covered { AreCovered stock.old }
-    ensures ok { IfOk result (λ reply. ComesAlike (λ w. kill_row w (row_of text.now (rows_at (Set set) stock.old.places.stands.rows))) moment stock.old seats.now reply stock.new) }
-    ensures step { KeepsStep stock.old stock.new }
+    requires covered { AreCovered store.old }
+    ensures ok { IfOk result (λ reply. Comes (world store.old) (kill_row (world store.old) (row_of text.now (set_rows set (world store.old)))) reply (world store.new)) }
+    ensures step { InStep store.old store.new }
 {
     let place = Place::Set(set);
-    let Some((_, payload)) = stock.places.find(&place, text.bytes()) else {
-        return Report::nothing(alloc).told(alloc);
+    let Some((_, payload)) = store.places.find(&place, text.bytes()) else {
+        return Report::nothing(store.alloc).told(store.alloc);
     };
-    let member = member_of(alloc, payload)?;
-    let report = bury(alloc, moment, seats, stock, &place, text, member)?;
-    report.told(alloc)
+    let member = member_of(store.alloc, payload)?;
+    let report = bury(store, &place, text, member)?;
+    report.told(store.alloc)
 }
 
-// SK.KILL. Jobs of the dead set are there already.
-fn kill(
-    alloc: Global,
-    moment: u64,
-    seats: &Seats,
-    stock: &mut Stock,
-    set: Scored,
-    text: &Word,
-) -> Result<Reply, Memory>
-    requires early { moment ≤ last_moment }
-    requires covered { AreCovered stock.old }
-    ensures ok { IfOk result (λ reply. ComesAlike (λ w. kill w set text.now) moment stock.old seats.now reply stock.new) }
-    ensures step { KeepsStep stock.old stock.new }
+// Jobs of the dead set are there already.
+fn kill_open(store: &mut Store, set: Scored, text: &Word) -> Result<Reply, Memory>
+    requires early { store.old.moment ≤ last_moment }
+    requires covered { AreCovered store.old }
+    ensures ok { IfOk result (λ reply. Comes (world store.old) (kill (world store.old) set text.now) reply (world store.new)) }
+    ensures step { InStep store.old store.new }
 {
     match set {
-        Scored::Schedule => bury_one(alloc, moment, seats, stock, Scored::Schedule, text),
-        Scored::Retry => bury_one(alloc, moment, seats, stock, Scored::Retry, text),
-        Scored::Dead => Report::nothing(alloc).told(alloc),
+        Scored::Schedule => bury_one(store, Scored::Schedule, text),
+        Scored::Retry => bury_one(store, Scored::Retry, text),
+        Scored::Dead => Report::nothing(store.alloc).told(store.alloc),
     }
 }
 
-// SK.REVIVE. The job goes to the left end of its queue. One without a head stays.
-fn revive(places: &mut Places, set: Scored, text: &Word) -> Result<Reply, Memory>
-    ensures ok { IfOk result (λ reply. (w : World) (moment : ℕ) → Comes (with_moment w moment places.old.stands) (revive (with_moment w moment places.old.stands) set text.now) reply (with_moment w moment places.new.stands)) }
-    ensures step { places.new.stood ≡ places.old.stood }
+/// SK.KILL: the first job of the text in a set goes to the dead set. The answer is the report.
+pub fn kill(store: &mut Store, seat: u32, set: Scored, text: &Word) -> Result<Reply, Memory>
+    requires ready { IsReady store.old }
+    requires covered { AreCovered store.old }
+    ensures { Runs store.old (where_plain (phase_of (world store.old) seat) (kill (world store.old) set text.now)) result store.new }
+{
+    match store.seats.get(seat) {
+        Phase::Plain => {
+            store.begin();
+            let done = kill_open(store, set, text);
+            store.close(done)
+        }
+        _ => Ok(refused(Refusal::OutOfTurn)),
+    }
+}
+
+// ## SK.REVIVE
+
+// The first job of the text goes from the set to the left end of its queue.
+fn revive_one(store: &mut Store, set: Scored, text: &Word) -> Result<Reply, Memory>
+    requires { IsReady store.old }
+    ensures { Runs store.old (revive (world store.old) set text.now) result store.new }
 {
     let place = Place::Set(set);
-    let Some((_, payload)) = places.find(&place, text.bytes()) else {
+    let Some((_, payload)) = store.places.find(&place, text.bytes()) else {
         return Ok(counted(0));
     };
     let Some(head) = payload.head() else {
@@ -155,69 +151,39 @@ fn revive(places: &mut Places, set: Scored, text: &Word) -> Result<Reply, Memory
     };
     let queue = Place::Queue(head.queue.copy()?);
     let score = Score::of_moment(0);
-    places.shift_text(&place, text.bytes(), queue, score, Side::Left)?;
+    store
+        .places
+        .shift_text(&place, text.bytes(), queue, score, Side::Left)?;
     Ok(counted(1))
 }
 
-// Does what the script does. After want of memory some of it is done.
-fn send_open(
-    alloc: Global,
-    moment: u64,
-    seats: &Seats,
-    stock: &mut Stock,
-    script: SetScript,
-) -> Result<Reply, Memory>
-    requires early { moment ≤ last_moment }
-    requires covered { AreCovered stock.old }
-    ensures ok { IfOk result (λ reply. ComesAlike (λ w. sent w script) moment stock.old seats.now reply stock.new) }
-    ensures step { KeepsStep stock.old stock.new }
+/// SK.REVIVE: the first job of the text in a set goes to the left end of its queue. One without a head stays, and is refused. The answer tells how
+/// many went.
+pub fn revive(store: &mut Store, seat: u32, set: Scored, text: &Word) -> Result<Reply, Memory>
+    requires { IsReady store.old }
+    ensures { Runs store.old (where_plain (phase_of (world store.old) seat) (revive (world store.old) set text.now)) result store.new }
 {
-    match script {
-        SetScript::Due(set, limit) => due(alloc, moment, seats, stock, set, limit),
-        SetScript::Revive(set, text) => revive(&mut stock.places, set, &text),
-        SetScript::Kill(set, text) => kill(alloc, moment, seats, stock, set, &text),
-        SetScript::Rescue => rescue(alloc, moment, seats, stock),
+    match store.seats.get(seat) {
+        Phase::Plain => revive_one(store, set, text),
+        _ => Ok(refused(Refusal::OutOfTurn)),
     }
 }
 
-// Does what the script does, all of it or nothing.
-fn send_whole(
-    alloc: Global,
-    moment: u64,
-    seats: &Seats,
-    stock: &mut Stock,
-    script: SetScript,
-) -> Result<Reply, Memory>
-    requires early { moment ≤ last_moment }
-    requires closed { IsClosed stock.old }
-    requires covered { AreCovered stock.old }
-    ensures ok { IfOk result (λ reply. ComesStocked (λ w. sent w script) moment stock.old seats.now reply stock.new seats.now) }
-    ensures closed { IsClosed stock.new }
-    ensures err { OnErr result (stock.new ≡ stock.old) }
-{
-    stock.begin();
-    let done = send_open(alloc, moment, seats, stock, script);
-    stock.close(done)
-}
+// ## SK.RESCUE
 
-/// Does what the script does, all of it or nothing, where the seat is no worker's. Another's is refused.
-pub fn send(
-    alloc: Global,
-    moment: u64,
-    seats: &Seats,
-    stock: &mut Stock,
-    seat: u32,
-    script: SetScript,
-) -> Result<Reply, Memory>
-    requires early { moment ≤ last_moment }
-    requires closed { IsClosed stock.old }
-    requires covered { AreCovered stock.old }
-    ensures ok { IfOk result (λ reply. ComesStocked (λ w. where_plain (phase_in seats.now seat) (sent w script)) moment stock.old seats.now reply stock.new seats.now) }
-    ensures closed { IsClosed stock.new }
-    ensures err { OnErr result (stock.new ≡ stock.old) }
+/// SK.RESCUE: the jobs in the private lists of processes without a heartbeat go to the right ends of their queues, and those that were recovered too
+/// often, or have no head, to the dead set. The answer is the report.
+pub fn rescue(store: &mut Store, seat: u32) -> Result<Reply, Memory>
+    requires ready { IsReady store.old }
+    requires covered { AreCovered store.old }
+    ensures { Runs store.old (where_plain (phase_of (world store.old) seat) (rescue (world store.old))) result store.new }
 {
-    match seats.get(seat) {
-        Phase::Plain => send_whole(alloc, moment, seats, stock, script),
+    match store.seats.get(seat) {
+        Phase::Plain => {
+            store.begin();
+            let done = rescue_open(store);
+            store.close(done)
+        }
         _ => Ok(refused(Refusal::OutOfTurn)),
     }
 }

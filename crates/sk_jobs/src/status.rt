@@ -1,23 +1,21 @@
 // SK.STATUS and SK.WHERE: the numbers that the store tells of itself, as a page and as a tally, and how many rows name a job.
-ghost use Rattle.std.specs.Prelude.{◌≡◌, ℕ, IfOk, length, map, unwrap_or};
+ghost use Rattle.std.specs.Prelude.{◌≡◌, IfOk, length, map, unwrap_or};
 ghost use Rattle.sk_counters.specs.Counters.{count_in};
 ghost use Rattle.sk_places.specs.Rows.{rows_at};
 ghost use Rattle.sk_places.specs.declared.row.Place.TheVariants.{Queue};
 ghost use Rattle.sk_model.specs.Life.{rows_of};
 ghost use Rattle.sk_model.specs.Outcome.{Comes, says};
-ghost use Rattle.sk_seats.specs.Phases.{Phases};
 ghost use Rattle.sk_model.specs.Status.{numbers, status};
-ghost use Rattle.sk_model.specs.World.{World};
+ghost use Rattle.sk_store.specs.Stored.{IsReady, Runs, world};
 ghost use Rattle.sk_value.specs.Answer.{counted};
 ghost use Rattle.sk_jobs.specs.Counting.{tally_of, waiting};
-ghost use Rattle.sk_jobs.specs.Stocked.{at};
 
-use crate::stock::Stock;
 use sk_cmd::Scored;
 use sk_counters::Counters;
 use sk_places::{Place, Places};
 use sk_resp::{Memory, Reply, Text, Word};
 use sk_status::{Counts, Numbers, Tally, page};
+use sk_store::Store;
 use sk_value::counted;
 use std::alloc::Global;
 
@@ -60,44 +58,45 @@ fn queue_counts(alloc: Global, places: &Places) -> Result<Counts, Memory>
 }
 
 /// The numbers that the store tells of itself.
-pub fn numbers(alloc: Global, moment: u64, stock: &Stock) -> Result<Numbers, Memory>
-    ensures { IfOk result (λ n. (w : World) (phases : Phases) → n ≡ numbers (at w moment stock.now phases)) }
+pub fn numbers(store: &Store) -> Result<Numbers, Memory>
+    ensures { IfOk result (λ n. n ≡ numbers (world store.now)) }
 {
-    let places = &stock.places;
+    let places = &store.places;
     Ok(Numbers {
-        processed: count_of(&stock.counters, b"processed"),
-        failed: count_of(&stock.counters, b"failed"),
-        processes: stock.leases.idents(alloc, moment)?.len() as u64,
-        queues: queue_counts(alloc, places)?,
+        processed: count_of(&store.counters, b"processed"),
+        failed: count_of(&store.counters, b"failed"),
+        processes: store.leases.idents(store.alloc, store.moment)?.len() as u64,
+        queues: queue_counts(store.alloc, places)?,
         busy: places.private_count() as u64,
         scheduled: places.len(&Place::Set(Scored::Schedule)) as u64,
         retries: places.len(&Place::Set(Scored::Retry)) as u64,
         dead: places.len(&Place::Set(Scored::Dead)) as u64,
-        batches: stock.batches.len(),
+        batches: store.batches.len(),
         live: places.live_count() as u64,
     })
 }
 
 /// SK.STATUS: the numbers that the store tells of itself, as a page.
-pub fn status_page(alloc: Global, moment: u64, stock: &Stock) -> Result<Reply, Memory>
-    ensures { IfOk result (λ reply. (w : World) (phases : Phases) → Comes (at w moment stock.now phases) (status (at w moment stock.now phases)) reply (at w moment stock.now phases)) }
+pub fn status_page(store: &Store) -> Result<Reply, Memory>
+    requires { IsReady store.now }
+    ensures { Runs store.now (status (world store.now)) result store.now }
 {
-    let numbers = numbers(alloc, moment, stock)?;
-    let text = page(alloc, &numbers)?;
+    let numbers = numbers(store)?;
+    let text = page(store.alloc, &numbers)?;
     Ok(Reply::Bulk(Word::new(text)))
 }
 
 /// The rows that were ever pushed, by how they came, and their jobs, by how they ended. Takes no memory.
-pub fn tally(stock: &Stock) -> Tally
-    ensures { (w : World) (moment : ℕ) (phases : Phases) → result ≡ tally_of (at w moment stock.now phases) }
+pub fn tally(store: &Store) -> Tally
+    ensures { result ≡ tally_of (world store.now) }
 {
-    let totals = stock.places.totals();
+    let totals = store.places.totals();
     Tally {
         outside: totals.outside,
         inner: totals.inner,
         bare: totals.bare,
         again: totals.again,
-        live: stock.places.live_count() as u64,
+        live: store.places.live_count() as u64,
         returned: totals.returned,
         discarded: totals.discarded,
         deleted: totals.deleted,
@@ -107,8 +106,8 @@ pub fn tally(stock: &Stock) -> Tally
 }
 
 /// SK.WHERE: how many rows name the job. Takes no memory.
-pub fn locate(stock: &Stock, jid: &Word) -> Reply
-    ensures { (w : World) (moment : ℕ) (phases : Phases) → Comes (at w moment stock.now phases) (says (counted (rows_of jid.now (at w moment stock.now phases)))) result (at w moment stock.now phases) }
+pub fn locate(store: &Store, jid: &Word) -> Reply
+    ensures { Comes (world store.now) (says (counted (rows_of jid.now (world store.now)))) result (world store.now) }
 {
-    counted(stock.places.count_of(jid.bytes()))
+    counted(store.places.count_of(jid.bytes()))
 }

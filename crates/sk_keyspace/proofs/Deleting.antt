@@ -7,6 +7,7 @@ use Rattle.sk_resp.specs.declared.reply.Reply.TheVariants as reply
 use Rattle.sk_resp.specs.declared.say.Say.TheVariants as say
 use Rattle.sk_cmd.specs.declared.argument.Side.TheVariants.{Left}
 use Rattle.sk_cmd.specs.declared.argument.Scored.{Scored}
+use Rattle.sk_undo.specs.Steps.{Steps, edited}
 use Rattle.sk_value.specs.Keys.{Keys}
 use Rattle.sk_places.specs.declared.row.Place.TheVariants.{Queue, Set}
 use Rattle.sk_places.specs.declared.row.Row.{Row}
@@ -20,20 +21,26 @@ use Rattle.sk_key.specs.Class.{class_of, queue_of}
 use Rattle.sk_model.specs.Deletes.{delete_as, delete_each, flush, take_all}
 use Rattle.sk_model.specs.Outcome.{Comes}
 use Rattle.sk_model.proofs.Good.{perform-append}
-use Rattle.sk_keyspace.specs.Edits.{without_queue}
-use Rattle.sk_keyspace.specs.Whole.{with_places, world_at}
+use Rattle.sk_store.specs.declared.store.Store.{Store}
+use Rattle.sk_store.specs.Stored.{world}
+use Rattle.sk_keyspace.specs.Deleted.{Deletes}
 
 abbrev pub one_if : Bool → ℕ
 one_if b = cond b 1 0
 
+-- the store with these rows, names and lives
+placed : Store → Placed → Store
+placed s p = record s { places = edited p s.places }
+
 -- ## Rows
 
-pub taken_world : (w : World) (rows : List Row) (p : Placed) → perform (with_places w p) (take_all rows) ≡ with_places w (ended_rows Deleted rows p)
-taken_world w [] p = refl
-taken_world w (row ∷ rows) p = taken_world w rows (ended_row Deleted Left row p)
+pub taken_world : (s : Store) (rows : List Row) → perform (world s) (take_all rows) ≡ world (record s { places = edited (ended_rows Deleted rows s.places.stands) s.places })
+unfolding placed
+taken_world s [] = refl
+taken_world s (row ∷ rows) = taken_world (placed s (ended_row Deleted Left row s.places.stands)) rows
 
 -- the names have no part in it
-pub apart : (rows : List Row) (names : List Bytes) (p : Placed) → ended_rows Deleted rows (record p { names = names }) ≡ record (ended_rows Deleted rows p) { names = names }
+apart : (rows : List Row) (names : List Bytes) (p : Placed) → ended_rows Deleted rows (record p { names = names }) ≡ record (ended_rows Deleted rows p) { names = names }
 apart [] names p = refl
 apart (row ∷ rows) names p = apart rows names (ended_row Deleted Left row p)
 
@@ -41,53 +48,47 @@ names_stay : (rows : List Row) (p : Placed) → (ended_rows Deleted rows p).name
 names_stay [] p = refl
 names_stay (row ∷ rows) p = names_stay rows (ended_row Deleted Left row p)
 
--- ## One queue
-
-queue_gone : (w : World) (queue : Bytes) (p : Placed) → perform (with_places w p) (take_all (rows_at (Queue queue) p.rows) ++ Unnames queue ∷ []) ≡ with_places w (without_queue queue p)
-queue_gone w queue p =
-    let rows = rows_at (Queue queue) p.rows in
-    perform-append (with_places w p) (take_all rows) (Unnames queue ∷ [])
-    ∙ ap (λ v. changed v (Unnames queue)) (taken_world w rows p)
-    ∙ ap (λ names. with_places w (record (ended_rows Deleted rows p) { names = without_name queue names })) (names_stay rows p)
+-- ## One key
 
 some_or_none : (n : ℕ) → one_if (nat_lt 0 n) ≡ cond (n == 0) 0 1
 some_or_none n = grind arith
 
-pub queue_count : (w : World) (moment : ℕ) (key queue : Bytes) (p : Placed) (keys : Keys) (was : Bool) → class_of key ≡ class.Queue → queue ≡ queue_of key → was ≡ nat_lt 0 (length (rows_at (Queue queue) p.rows))
-    → one_if was ≡ (delete_as (world_at w moment p keys) key (class_of key)).count
-queue_count w moment key queue p keys was is same e = ap one_if e ∙ some_or_none (length (rows_at (Queue queue) p.rows)) ∙ ap (λ q. cond (length (rows_at (Queue q) p.rows) == 0) 0 1) same ∙ ap (λ c. (delete_as (world_at w moment p keys) key c).count) (sym is)
+-- a queue went, and its name before it
+pub queue_deleted : (s : Store) (key queue : Bytes) (unnamed new : Steps Placed) (was : Bool) → queue ≡ queue_of key → unnamed ≡ edited (record s.places.stands { names = without_name queue s.places.stands.names }) s.places
+    → was ≡ nat_lt 0 (length (rows_at (Queue queue) unnamed.stands.rows)) → new ≡ edited (ended_rows Deleted (rows_at (Queue queue) unnamed.stands.rows) unnamed.stands) unnamed
+    → Deletes (world s) (delete_as (world s) key class.Queue) (one_if was) (world (record s { places = new }))
+unfolding placed
+queue_deleted s key queue unnamed new was same first e f =
+    let p : Placed = s.places.stands in
+    let rows : List Row = rows_at (Queue queue) p.rows in
+    let after : Placed = ended_rows Deleted rows p in
+    record {
+      count_is = ap one_if e ∙ some_or_none (length (rows_at (Queue queue) unnamed.stands.rows)) ∙ ap (λ (u : Steps Placed). cond (length (rows_at (Queue queue) u.stands.rows) == 0) 0 1) first
+          ∙ ap (λ q. cond (length (rows_at (Queue q) p.rows) == 0) 0 1) same;
+      new_is = ap (λ x. world (record s { places = x })) (f ∙ ap (λ (u : Steps Placed). edited (ended_rows Deleted (rows_at (Queue queue) u.stands.rows) u.stands) u) first)
+          ∙ ap (λ q. world (placed s q)) (apart rows (without_name queue p.names) p)
+          ∙ ap (λ names. world (placed s (record after { names = without_name queue names }))) (sym (names_stay rows p))
+          ∙ ap (λ v. changed v (Unnames queue)) (sym (taken_world s rows))
+          ∙ sym (perform-append (world s) (take_all rows) (Unnames queue ∷ []))
+          ∙ ap (λ q. perform (world s) (take_all (rows_at (Queue q) p.rows) ++ Unnames q ∷ [])) same;
+    }
 
-aside : World → ℕ → Keys → World
-aside w moment keys = record w { moment = moment; keys = keys }
-
-pub queue_world : (w : World) (moment : ℕ) (key queue : Bytes) (p new : Placed) (keys : Keys) → class_of key ≡ class.Queue → queue ≡ queue_of key → new ≡ without_queue queue p
-    → world_at w moment new keys ≡ perform (world_at w moment p keys) (delete_as (world_at w moment p keys) key (class_of key)).changes
-unfolding aside
-queue_world w moment key queue p new keys is same e =
-    ap (λ q. world_at w moment q keys) (e ∙ ap (λ q. without_queue q p) same) ∙ sym (queue_gone (aside w moment keys) (queue_of key) p) ∙ ap (λ c. perform (world_at w moment p keys) (delete_as (world_at w moment p keys) key c).changes) (sym is)
-
--- ## A set of jobs
-
-pub jobs_count : (w : World) (moment : ℕ) (key : Bytes) (set : Scored) (p : Placed) (keys : Keys) (was : Bool) → class_of key ≡ class.Jobs set → was ≡ nat_lt 0 (length (rows_at (Set set) p.rows))
-    → one_if was ≡ (delete_as (world_at w moment p keys) key (class_of key)).count
-jobs_count w moment key set p keys was is e = ap one_if e ∙ some_or_none (length (rows_at (Set set) p.rows)) ∙ ap (λ c. (delete_as (world_at w moment p keys) key c).count) (sym is)
-
-pub jobs_world : (w : World) (moment : ℕ) (key : Bytes) (set : Scored) (p new : Placed) (keys : Keys) → class_of key ≡ class.Jobs set → new ≡ ended_rows Deleted (rows_at (Set set) p.rows) p
-    → world_at w moment new keys ≡ perform (world_at w moment p keys) (delete_as (world_at w moment p keys) key (class_of key)).changes
-unfolding aside
-jobs_world w moment key set p new keys is e =
-    ap (λ q. world_at w moment q keys) e ∙ sym (taken_world (aside w moment keys) (rows_at (Set set) p.rows) p) ∙ ap (λ c. perform (world_at w moment p keys) (delete_as (world_at w moment p keys) key c).changes) (sym is)
+pub jobs_deleted : (s : Store) (key : Bytes) (set : Scored) (new : Steps Placed) (was : Bool) → was ≡ nat_lt 0 (length (rows_at (Set set) s.places.stands.rows))
+    → new ≡ edited (ended_rows Deleted (rows_at (Set set) s.places.stands.rows) s.places.stands) s.places → Deletes (world s) (delete_as (world s) key (class.Jobs set)) (one_if was) (world (record s { places = new }))
+jobs_deleted s key set new was e f = record {
+  count_is = ap one_if e ∙ some_or_none (length (rows_at (Set set) s.places.stands.rows));
+  new_is = ap (λ x. world (record s { places = x })) f ∙ sym (taken_world s (rows_at (Set set) s.places.stands.rows));
+}
 
 -- ## One key after another
 
-pub each_count : (v after : World) (key : Bytes) (keys : List Bytes) (was : Bool) → one_if was ≡ (delete_as v key (class_of key)).count → after ≡ perform v (delete_as v key (class_of key)).changes
-    → one_if was + (delete_each after keys).count ≡ (delete_each v (key ∷ keys)).count
-each_count v after key keys was e f = ap (λ n. n + (delete_each after keys).count) e ∙ ap (λ u. (delete_as v key (class_of key)).count + (delete_each u keys).count) f
+pub each_count : (v after : World) (key : Bytes) (keys : List Bytes) (was : Bool) → Deletes v (delete_as v key (class_of key)) (one_if was) after → one_if was + (delete_each after keys).count ≡ (delete_each v (key ∷ keys)).count
+each_count v after key keys was d = ap (λ n. n + (delete_each after keys).count) d.count_is ∙ ap (λ u. (delete_as v key (class_of key)).count + (delete_each u keys).count) d.new_is
 
-pub each_world : (v after : World) (key : Bytes) (keys : List Bytes) → after ≡ perform v (delete_as v key (class_of key)).changes → perform after (delete_each after keys).changes ≡ perform v (delete_each v (key ∷ keys)).changes
-each_world v after key keys f =
+pub each_world : (v after : World) (key : Bytes) (keys : List Bytes) (was : Bool) → Deletes v (delete_as v key (class_of key)) (one_if was) after → perform after (delete_each after keys).changes ≡ perform v (delete_each v (key ∷ keys)).changes
+each_world v after key keys was d =
     let one = (delete_as v key (class_of key)).changes in
-    ap (λ u. perform u (delete_each u keys).changes) f ∙ sym (perform-append v one (delete_each (perform v one) keys).changes)
+    ap (λ u. perform u (delete_each u keys).changes) d.new_is ∙ sym (perform-append v one (delete_each (perform v one) keys).changes)
 
 -- ## All
 
@@ -100,19 +101,21 @@ all_unnamed w [] e = ap (λ n. record w { names = n }) e
 all_unnamed w (name ∷ names) e = all_unnamed (changed w (Unnames name)) names (ap (without_name name) e ∙ grind (arith, tied_itself nat_list_cmp_total name))
 
 -- all rows, names and plain keys go
-flushed : (w : World) (moment : ℕ) (p : Placed) (keys : Keys)
-    → perform (world_at w moment p keys) (take_all p.rows ++ map Unnames p.names ++ Keeps [] ∷ []) ≡ world_at w moment (record (ended_rows Deleted p.rows p) { names = [] }) []
-unfolding aside no_names
-flushed w moment p keys =
-    let v = world_at w moment p keys in
-    perform-append v (take_all p.rows ++ map Unnames p.names) (Keeps [] ∷ [])
+flushed : (s : Store) → let p : Placed = s.places.stands in
+    perform (world s) (take_all p.rows ++ map Unnames p.names ++ Keeps [] ∷ []) ≡ world (record s { places = edited (record (ended_rows Deleted p.rows p) { names = [] }) s.places; keys = [] })
+unfolding placed no_names
+flushed s =
+    let p : Placed = s.places.stands in
+    let w : World = world s in
+    perform-append w (take_all p.rows ++ map Unnames p.names) (Keeps [] ∷ [])
     ∙ ap (λ u. changed u (Keeps []))
-    (perform-append v (take_all p.rows) (map Unnames p.names) ∙ ap (λ u. perform u (map Unnames p.names)) (taken_world (aside w moment keys) p.rows p)
-    ∙ all_unnamed (world_at w moment (ended_rows Deleted p.rows p) keys) p.names (names_stay p.rows p))
+    (perform-append w (take_all p.rows) (map Unnames p.names) ∙ ap (λ u. perform u (map Unnames p.names)) (taken_world s p.rows)
+    ∙ all_unnamed (world (placed s (ended_rows Deleted p.rows p))) p.names (names_stay p.rows p))
 
-pub flush_comes : (w : World) (moment : ℕ) (p new : Placed) (keys left : Keys) → new ≡ record (ended_rows Deleted p.rows p) { names = [] } → left ≡ []
-    → Comes (world_at w moment p keys) (flush (world_at w moment p keys)) (reply.Say say.Ok) (world_at w moment new left)
-flush_comes w moment p new keys left e f = record {
+pub flush_comes : (s : Store) (new : Steps Placed) (left : Keys) → new ≡ edited (record (ended_rows Deleted s.places.stands.rows s.places.stands) { names = [] }) s.places → left ≡ []
+    → Comes (world s) (flush (world s)) (reply.Say say.Ok) (world (record s { places = new; keys = left }))
+flush_comes s new left e f = record {
   reply_is = refl;
-  new_is = ap (λ q. world_at w moment q left) e ∙ ap (world_at w moment (record (ended_rows Deleted p.rows p) { names = [] })) f ∙ sym (flushed w moment p keys);
+  new_is = ap (λ x. world (record s { places = x; keys = left })) e
+      ∙ ap (λ k. world (record s { places = edited (record (ended_rows Deleted s.places.stands.rows s.places.stands) { names = [] }) s.places; keys = k })) f ∙ sym (flushed s);
 }

@@ -1,2 +1,2 @@
-pub mod Edits
-pub mod Whole
+pub mod Deleted
+pub mod Sorted

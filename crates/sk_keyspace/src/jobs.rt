@@ -1,7 +1,7 @@
 // A set of jobs, as the commands on sorted sets read it.
 ghost use Rattle.std.specs.Prelude.{◌≡◌, ◌≤◌, IfOk, drop, length, map, take};
-ghost use Rattle.sk_places.specs.Rows.{pair_of, rows_at};
-ghost use Rattle.sk_places.specs.declared.row.Place.TheVariants.{Set};
+ghost use Rattle.sk_keyspace.specs.Sorted.{rows_between, rows_of};
+ghost use Rattle.sk_places.specs.Rows.{pair_of};
 
 use sk_base::{Bound, Score};
 use sk_cmd::Scored;
@@ -29,8 +29,8 @@ impl<'a> Jobs<'a> {
         count: u64,
     ) -> Result<Vec<(Score, Word)>, Memory>
         requires order { first ≤ end }
-        requires within { end ≤ length (rows_at (Set self.now.set) self.now.places.now.stands.rows) }
-        ensures { IfOk result (λ pairs. pairs.items ≡ take count (drop skip (map pair_of (drop first (take end (rows_at (Set self.now.set) self.now.places.now.stands.rows)))))) }
+        requires within { end ≤ length (rows_of self.now.set self.now.places.now) }
+        ensures { IfOk result (λ list. list.items ≡ take count (drop skip (map pair_of (rows_between first end self.now.set self.now.places.now)))) }
     {
         let from = first + (end - first).min(skip as usize);
         let to = from + (end - from).min(count as usize);
@@ -39,7 +39,7 @@ impl<'a> Jobs<'a> {
 }
 
 impl<'a> Pairs for Jobs<'a> {
-    ghost pairs = { λ jobs. map pair_of (rows_at (Set jobs.set) jobs.places.now.stands.rows) };
+    ghost pairs = { λ jobs. map pair_of (rows_of jobs.set jobs.places.now) };
 
     #[tactic(auto, using(crate::proofs::Scores::how_many_pairs))]
     fn len(&self) -> u64 {

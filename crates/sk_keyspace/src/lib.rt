@@ -1,7 +1,7 @@
 //! The commands on keys, plain and managed: what they read, push, edit, move and delete.
 #![tactic(auto)]
 
-mod closing;
+mod actions;
 mod deletes;
 mod edits;
 mod jobs;
@@ -13,10 +13,5 @@ mod pushes;
 mod removals;
 mod sets;
 
-pub use closing::close;
-pub use deletes::{delete, flush};
-pub use edits::edit;
-pub use looks::{exists, look};
-pub use moves::move_text;
-pub use plain::{expire, managed_key, set};
+pub use actions::act;
 pub use std::alloc::AllocError as Memory;

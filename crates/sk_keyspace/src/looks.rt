@@ -1,34 +1,33 @@
 // The commands that read one key: a plain key, a queue, a private list, a set of jobs, the set of the queues' names, the set of processes, or a
 // counter.
-ghost use Rattle.std.specs.Prelude.{◌≡◌, ◌<◌, ◌^◌, ℕ, List, IfOk, length, map, drop, option_map, slice_get, take, Some};
+ghost use Rattle.std.specs.Prelude.{◌≡◌, ◌<◌, ◌^◌, ℕ, IfOk, Some, length, map, option_map, slice_get};
 ghost use Rattle.std.specs.Option.{is_some};
+ghost use Rattle.sk_counters.specs.Counters.{count_in};
 ghost use Rattle.sk_key.specs.Class.{counter_of};
+ghost use Rattle.sk_leases.specs.Leased.{idents};
 ghost use Rattle.sk_model.specs.Held.{count_entry, held, if_any};
-ghost use Rattle.sk_model.specs.Outcome.{reply_of};
-ghost use Rattle.sk_model.specs.World.{World};
-ghost use Rattle.sk_value.specs.Keys.{how_many};
-ghost use Rattle.sk_value.specs.declared.value.Value.TheVariants as value;
+ghost use Rattle.sk_model.specs.Outcome.{reply_of, says};
+ghost use Rattle.sk_places.specs.Rows.{pair_of, rows_at, texts_at};
+ghost use Rattle.sk_places.specs.declared.row.Place.TheVariants.{Set};
 ghost use Rattle.sk_resp.specs.Reply.{wire};
 ghost use Rattle.sk_resp.specs.Spelling.{bulk};
-ghost use Rattle.sk_value.specs.Answer.{Gives, counted, texts};
-ghost use Rattle.sk_counters.specs.Counters.{count_in};
-ghost use Rattle.sk_leases.specs.Leased.{idents};
-ghost use Rattle.sk_value.specs.Lists.{range_of};
 ghost use Rattle.sk_resp.specs.WordOrder.{is_member};
+ghost use Rattle.sk_store.specs.Stored.{IsReady, Runs, world};
+ghost use Rattle.sk_value.specs.Answer.{Gives, counted, texts};
+ghost use Rattle.sk_value.specs.Keys.{how_many};
+ghost use Rattle.sk_value.specs.Lists.{range_of};
 ghost use Rattle.sk_value.specs.Values.{look_at};
-ghost use Rattle.sk_places.specs.declared.row.Place.TheVariants.{Set};
-ghost use Rattle.sk_places.specs.Rows.{pair_of, rows_at, texts_at};
-ghost use Rattle.sk_keyspace.specs.Whole.{with_told, world_at};
+ghost use Rattle.sk_value.specs.declared.value.Value.TheVariants as value;
 
 use crate::jobs::Jobs;
 use crate::plain::answered;
 use sk_cmd::Scored;
 use sk_counters::Counters;
 use sk_key::{KeyClass, class_of, counter_of, ident_of, queue_of};
-use sk_keys::Keys;
 use sk_leases::Leases;
 use sk_places::{Place, Places};
 use sk_resp::{Kind, Memory, Replies, Reply, Say, Word, Words};
+use sk_store::Store;
 use sk_value::{
     Action, Entry, KeysFault, Look, Pairs, Value, as_reply, counted, end_index, first_index,
     look_sorted, one_if,
@@ -212,73 +211,52 @@ fn look_count(
 }
 
 /// Reads one key, plain or managed.
-pub fn look(
-    alloc: Global,
-    moment: u64,
-    places: &Places,
-    leases: &Leases,
-    counters: &Counters,
-    keys: &mut Keys,
-    key: Word,
-    look: Look,
-) -> Result<Reply, Memory>
-    ensures ok { IfOk result (λ reply. (w : World) → reply ≡ reply_of (look_at moment look (held (world_at (with_told w leases.now.stands counters.now.stands) moment places.now.stands keys.old) key))) }
-    ensures keys { keys.new ≡ keys.old }
+pub fn look(store: &mut Store, key: Word, look: Look) -> Result<Reply, Memory>
+    requires { IsReady store.old }
+    ensures { Runs store.old (says (reply_of (look_at store.old.moment look (held (world store.old) key)))) result store.new }
 {
+    let (alloc, moment, places) = (store.alloc, store.moment, &store.places);
     match class_of(key.bytes()) {
-        KeyClass::Plain => answered(keys.act(moment, Action::Look(key, look))),
+        KeyClass::Plain => answered(store.keys.act(moment, Action::Look(key, look))),
         KeyClass::Queue => answered(look_queue(alloc, places, &Place::Queue(queue_of(key)), &look)),
         KeyClass::Queues => answered(look_names(alloc, places, &look)),
         KeyClass::Private => {
             answered(look_queue(alloc, places, &Place::Private(ident_of(key)), &look))
         }
-        KeyClass::Processes => answered(look_idents(alloc, moment, leases, &look)),
+        KeyClass::Processes => answered(look_idents(alloc, moment, &store.leases, &look)),
         KeyClass::Jobs(set) => answered(look_set(alloc, places, set, &look)),
-        KeyClass::Counter => answered(look_count(alloc, moment, count_of(counters, key), &look)),
+        KeyClass::Counter => {
+            answered(look_count(alloc, moment, count_of(&store.counters, key), &look))
+        }
         _ => Ok(look.absent(alloc)),
     }
 }
 
 // Whether the key is there.
-fn has(
-    alloc: Global,
-    moment: u64,
-    places: &Places,
-    leases: &Leases,
-    counters: &Counters,
-    keys: &Keys,
-    key: Word,
-) -> Result<bool, Memory>
-    ensures { IfOk result (λ there. (w : World) → there ≡ is_some (held (world_at (with_told w leases.now.stands counters.now.stands) moment places.now.stands keys.now) key)) }
+fn has(store: &Store, key: Word) -> Result<bool, Memory>
+    ensures { IfOk result (λ there. there ≡ is_some (held (world store.now) key)) }
 {
+    let places = &store.places;
     match class_of(key.bytes()) {
-        KeyClass::Plain => Ok(keys.has(&key)),
+        KeyClass::Plain => Ok(store.keys.has(&key)),
         KeyClass::Queue => Ok(places.len(&Place::Queue(queue_of(key))) > 0),
         KeyClass::Queues => Ok(places.name_count() > 0),
         KeyClass::Private => Ok(places.len(&Place::Private(ident_of(key))) > 0),
-        KeyClass::Processes => Ok(!leases.idents(alloc, moment)?.is_empty()),
+        KeyClass::Processes => Ok(!store.leases.idents(store.alloc, store.moment)?.is_empty()),
         KeyClass::Jobs(set) => Ok(places.len(&Place::Set(set)) > 0),
-        KeyClass::Counter => Ok(count_of(counters, key).is_some()),
+        KeyClass::Counter => Ok(count_of(&store.counters, key).is_some()),
         _ => Ok(false),
     }
 }
 
 // How many of the words name a key that is there.
-fn count_there(
-    alloc: Global,
-    moment: u64,
-    places: &Places,
-    leases: &Leases,
-    counters: &Counters,
-    keys: &Keys,
-    names: Vec<Word>,
-) -> Result<usize, Memory>
-    ensures count { IfOk result (λ count. (w : World) → count ≡ how_many (held (world_at (with_told w leases.now.stands counters.now.stands) moment places.now.stands keys.now)) names.items) }
+fn count_there(store: &Store, names: Vec<Word>) -> Result<usize, Memory>
+    ensures count { IfOk result (λ count. count ≡ how_many (held (world store.now)) names.items) }
     ensures small { IfOk result (λ count. count < 2 ^ 63) }
 {
     let mut count = 0usize;
     for name in names {
-        if has(alloc, moment, places, leases, counters, keys, name)? {
+        if has(store, name)? {
             count += 1;
         }
     }
@@ -286,25 +264,10 @@ fn count_there(
 }
 
 /// EXISTS key .. (Redis, "EXISTS")
-pub fn exists(
-    alloc: Global,
-    moment: u64,
-    places: &Places,
-    leases: &Leases,
-    counters: &Counters,
-    keys: &Keys,
-    names: Words,
-) -> Result<Reply, Memory>
-    ensures { IfOk result (λ reply. (w : World) → reply ≡ counted (how_many (held (world_at (with_told w leases.now.stands counters.now.stands) moment places.now.stands keys.now)) names)) }
+pub fn exists(store: &Store, names: Words) -> Result<Reply, Memory>
+    requires { IsReady store.now }
+    ensures { Runs store.now (says (counted (how_many (held (world store.now)) names))) result store.now }
 {
-    let count = count_there(
-        alloc,
-        moment,
-        places,
-        leases,
-        counters,
-        keys,
-        names.into_list(),
-    )?;
+    let count = count_there(store, names.into_list())?;
     Ok(counted(count))
 }

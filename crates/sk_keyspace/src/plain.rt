@@ -1,17 +1,15 @@
 // The commands on keys of the clients' own, and what is refused on others.
-ghost use Rattle.std.specs.Prelude.{◌≡◌, ◌≢◌, ℕ, IfOk, IfErr, IsErr, OnErr, OnOk};
+ghost use Rattle.std.specs.Prelude.{◌≡◌, ◌≢◌, IfOk, IfErr, IsErr, OnErr, OnOk};
 ghost use Rattle.sk_key.specs.Class.{class_of};
-ghost use Rattle.sk_model.specs.Outcome.{Comes, reply_of};
+ghost use Rattle.sk_model.specs.Outcome.{reply_of};
 ghost use Rattle.sk_model.specs.Step.{on_keys, on_plain};
-ghost use Rattle.sk_model.specs.World.{World};
+ghost use Rattle.sk_store.specs.Stored.{IsReady, Runs, world};
 ghost use Rattle.sk_value.specs.Answer.{Answer, Gives, fault_say};
-ghost use Rattle.sk_places.specs.Placed.{Placed};
-ghost use Rattle.sk_keyspace.specs.Whole.{world_at};
 
 use sk_cmd::SetOptions;
 use sk_key::{KeyClass, class_of};
-use sk_keys::Keys;
 use sk_resp::{Memory, Refusal, Reply, Say, Word};
+use sk_store::Store;
 use sk_value::{Action, KeysFault, refused};
 
 /// The refusal of a write on a managed key.
@@ -48,49 +46,38 @@ pub fn answered(answer: Result<Reply, KeysFault>) -> Result<Reply, Memory>
 }
 
 /// Does an action to the plain keys. A refusal is a reply, and leaves them as they were.
-pub fn do_on_keys(keys: &mut Keys, moment: u64, action: Action) -> Result<Reply, Memory>
-    ensures ok { IfOk result (λ reply. (w : World) (p : Placed) → Comes (world_at w moment p keys.old) (on_keys (world_at w moment p keys.old) action) reply (world_at w moment p keys.new)) }
-    ensures err { OnErr result (keys.new ≡ keys.old) }
+pub fn do_on_keys(store: &mut Store, action: Action) -> Result<Reply, Memory>
+    requires { IsReady store.old }
+    ensures { Runs store.old (on_keys (world store.old) action) result store.new }
 {
-    answered(keys.act(moment, action))
+    answered(store.keys.act(store.moment, action))
 }
 
 // Does it, where the key is plain. Another is refused.
-fn do_on_plain(
-    keys: &mut Keys,
-    moment: u64,
-    action: Action,
-    class: KeyClass,
-) -> Result<Reply, Memory>
-    ensures ok { IfOk result (λ reply. (w : World) (p : Placed) → Comes (world_at w moment p keys.old) (on_plain (world_at w moment p keys.old) action class) reply (world_at w moment p keys.new)) }
-    ensures err { OnErr result (keys.new ≡ keys.old) }
+fn do_on_plain(store: &mut Store, action: Action, class: KeyClass) -> Result<Reply, Memory>
+    requires { IsReady store.old }
+    ensures { Runs store.old (on_plain (world store.old) action class) result store.new }
 {
     match class {
-        KeyClass::Plain => do_on_keys(keys, moment, action),
+        KeyClass::Plain => do_on_keys(store, action),
         _ => Ok(managed_key()),
     }
 }
 
 /// Sets a key to a text, where the key is plain. Another is refused.
-pub fn set(
-    keys: &mut Keys,
-    moment: u64,
-    key: Word,
-    text: Word,
-    options: SetOptions,
-) -> Result<Reply, Memory>
-    ensures ok { IfOk result (λ reply. (w : World) (p : Placed) → Comes (world_at w moment p keys.old) (on_plain (world_at w moment p keys.old) (Action.Set key text options) (class_of key)) reply (world_at w moment p keys.new)) }
-    ensures err { OnErr result (keys.new ≡ keys.old) }
+pub fn set(store: &mut Store, key: Word, text: Word, options: SetOptions) -> Result<Reply, Memory>
+    requires { IsReady store.old }
+    ensures { Runs store.old (on_plain (world store.old) (Action.Set key text options) (class_of key)) result store.new }
 {
     let class = class_of(key.bytes());
-    do_on_plain(keys, moment, Action::Set(key, text, options), class)
+    do_on_plain(store, Action::Set(key, text, options), class)
 }
 
 /// Gives a key its span of life in milliseconds, where the key is plain. Another is refused.
-pub fn expire(keys: &mut Keys, moment: u64, key: Word, millis: i64) -> Result<Reply, Memory>
-    ensures ok { IfOk result (λ reply. (w : World) (p : Placed) → Comes (world_at w moment p keys.old) (on_plain (world_at w moment p keys.old) (Action.Expire key millis) (class_of key)) reply (world_at w moment p keys.new)) }
-    ensures err { OnErr result (keys.new ≡ keys.old) }
+pub fn expire(store: &mut Store, key: Word, millis: i64) -> Result<Reply, Memory>
+    requires { IsReady store.old }
+    ensures { Runs store.old (on_plain (world store.old) (Action.Expire key millis) (class_of key)) result store.new }
 {
     let class = class_of(key.bytes());
-    do_on_plain(keys, moment, Action::Expire(key, millis), class)
+    do_on_plain(store, Action::Expire(key, millis), class)
 }

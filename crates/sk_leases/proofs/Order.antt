@@ -36,7 +36,7 @@ turned Less = refl
 turned Equal = refl
 turned Greater = refl
 
-named : (name : Bytes) (p : Lease) → is_eq (slice_cmp nat_cmp name p.0) ≡ names name p
+pub named : (name : Bytes) (p : Lease) → is_eq (slice_cmp nat_cmp name p.0) ≡ names name p
 named name p = ap is_eq (nat_list_cmp_total.antisymm name p.0) ∙ turned (slice_cmp nat_cmp p.0 name) ∙ is_eq-slice_cmp p.0 name
 
 all_at : (o : Ordering) → is_eq (ordering_then o Equal) ≡ is_eq o

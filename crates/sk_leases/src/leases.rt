@@ -1,12 +1,16 @@
 // Everything that stands until its deadline. A process that sends no heartbeat for a minute counts as dead. A recovery is noted when a job is
-// taken back from a dead process, so that a job which kills its process again and again is found out.
-ghost use Rattle.std.specs.Prelude.{◌≡◌, ◌+◌, ◌<◌, ◌^◌, None, true, IfOk, IsSome, OnErr, OnOk};
+// taken back from a dead process, so that a job which kills its process again and again is found out. A lock keeps a second job of the same work
+// from being pushed.
+ghost use Rattle.std.specs.Prelude.{◌≡◌, ◌+◌, ◌*◌, ◌<◌, ◌^◌, not, cond, None, Some, true, IfOk, IfSome, IsSome, OnErr, OnOk};
 ghost use Rattle.sk_undo.specs.Steps.{begun, closed, committed, edited, undone};
-ghost use Rattle.sk_leases.specs.Leased.{beat, beat_life, forgotten, idents, is_alive, nothing, purged, recovered, recovery_life, standing};
+ghost use Rattle.sk_leases.specs.Leased.{beat, beat_life, forgotten, holder_at, holds, idents, is_alive, is_led_by_another, last, lead_life, leads, led, locked, loops, marked, nothing, purged, recovered, recovery_life, standing, unlocked};
 ghost use Rattle.sk_leases.specs.Order.{is_ordered};
 
 use crate::Memory;
 use crate::deadlines::Deadlines;
+use crate::leader::Leader;
+use crate::locks::Locks;
+use crate::slots::Slots;
 use sk_resp::{Text, Word};
 use std::alloc::Global;
 use std::marker::Model;
@@ -14,31 +18,37 @@ use std::marker::Model;
 /// How long a heartbeat stands, in milliseconds: a minute.
 const BEAT_LIFE: u64 = 60_000;
 
+/// How long the lease of the leader stands, in milliseconds: half a minute.
+const LEAD_LIFE: u64 = 30_000;
+
 /// How long a recovery stands, in milliseconds: 72 hours, and one millisecond more.
 const RECOVERY_LIFE: u64 = 259_200_001;
 
-/// Heartbeats and recoveries. Each stands while the moment is below its deadline. Moments are milliseconds since 1970. Contracts see what stands
+/// Heartbeats, recoveries, locks and the lease of the leader, and the last slots of periodic jobs. Each but the slots stands while the moment is below its deadline. Moments are milliseconds since 1970. Contracts see what stands
 /// now, and what stood at the begin of an open step.
 #[derive(Drop)]
 pub struct Leases {
     alloc: Global,
     beats: Deadlines,
     recoveries: Deadlines,
+    locks: Locks,
+    leader: Leader,
+    slots: Slots,
 }
 
 impl Model for Leases {
-    ghost use Rattle.std.specs.Prelude.{◌≡◌};
-    ghost use Rattle.std.specs.Option.{is_some};
     ghost use Rattle.sk_undo.specs.Steps.{Steps, both, steps_code};
-    ghost use Rattle.sk_leases.specs.Leased.{Leased, leased, leased_code};
+    ghost use Rattle.sk_leases.specs.Leased.{Leased, leased, leased_code, with_leader, with_locks, with_slots};
 
     ghost Value = { Steps Leased };
 
     ghost coded = { steps_code leased_code };
 
-    ghost view = { λ l. both leased l.beats l.recoveries };
+    ghost view = { λ l. both with_slots (both with_leader (both with_locks (both leased l.beats l.recoveries) l.locks) l.leader) l.slots };
 
-    ghost invariant = { λ l. is_some l.beats.stood ≡ is_some l.recoveries.stood };
+    ghost use Rattle.sk_leases.specs.Together.{AreTogether};
+
+    ghost invariant = { λ l. AreTogether l.beats l.recoveries l.locks l.leader l.slots };
 }
 
 impl Leases {
@@ -50,6 +60,9 @@ impl Leases {
             alloc,
             beats: Deadlines::new(alloc),
             recoveries: Deadlines::new(alloc),
+            locks: Locks::new(alloc),
+            leader: Leader::new(),
+            slots: Slots::new(alloc),
         }
     }
 
@@ -60,6 +73,8 @@ impl Leases {
     {
         self.beats.purge(now);
         self.recoveries.purge(now);
+        self.locks.purge(now);
+        self.leader.purge(now);
     }
 
     /// A process is alive: its heartbeat stands for a minute from now on.
@@ -106,6 +121,80 @@ impl Leases {
         self.recoveries.drop_all(jid.text().as_bytes())
     }
 
+    /// The job that holds the lock under a digest, where one stands, is the answer. Else this job gets the lock, for so many seconds from now on.
+    pub fn lock(
+        &mut self,
+        digest: Word,
+        jid: Text,
+        seconds: u32,
+        now: u64,
+    ) -> Result<Option<Text>, Memory>
+        requires { now + 1000 * seconds < 2 ^ 64 }
+        ensures holder { IfOk result (λ jid. jid ≡ holder_at digest now self.old.stands) }
+        ensures held { IfOk result (λ holder. IfSome holder (λ jid. self.new ≡ self.old)) }
+        ensures made { result ≡ Ok None → self.new ≡ edited (locked digest jid seconds now self.old.stands) self.old }
+        ensures err { OnErr result (self.new ≡ self.old) }
+    {
+        if let Some(holder) = self.locks.holder(&digest, now) {
+            return Ok(Some(holder.copy()?));
+        }
+        let deadline = now + 1000 * u64::from(seconds);
+        self.locks.put(digest, jid, deadline)?;
+        Ok(None)
+    }
+
+    /// The job lets go of the lock under a digest, and the answer is whether it held it. Another's lock stays. No step may be open. Takes no memory.
+    pub fn unlock(&mut self, digest: Word, jid: &Text) -> bool
+        requires { self.old.stood ≡ None }
+        ensures answer { result ≡ holds digest jid.now self.old.stands }
+        ensures rest { self.new ≡ edited (unlocked digest jid.now self.old.stands) self.old }
+    {
+        self.locks.remove(digest, jid)
+    }
+
+    /// Whether the process leads: another's lease stands, or else its own does from now on, for half a minute.
+    pub fn lead(&mut self, ident: &Word, now: u64) -> Result<bool, Memory>
+        requires { now + lead_life < 2 ^ 64 }
+        ensures answer { IfOk result (λ leads. leads ≡ not (is_led_by_another ident.now now self.old.stands)) }
+        ensures ok { OnOk result (self.new ≡ edited (cond (is_led_by_another ident.now now self.old.stands) self.old.stands (led ident.now now self.old.stands)) self.old) }
+        ensures err { OnErr result (self.new ≡ self.old) }
+    {
+        if self.leader.is_held_by_another(ident.bytes(), now) {
+            return Ok(false);
+        }
+        self.leader.set(ident.copy()?, now + LEAD_LIFE);
+        Ok(true)
+    }
+
+    /// Whether the lease of the leader is the process's, and stands. Takes no memory.
+    pub fn leads(&self, ident: &Word, now: u64) -> bool
+        ensures { result ≡ leads ident.now now self.now.stands }
+    {
+        self.leader.is_held(ident.bytes(), now)
+    }
+
+    /// The last slot of a periodic job, in milliseconds since 1970, where it has one. Takes no memory.
+    pub fn last(&self, name: &Word) -> Option<u64>
+        ensures { result ≡ last name.now self.now.stands }
+    {
+        self.slots.last(name)
+    }
+
+    /// How many periodic jobs have a last slot. Takes no memory.
+    pub fn loops(&self) -> u64
+        ensures { result ≡ loops self.now.stands }
+    {
+        self.slots.len() as u64
+    }
+
+    /// This is the last slot of the periodic job now.
+    pub fn mark(&mut self, name: Word, slot: u64) -> Result<(), Memory>
+        ensures ok { OnOk result (self.new ≡ edited (marked name slot self.old.stands) self.old) }
+        ensures err { OnErr result (self.new ≡ self.old) }
+    {
+        self.slots.mark(name, slot)
+    }
+
     /// Opens a step. Takes no memory.
     pub fn begin(&mut self)
         requires { self.old.stood ≡ None }
@@ -113,6 +202,9 @@ impl Leases {
     {
         self.beats.begin();
         self.recoveries.begin();
+        self.locks.begin();
+        self.leader.begin();
+        self.slots.begin();
     }
 
     /// Closes the step, and what stood at its begin stands again. Takes no memory.
@@ -122,6 +214,9 @@ impl Leases {
     {
         self.beats.undo();
         self.recoveries.undo();
+        self.locks.undo();
+        self.leader.undo();
+        self.slots.undo();
     }
 
     /// Closes the step, and what stands now stays. Takes no memory.
@@ -131,5 +226,8 @@ impl Leases {
     {
         self.beats.commit();
         self.recoveries.commit();
+        self.locks.commit();
+        self.leader.commit();
+        self.slots.commit();
     }
 }

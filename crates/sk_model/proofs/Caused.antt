@@ -66,13 +66,16 @@ use Rattle.sk_model.specs.Deletes.{take_all, delete_as, delete_each, may_go}
 use Rattle.sk_model.specs.Sets.{add_as, add_one, add_each, edit_jobs, put_as, put_back}
 use Rattle.sk_model.specs.Seats.{fetched_from, is_for_all, is_workers, only, released_by, releases, where_plain, where_some}
 use Rattle.sk_model.specs.Jobs.{Sent, bury, buried_by, due_rows, each, kill_row, merge, moment_score, put_dead, revive_as, revive_row, send, surplus, to_queue}
-use Rattle.sk_model.specs.Told.{push_job, push_to, fire_all}
+use Rattle.sk_model.specs.Told.{and_tell, push_job, push_to, fire_all}
 use Rattle.sk_model.specs.Batches.{all_may_join, are_callbacks, batch_add, batch_of, batch_push, jids_of, join as join_batch, make, push_jobs, tells_stat, unless}
 use Rattle.sk_model.specs.Rescue.{bury_poison, is_poison, left_rows, rescue_row}
 use Rattle.sk_model.specs.Workers.{bury as bury_held, fail, fetch, fetch_row, give, give_row, ok, release_of, retry, work, work_as, work_edit}
 use Rattle.sk_model.specs.Step.{act, by_seat, edit_names, edit_queue, edits, is_script_built, moves, on_plain, outcome, run}
 use Rattle.sk_model.specs.Event.{Event, Ask, Cut, Gives, Happens, Run, Step, after}
 use Rattle.sk_model.specs.Causes.{CausesFrom, HaveCauses, IsRemoval, MovesHaveCauses, removes}
+use Rattle.sk_model.specs.Unique.{unlocks}
+use Rattle.sk_payload.specs.declared.head.Until.TheVariants as until
+use Rattle.sk_model.proofs.Unique.{unique_push_causes, unlocks_causes}
 use Rattle.sk_model.proofs.Marked.{ParentTakes, Sane}
 use Rattle.sk_model.proofs.Fired.{all_quiet, perform-append, quiet-append, quiet_batches}
 use Rattle.sk_model.proofs.Calls.{AllCalled}
@@ -516,8 +519,11 @@ module _ (w : World) (seat now : ℕ) (words : Words) where
 
   ok_causes : (text : Bytes) → IsRead words (Ok (command.Script (script.Ok text))) → Sane w.batches → C (ok v seat (phase_of w seat) text).changes
   ok_causes text read s = in_some C (phase_of w seat) (is_held_as text) _ tt (λ ident some.
-      causes_append w event false [] v (Turns seat (staging (is_held_as text) (Settled end.Returned) (phase_of w seat)) ∷ Counts processed ∷ []) _ (tt, (tt, tt))
+      let told : List Change = (and_tell Returned v text (Turns seat (staging (is_held_as text) (Settled end.Returned) (phase_of w seat)) ∷ Counts processed ∷ [])).changes in
+      causes_append w event false [] v told (unlocks until.Success text)
+      (causes_append w event false [] v (Turns seat (staging (is_held_as text) (Settled end.Returned) (phase_of w seat)) ∷ Counts processed ∷ []) _ (tt, (tt, tt))
       (tell_causes w event Returned _ (head text) s (λ h bid of_text named. record { seat = seat; text = text; h = h; sent = (refl, read); held = some; head_is = of_text; jid_is = refl; bid_is = named })))
+      (unlocks_causes w event (perform v told) until.Success text (λ h is. record { seat = seat; c = script.Ok text; text = text; h = h; sent = (refl, read); told = refl; held = some; head_is = is; digest_is = refl; jid_is = refl })))
 
   fail_causes : (text : Bytes) → Sane w.batches → C (fail v (phase_of w seat) text).changes
   fail_causes text s = in_some C (phase_of w seat) (is_held_as text) _ tt (λ ident some.
@@ -539,7 +545,7 @@ module _ (w : World) (seat now : ℕ) (words : Words) where
   run_causes : (c : ScriptCommand) → IsRead words (Ok (command.Script c)) → Sane w.batches → C (run v seat (phase_of w seat) c).changes
   run_causes (script.Beat ident) read s = either C (is_name 255 ident) _ _ (λ y. (tt, tt)) (λ n. tt)
   run_causes (script.Join ident) read s = in_plain C (phase_of w seat) _ tt (either C (is_name 255 ident && is_alive ident v.moment v.leases) _ _ (λ y. (tt, tt)) (λ n. tt))
-  run_causes (script.Start text) read s = in_some C (phase_of w seat) (is_held_as text) _ tt (λ ident some. tt)
+  run_causes (script.Start text) read s = in_some C (phase_of w seat) (is_held_as text) _ tt (λ ident some. unlocks_causes w event v until.Start text (λ h is. record { seat = seat; c = script.Start text; text = text; h = h; sent = (refl, read); told = refl; held = some; head_is = is; digest_is = refl; jid_is = refl }))
   run_causes (script.Ok text) read s = ok_causes text read s
   run_causes (script.Fail text) read s = fail_causes text s
   run_causes (script.Drop text) read s = in_some C (phase_of w seat) (is_held_as text) _ tt (λ ident some. (tt, tt))
@@ -549,7 +555,8 @@ module _ (w : World) (seat now : ℕ) (words : Words) where
   run_causes (script.Revive set text) read s = in_plain C (phase_of w seat) _ tt (revive_row_causes w event v _)
   run_causes (script.Kill set text) read s = in_plain C (phase_of w seat) _ tt (kill_row_causes w event v _ s)
   run_causes script.Rescue read s = in_plain C (phase_of w seat) _ tt (each_causes w event rescue_row (rescue_caused w event) v (left_rows v) s)
-  run_causes (script.Upush text score) read s = tt
+  run_causes (script.Upush text score) read s = unique_push_causes w event text score v
+      (λ h lock is has. record { seat = seat; text = text; score = score; h = h; lock = lock; sent = (refl, read); head_is = is; lock_is = has; digest_is = refl; jid_is = refl; seconds_is = refl })
   run_causes (script.Bpush bid parent complete success death texts) read s = batch_push_causes w event v (batch_of bid parent complete success death) texts
   run_causes (script.Badd bid texts) read s = batch_add_causes w event v bid texts
   run_causes (script.Bstat bid) read s = stat_causes w event v (stat bid v.batches)

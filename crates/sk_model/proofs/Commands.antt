@@ -42,6 +42,7 @@ use Rattle.sk_model.proofs.Taking.{there, one_fewer, taken_at_most, end_there}
 use Rattle.sk_model.proofs.Going.{filter_among}
 use Rattle.sk_model.proofs.Sending.{choice, taking_good, edit_jobs_good, due_good, kill_good, revive_good}
 use Rattle.sk_model.proofs.Rescuing.{rescue_good}
+use Rattle.sk_model.proofs.Unique.{unique_push_good}
 use Rattle.sk_model.proofs.Working.{where_plain_good, beat_good, join_good, work_good, start_good, fail_good, ok_good, drop_good, bury_good, back_good}
 use Rattle.sk_model.proofs.Making.{batch_push_lawful, batch_add_lawful}
 use Rattle.sk_model.specs.Batches.{batch_of, tells_stat}
@@ -189,7 +190,7 @@ run_lawful w seat phase (script.Due set limit) is = (where_plain_good w phase _ 
 run_lawful w seat phase (script.Revive set text) is = (where_plain_good w phase _ (revive_good w set text)).lawful
 run_lawful w seat phase (script.Kill set text) is = (where_plain_good w phase _ (kill_good w set text)).lawful
 run_lawful w seat phase script.Rescue is = (where_plain_good w phase _ (rescue_good w)).lawful
-run_lawful w seat phase (script.Upush text score) is = (good_nothing w).lawful
+run_lawful w seat phase (script.Upush text score) is = (unique_push_good w text score).lawful
 run_lawful w seat phase (script.Bpush bid parent complete success death texts) is = batch_push_lawful w (batch_of bid parent complete success death) texts
 run_lawful w seat phase (script.Badd bid texts) is = batch_add_lawful w bid texts
 run_lawful w seat phase (script.Bstat bid) is = (stat_good w (stat bid w.batches)).lawful

@@ -20,14 +20,16 @@ pub mod Going
 pub mod Told
 pub mod Sending
 pub mod Fronts
+pub mod Causing
+pub mod Unique
 pub mod Working
 pub mod Rescuing
 pub mod Making
 pub mod Commands
 pub mod Runs
 pub mod Firing
-pub mod Causing
 pub mod Caused
+pub mod Holders
 pub mod Reliable
 pub mod Starving
 pub mod Running
@@ -37,3 +39,4 @@ pub mod Coming
 mod Worked
 mod WorkedBatches
 mod WorkedSeats
+mod WorkedLocks

@@ -1,6 +1,7 @@
 -- All laws, of one run.
 use Rattle.sk_model.specs.Reliable.{Reliable}
 use Rattle.sk_model.proofs.Caused.{moves_have_causes}
+use Rattle.sk_model.proofs.Holders.{one_holder}
 use Rattle.sk_model.proofs.Runs.{balance, conserve, copies_kept}
 use Rattle.sk_model.proofs.Firing.{batch_once, callbacks_follow, complete_once, death_once, settled_stays}
 
@@ -15,4 +16,5 @@ reliable limits steps run = record {
   death_once = death_once limits steps run;
   callbacks_follow = callbacks_follow limits steps run;
   moves_have_causes = moves_have_causes limits steps run;
+  one_holder = one_holder limits steps run;
 }

@@ -44,6 +44,9 @@ use Rattle.sk_model.specs.Seats.{fetched_from, only, released_by, where_plain, w
 use Rattle.sk_model.specs.Sets.{put_as, put_back}
 use Rattle.sk_model.specs.Jobs.{moment_score}
 use Rattle.sk_model.specs.Workers.{beat, join, fetch, fetch_row, listed, release, release_of, give, give_row, back, start, fail, ok, drop, retry, bury, work, work_as, work_edit}
+use Rattle.sk_model.specs.Unique.{unlocks}
+use Rattle.sk_payload.specs.declared.head.Until.TheVariants as until
+use Rattle.sk_model.proofs.Unique.{unlocks_good}
 use Rattle.sk_model.proofs.Texts.{bytes_tell}
 use Rattle.sk_model.proofs.Standing.{some-put_row}
 use Rattle.sk_model.proofs.Taking.{end_there}
@@ -152,7 +155,7 @@ back_good w seat phase text is = where_some_good w phase (is_held_as text) _ (λ
 -- ## A job runs
 
 pub start_good : (w : World) (phase : Phase) (text : Bytes) → Good w (start phase text).changes
-start_good w phase text = where_some_good w phase (is_held_as text) _ (λ ident. good_nothing w)
+start_good w phase text = where_some_good w phase (is_held_as text) _ (λ ident. unlocks_good w until.Start text)
 
 -- what the batch is told comes after other changes
 and_tell_good : (event : Event) (w : World) (text : Bytes) (changes : List Change) → (event ≡ Died → ⊥) → Good w changes → Good w (and_tell event w text changes).changes
@@ -164,8 +167,10 @@ fail_good w phase text = where_some_good w phase (is_held_as text) _
 
 pub ok_good : (w : World) (seat : ℕ) (phase : Phase) (text : Bytes) → phase_of w seat ≡ phase → Good w (ok w seat phase text).changes
 ok_good w seat phase text is = where_some_good w phase (is_held_as text) _
-    (λ ident. and_tell_good event.Returned w text _ (λ e. cc e)
+    (λ ident. good_append w _ (unlocks until.Success text)
+    (and_tell_good event.Returned w text _ (λ e. cc e)
     (then_others w (Turns seat (staging (is_held_as text) (Settled Returned) phase)) _ (turn_good w seat phase _ is (settled_ready w (is_held_as text) Returned phase)) (good_counts _ processed)))
+    (unlocks_good _ until.Success text))
 
 pub drop_good : (w : World) (seat : ℕ) (phase : Phase) (text : Bytes) → phase_of w seat ≡ phase → Good w (drop seat phase text).changes
 drop_good w seat phase text is = where_some_good w phase (is_held_as text) _ (λ ident. turn_good w seat phase _ is (settled_ready w (is_held_as text) Discarded phase))

@@ -1,5 +1,5 @@
 -- What moves come from. Each that takes a row away, puts a text back, or is the store's own push has its cause in the event, or in a change before it.
-use Rattle.std.specs.Prelude.{◌≡◌, ℕ, pos, List, [], ◌∷◌, Some, Ok, Bool, true, false, ◌||◌}
+use Rattle.std.specs.Prelude.{◌≡◌, ℕ, ℤ, pos, List, [], ◌∷◌, Option, Some, None, Ok, Bool, true, false, ◌||◌}
 use Rattle.std.specs.List.{list_any}
 use Rattle.sk_resp.specs.Spelling.{Bytes}
 use Rattle.sk_cmd.specs.Table.{IsRead}
@@ -7,9 +7,12 @@ use Rattle.sk_cmd.specs.declared.command.Command.{Command}
 use Rattle.sk_cmd.specs.declared.command.Command.TheVariants as command
 use Rattle.sk_cmd.specs.declared.command.PlainCommand.{PlainCommand}
 use Rattle.sk_cmd.specs.declared.command.PlainCommand.TheVariants as plain
+use Rattle.sk_cmd.specs.declared.command.ScriptCommand.{ScriptCommand}
 use Rattle.sk_cmd.specs.declared.command.ScriptCommand.TheVariants as script
 use Rattle.sk_payload.specs.Head.{head}
 use Rattle.sk_payload.specs.declared.head.Head.{Head}
+use Rattle.sk_payload.specs.declared.head.Lock.{Lock}
+use Rattle.sk_model.specs.Digest.{digest}
 use Rattle.sk_value.specs.Action.{action_of}
 use Rattle.sk_batch.specs.declared.event.Event.TheVariants.{Returned}
 use Rattle.sk_places.specs.declared.origin.Origin.TheVariants.{Inner}
@@ -18,7 +21,7 @@ use Rattle.sk_seats.specs.declared.phase.Phase.TheVariants.{Plain}
 use Rattle.sk_seats.specs.Phases.{works_of}
 use Rattle.sk_seats.specs.Works.{is_buried_as, is_held_as}
 use Rattle.sk_model.specs.World.{World, first, phase_of}
-use Rattle.sk_model.specs.Change.{Add, Carry, Take, Trim, PutBack, Free, Change, Moves, Tells, changed}
+use Rattle.sk_model.specs.Change.{Add, Carry, Take, Trim, PutBack, Free, Change, Moves, Locks, Unlocks, Tells, changed}
 use Rattle.sk_model.specs.Seats.{releases}
 use Rattle.sk_model.specs.Event.{Event, Ask, Cut, Run, Step, after}
 use Rattle.sk_model.specs.Once.{called_by, is_dead_set}
@@ -72,6 +75,39 @@ pub record IsReturn (w : World) (bid jid : Bytes) (event : Event) : Type 0 where
   pub jid_is : h.jid ≡ jid
   pub bid_is : h.bid ≡ Some bid
 
+-- A seat pushes this job under its lock: SK.UPUSH, of a text whose head has the lock.
+pub record IsLocking (digest_of jid : Bytes) (seconds : ℕ) (event : Event) : Type 0 where
+  pub seat : ℕ
+  pub text : Bytes
+  pub score : Option ℤ
+  pub h : Head
+  pub lock : Lock
+  pub sent : Sends seat (command.Script (script.Upush text score)) event
+  pub head_is : head text ≡ Some h
+  pub lock_is : h.lock ≡ Some lock
+  pub digest_is : digest h ≡ digest_of
+  pub jid_is : h.jid ≡ jid
+  pub seconds_is : lock.seconds ≡ seconds
+
+-- the text of a job that starts or has returned
+abbrev pub text_told : ScriptCommand → Option Bytes
+text_told (script.Start text) = Some text
+text_told (script.Ok text) = Some text
+text_told other = None
+
+-- A seat that holds a payload of this job, with this digest, says SK.START or SK.OK.
+pub record IsUnlocking (w : World) (digest_of jid : Bytes) (event : Event) : Type 0 where
+  pub seat : ℕ
+  pub c : ScriptCommand
+  pub text : Bytes
+  pub h : Head
+  pub sent : Sends seat (command.Script c) event
+  pub told : text_told c ≡ Some text
+  pub held : list_any (is_held_as text) (works_of (phase_of w seat)) ≡ true
+  pub head_is : head text ≡ Some h
+  pub digest_is : digest h ≡ digest_of
+  pub jid_is : h.jid ≡ jid
+
 -- ## Each change
 
 -- a text comes into the dead set
@@ -88,6 +124,8 @@ HasCause w event buried due (Moves (Free seat text)) = IsRelease w seat text eve
 HasCause w event buried due (Moves (PutBack row)) = IsPutBack w row.text event
 HasCause w event buried due (Moves (Add row end Inner)) = due ≡ Moves (Add row end Inner) ∷ []
 HasCause w event buried due (Tells Returned bid jid) = IsReturn w bid jid event
+HasCause w event buried due (Locks digest_of jid seconds) = IsLocking digest_of jid seconds event
+HasCause w event buried due (Unlocks digest_of jid) = IsUnlocking w digest_of jid event
 HasCause w event buried due other = Unit {0}
 
 -- v: the world that the changes before these left

@@ -28,7 +28,7 @@ use Rattle.sk_batch.specs.Told.{mark_of}
 use Rattle.sk_batch.specs.declared.batch.Batch.{Batch}
 use Rattle.sk_batch.specs.declared.event.Event.{Event}
 use Rattle.sk_batch.specs.declared.firing.Kind.{Kind}
-use Rattle.sk_leases.specs.Leased.{beat, recovered, forgotten, purged as still_leased}
+use Rattle.sk_leases.specs.Leased.{beat, recovered, forgotten, locked, unlocked, purged as still_leased}
 use Rattle.sk_seats.specs.declared.phase.Phase.{Phase}
 use Rattle.sk_seats.specs.declared.phase.Phase.TheVariants.{Plain, Joined}
 use Rattle.sk_seats.specs.declared.work.Stage.{Stage}
@@ -74,6 +74,10 @@ pub data Change : Type 0 where
   Recovers : (jid : Bytes) → Change
   -- its recoveries are forgotten
   Forgets : (jid : Bytes) → Change
+  -- a job gets the lock under a digest, for so many seconds from now on
+  Locks : (digest jid : Bytes) → (seconds : ℕ) → Change
+  -- a job lets go of the lock under a digest, if it is the holder
+  Unlocks : (digest jid : Bytes) → Change
   -- a batch is made, with its first jobs
   Makes : (batch : Batch) → (jids : List Bytes) → Change
   -- a batch gets more jobs
@@ -118,7 +122,8 @@ moved w (PutBack row) = record w { rows = put_row Left row w.rows; names = named
 moved w (Free seat text) = freed text w (phase_of w seat)
 moved w (Fire bid kind) = record w { batches = after_fire bid kind w.batches }
 
--- The greatest moment counts, up to the last one that is told apart. Plain keys, heartbeats and recoveries whose deadline it has reached are gone.
+-- The greatest moment counts, up to the last one that is told apart. Plain keys, heartbeats, recoveries and locks whose deadline it has reached are
+-- gone.
 abbrev pub moment_after : ℕ → World → ℕ
 moment_after now w = max w.moment (min now last_moment)
 
@@ -136,6 +141,8 @@ changed w (Beats ident) = record w { leases = beat ident w.moment w.leases }
 changed w (Counts name) = record w { counters = counted_at w.moment name w.counters }
 changed w (Recovers jid) = record w { leases = recovered jid w.moment w.leases }
 changed w (Forgets jid) = record w { leases = forgotten jid w.leases }
+changed w (Locks digest jid seconds) = record w { leases = locked digest jid seconds w.moment w.leases }
+changed w (Unlocks digest jid) = record w { leases = unlocked digest jid w.leases }
 changed w (Makes batch jids) = record w { batches = joined batch.bid jids (with_batch batch w.batches) }
 changed w (Joins bid jids) = record w { batches = joined bid jids w.batches }
 changed w (Tells event bid jid) = record w { batches = marked (mark_of event) bid jid w.batches }

@@ -1,8 +1,17 @@
 -- What holds of every run of events.
-use Rattle.std.specs.Prelude.{◌≡◌, ℕ, ◌+◌, List, [], ◌∷◌, Bool, true, ◌&&◌, cond}
-use Rattle.std.specs.List.{list_any}
+use Rattle.std.specs.Prelude.{◌≡◌, ◌⊎◌, ℕ, ℤ, ◌+◌, List, [], ◌∷◌, Bool, true, false, ◌&&◌, cond, Option, Some, Ok}
+use Rattle.std.specs.List.{list_all, list_any}
 use Rattle.std.specs.Str.{bytes_eq}
 use Rattle.sk_resp.specs.Spelling.{Bytes}
+use Rattle.sk_resp.specs.declared.reply.Reply.{Reply}
+use Rattle.sk_resp.specs.declared.reply.Reply.TheVariants as reply
+use Rattle.sk_resp.specs.declared.say.Say.TheVariants as say
+use Rattle.sk_cmd.specs.Table.{IsRead}
+use Rattle.sk_cmd.specs.declared.command.Command.TheVariants as command
+use Rattle.sk_cmd.specs.declared.command.ScriptCommand.TheVariants as script
+use Rattle.sk_leases.specs.Leased.{holder_at}
+use Rattle.sk_payload.specs.Head.{head}
+use Rattle.sk_payload.specs.declared.head.Head.{Head}
 use Rattle.sk_model.specs.declared.limits.Limits.{Limits}
 use Rattle.sk_places.specs.declared.row.Place.TheVariants.{Private}
 use Rattle.sk_places.specs.declared.row.Row.{Row}
@@ -11,8 +20,10 @@ use Rattle.sk_seats.specs.declared.phase.Phase.{Phase}
 use Rattle.sk_seats.specs.declared.phase.Phase.TheVariants.{Plain, Joined}
 use Rattle.sk_seats.specs.Works.{is_done_as}
 use Rattle.sk_model.specs.World.{World, first, phase_of}
-use Rattle.sk_model.specs.Change.{Add, Take, Trim, Merge, PutBack, Free, Change, Moves, changed}
-use Rattle.sk_model.specs.Event.{Run, Step, after}
+use Rattle.sk_model.specs.Change.{Add, Take, Trim, Merge, PutBack, Free, Change, Moves, Passes, changed}
+use Rattle.sk_model.specs.Digest.{digest}
+use Rattle.sk_model.specs.Event.{Event, Ask, Cut, Run, Step, after}
+use Rattle.sk_model.specs.Outcome.{Outcome}
 use Rattle.sk_model.specs.Life.{Life, Unborn, Kept, Balanced, Knows, is_distinct, life_through}
 
 -- ## Every live job stands
@@ -104,3 +115,38 @@ CopiesKeptFrom w before gone (step ∷ steps) =
 
 abbrev pub CopiesKept : Type 0
 CopiesKept = (limits : Limits) (steps : List Step) → Run (first limits) steps → CopiesKeptFrom (first limits) (λ text. 0) (λ text. 0) steps
+
+-- ## A lock has one holder
+
+-- the job that holds the lock under the digest once the store is handed the moment
+abbrev pub holder_then : Bytes → ℕ → World → Option Bytes
+holder_then digest now w = let v : World = changed w (Passes now) in holder_at digest v.moment v.leases
+
+-- one of the store's refusals, or `-OOM`
+abbrev pub is_refusal : Reply → Bool
+is_refusal (reply.Say (say.Refused refusal)) = true
+is_refusal (reply.Say say.Oom) = true
+is_refusal other = false
+
+abbrev pub is_time : Change → Bool
+is_time (Passes now) = true
+is_time other = false
+
+-- The reply names the holder or is a refusal, and time alone goes on.
+pub record IsTurnedAway (holder : Bytes) (o : Outcome) : Type 0 where
+  pub reply : (o.reply ≡ reply.Bulk holder) ⊎ (is_refusal o.reply ≡ true)
+  pub still : list_all is_time o.changes ≡ true
+
+-- While a lock stands, an SK.UPUSH of a job with its digest is turned away.
+abbrev pub KeepsHolder : World → Event → Outcome → Type 0
+KeepsHolder w (Ask seat now words) o = (text : Bytes) (score : Option ℤ) (h : Head) (holder : Bytes)
+    → IsRead words (Ok (command.Script (script.Upush text score))) → head text ≡ Some h → holder_then (digest h) now w ≡ Some holder → IsTurnedAway holder o
+KeepsHolder w (Cut seat) o = Unit {0}
+
+abbrev pub OneHolderFrom : World → List Step → Type 0
+OneHolderFrom w [] = Unit {0}
+OneHolderFrom w (step ∷ steps) = KeepsHolder w step.event step.outcome × OneHolderFrom (after w step) steps
+
+-- It is so at every step of every run.
+abbrev pub OneHolder : Type 0
+OneHolder = (limits : Limits) (steps : List Step) → Run (first limits) steps → OneHolderFrom (first limits) steps

@@ -11,6 +11,8 @@ pub mod Told
 pub mod Jobs
 pub mod Batches
 pub mod Seats
+pub mod Digest
+pub mod Unique
 pub mod Workers
 pub mod Rescue
 pub mod Status

@@ -4,7 +4,7 @@ use Rattle.sk_model.specs.declared.limits.Limits.{Limits}
 use Rattle.sk_model.specs.World.{first}
 use Rattle.sk_model.specs.Causes.{CausesFrom}
 use Rattle.sk_model.specs.Event.{Step, Run}
-use Rattle.sk_model.specs.Laws.{BalanceFrom, CopiesKeptFrom, LiveJobsStand}
+use Rattle.sk_model.specs.Laws.{BalanceFrom, CopiesKeptFrom, LiveJobsStand, OneHolderFrom}
 use Rattle.sk_model.specs.Life.{Unborn}
 use Rattle.sk_model.specs.Once.{CallsFollowFrom, CompleteOnceFrom, DeathOnceFrom, SettledStaysFrom, SuccessOnceFrom}
 
@@ -27,6 +27,8 @@ pub record IsReliable (limits : Limits) (steps : List Step) : Type 0 where
   pub callbacks_follow : CallsFollowFrom (first limits) steps
   -- Whatever takes a row away, puts a text back or is the store's own push has its cause.
   pub moves_have_causes : CausesFrom (first limits) steps
+  -- While a lock stands, a unique push under its digest is answered by the holder's id or by a refusal, and moves nothing.
+  pub one_holder : OneHolderFrom (first limits) steps
 
 -- every run is
 abbrev pub Reliable : Type 0

@@ -6,9 +6,6 @@ use Rattle.sk_resp.specs.Spelling.{Bytes}
 use Rattle.sk_resp.specs.declared.refusal.Refusal.TheVariants.{Full}
 use Rattle.sk_places.specs.Totals.{pushes_in}
 use Rattle.sk_places.specs.declared.totals.Totals.{Totals}
-use Rattle.sk_places.specs.Placed.{Placed}
-use Rattle.sk_seats.specs.Phases.{Phases}
-use Rattle.sk_model.specs.declared.limits.Limits.{Limits}
 use Rattle.sk_model.specs.World.{World}
 use Rattle.sk_model.specs.Outcome.{Outcome, refuses}
 
@@ -40,9 +37,3 @@ is_too_much w (text ∷ texts) = is_full w (text ∷ texts)
 -- what a push of these texts comes to
 abbrev pub where_room : World → List Bytes → Outcome → Outcome
 where_room w texts o = cond (is_full w texts) (refuses Full) o
-
--- ## As commands see it
-
--- a world with these limits, seats that do this, and these rows and names
-abbrev pub with_pushed : World → Limits → Phases → Placed → World
-with_pushed w limits phases p = record w { limits = limits; rows = p.rows; names = p.names; live = p.lives.live; tally = p.lives.totals; phases = phases }

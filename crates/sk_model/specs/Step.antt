@@ -39,6 +39,7 @@ use Rattle.sk_model.specs.Rescue.{rescue}
 use Rattle.sk_model.specs.Life.{rows_of}
 use Rattle.sk_model.specs.Status.{status}
 use Rattle.sk_model.specs.Workers.{beat, join, work, start, ok, drop, fail, bury, back}
+use Rattle.sk_model.specs.Unique.{unique_push}
 use Rattle.sk_model.specs.Batches.{batch_of, batch_push, batch_add, batch_stat}
 
 -- ## Keys of the clients' own
@@ -103,7 +104,6 @@ by_seat w seat phase c = cond (is_workers (action_of c)) (work w seat phase (act
 -- ## The commands of the store's own
 
 abbrev pub is_script_built : ScriptCommand → Bool
-is_script_built (script.Upush text score) = false
 is_script_built (script.Lead ident) = false
 is_script_built (script.Cron ident loop slot text) = false
 is_script_built other = true
@@ -121,6 +121,7 @@ run w seat phase (script.Due set limit) = where_plain phase (due w set (nat_abs 
 run w seat phase (script.Revive set text) = where_plain phase (revive w set text)
 run w seat phase (script.Kill set text) = where_plain phase (kill w set text)
 run w seat phase script.Rescue = where_plain phase (rescue w)
+run w seat phase (script.Upush text score) = unique_push w text score
 run w seat phase (script.Bpush bid parent complete success death texts) = batch_push w (batch_of bid parent complete success death) texts
 run w seat phase (script.Badd bid texts) = batch_add w bid texts
 run w seat phase (script.Bstat bid) = batch_stat w bid

@@ -1,6 +1,6 @@
 -- The life of a worker's seat: it joins, fetches a job, tells of its run, puts it back or is done with it, and releases it (Sidekiq's wiki,
 -- "Reliability"). The job never leaves the rows: a fetch carries it to the process's private list, where it stands until the release.
-use Rattle.std.specs.Prelude.{ℕ, pos, [], ◌∷◌, Option, Some, None, not, ◌&&◌, cond, length, nat_lt}
+use Rattle.std.specs.Prelude.{ℕ, pos, [], ◌∷◌, ◌++◌, Option, Some, None, not, ◌&&◌, cond, length, nat_lt}
 use Rattle.std.specs.List.{list_any}
 use Rattle.std.specs.Option.{is_some}
 use Rattle.sk_resp.specs.Spelling.{Bytes}
@@ -35,6 +35,8 @@ use Rattle.sk_model.specs.Outcome.{Outcome, says, tells, refuses}
 use Rattle.sk_model.specs.Seats.{fetched_from, only, released_by, where_held, where_some}
 use Rattle.sk_model.specs.Sets.{put_back}
 use Rattle.sk_model.specs.Told.{and_tell}
+use Rattle.sk_model.specs.Unique.{unlocks}
+use Rattle.sk_payload.specs.declared.head.Until.TheVariants as until
 use Rattle.sk_batch.specs.declared.event.Event.TheVariants as event
 use Rattle.sk_batch.specs.declared.event.Event.TheVariants.{Reported}
 use Rattle.sk_model.specs.Jobs.{Sent, buried_by, reports, moment_score}
@@ -90,17 +92,21 @@ back w seat phase text = where_held phase text (λ ident. give w seat phase iden
 
 -- ## A job runs
 
--- SK.START: it is about to run
+-- SK.START: it is about to run. A lock until then ends.
 abbrev pub start : Phase → Bytes → Outcome
-start phase text = where_held phase text (λ ident. tells say.Ok)
+start phase text = where_held phase text (λ ident. record { reply = reply.Say say.Ok; changes = unlocks until.Start text })
 
 -- SK.FAIL: it has raised
 abbrev pub fail : World → Phase → Bytes → Outcome
 fail w phase text = where_held phase text (λ ident. and_tell Reported w text (Counts processed ∷ Counts failed ∷ []))
 
+-- a lock until its success ends
+abbrev pub and_unlock : Bytes → Outcome → Outcome
+and_unlock text o = record o { changes = o.changes ++ unlocks until.Success text }
+
 -- SK.OK: it has returned; then it is released.
 abbrev pub ok : World → ℕ → Phase → Bytes → Outcome
-ok w seat phase text = where_held phase text (λ ident. and_tell event.Returned w text (Turns seat (staging (is_held_as text) (Settled Returned) phase) ∷ Counts processed ∷ []))
+ok w seat phase text = where_held phase text (λ ident. and_unlock text (and_tell event.Returned w text (Turns seat (staging (is_held_as text) (Settled Returned) phase) ∷ Counts processed ∷ [])))
 
 -- SK.DROP: it is given up; then it is released. Its batch hears nothing of it.
 abbrev pub drop : ℕ → Phase → Bytes → Outcome

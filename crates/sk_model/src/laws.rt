@@ -1,7 +1,7 @@
 // What holds of every run of events.
 ghost use Rattle.std.specs.Prelude.{◌≡◌};
 ghost use Rattle.sk_model.specs.Causes.{MovesHaveCauses};
-ghost use Rattle.sk_model.specs.Laws.{Balance, Conserve, CopiesKept};
+ghost use Rattle.sk_model.specs.Laws.{Balance, Conserve, CopiesKept, OneHolder};
 ghost use Rattle.sk_model.specs.Once.{BatchOnce, CallbacksFollow, CompleteOnce, DeathOnce, SettledStays};
 ghost use Rattle.sk_model.specs.Reading.{IsSaid, Said, SomeReading, Words};
 ghost use Rattle.sk_model.specs.Reliable.{Reliable};
@@ -60,9 +60,16 @@ pub fn callbacks_follow()
 /// ZREMRANGEBYRANK, ZREMRANGEBYSCORE or FLUSHALL alone. The dead set is trimmed only after a text came into it in the same event. A row is
 /// released by the seat alone that put a payload of its text back or is done with it, and a text put back by one that holds a payload which it
 /// follows. The store's own push is the callback of the firing just before it. That a job returned, a batch is told by the SK.OK of a seat that
-/// held a payload of it.
+/// held a payload of it. A lock is made by an SK.UPUSH of its job alone, and let go before its time by the SK.START or SK.OK of a seat that
+/// held a payload of that job alone.
 pub fn moves_have_causes()
     ensures { MovesHaveCauses }
+{}
+
+/// While a lock under a digest stands, each SK.UPUSH of a job with that digest is answered by the id of the job that holds the lock, or by a refusal,
+/// and nothing moves: time alone goes on.
+pub fn a_lock_has_one_holder()
+    ensures { OneHolder }
 {}
 
 /// All of these hold of each run together.

@@ -3,7 +3,6 @@
 
 mod laws;
 mod limits;
-mod room;
 
 pub use laws::{
     callbacks_follow, complete_fires_once, death_fires_once, events_are_served_or_starve,
@@ -12,4 +11,3 @@ pub use laws::{
     words_have_one_reading, words_have_some_reading,
 };
 pub use limits::Limits;
-pub use room::{bytes_of, bytes_scored, is_full};

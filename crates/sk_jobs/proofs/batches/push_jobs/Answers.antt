@@ -1,5 +1,6 @@
-use Rattle.std.proofs.Common.{◌∙◌, ap, arith, length, refl}
-use Rattle.sk_jobs.specs.Seated.{with_seats}
+use Rattle.std.proofs.Common.{ap, arith, length}
+use Rattle.sk_store.proofs.Steps.{joined}
+use Rattle.sk_store.specs.Stored.{world}
 use Rattle.sk_jobs.proofs.Batching.{one_pushed}
 use Rattle.sk_jobs.proofs.batches.push_jobs.Goals as goal
 
@@ -8,7 +9,7 @@ push_job-requires c = let l = ap length c.in-Some.ensures.steps.0 in let room = 
 
 pub loop-payload-preserved : goal.loop-payload-preserved
 loop-payload-preserved c = record {
-  pushed = λ w. one_pushed (with_seats w c.loop-payload.places.stands c.args.seats.now) _ _ c.in-Some.payload _ _ c.in-Some.ensures.steps.0 (c.in_ok-push_job.ensures.ok w c.args.seats.now (λ jid. refl)) (c.loop-payload.invariant.pushed w);
+  pushed = one_pushed (world c.loop-payload.store) _ _ c.in-Some.payload _ _ c.in-Some.ensures.steps.0 c.in_ok-push_job.ensures.ok c.loop-payload.invariant.pushed;
   room = λ some. let room = c.loop-payload.invariant.room (let l = ap length c.in-Some.ensures.steps.0 in omega (arith, l)) in omega (arith, room, some, c.in_ok-push_job.ensures.few, ap length c.in-Some.ensures.steps.0);
-  step = c.in_ok-push_job.ensures.step ∙ c.loop-payload.invariant.step;
+  step = joined c.args.store.now c.loop-payload.store c.push_job.new.store c.loop-payload.invariant.step c.in_ok-push_job.ensures.step;
 }

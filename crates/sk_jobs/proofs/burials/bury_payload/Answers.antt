@@ -1,36 +1,29 @@
 use Rattle.std.proofs.Common.{◌≡◌, ◌*◌, ◌∙◌, pos, min, [], ◌∷◌, ap, arith}
 use Rattle.sk_base.specs.Score.{last_moment}
 use Rattle.sk_cmd.specs.declared.argument.Scored.TheVariants.{Dead}
-use Rattle.sk_model.specs.Change.{Turns, changed}
-use Rattle.sk_model.specs.Jobs.{buried_by}
-use Rattle.sk_seats.specs.Phases.{staging, turned}
-use Rattle.sk_seats.specs.Works.{is_buried_as}
+use Rattle.sk_model.specs.Change.{changed}
+use Rattle.sk_model.specs.Jobs.{buried_by, moment_score}
 use Rattle.sk_model.specs.Sets.{put_back}
-use Rattle.sk_seats.specs.declared.work.Stage.TheVariants.{Put}
 use Rattle.sk_model.proofs.Coming.{if_ok}
-use Rattle.sk_model.specs.World.{World}
-use Rattle.sk_jobs.specs.Seated.{with_seats}
-use Rattle.sk_jobs.specs.Stocked.{at}
-use Rattle.sk_jobs.proofs.Covering.{covered_with, put_inner}
-use Rattle.sk_jobs.proofs.Rescuing.{some_world}
+use Rattle.sk_places.specs.Rows.{row_of}
+use Rattle.sk_store.specs.Stored.{world}
+use Rattle.sk_jobs.specs.Sending.{dead_rows}
+use Rattle.sk_jobs.proofs.Burying.{buried_after}
+use Rattle.sk_jobs.proofs.Covering.{put_quiet, quiet_covered}
 use Rattle.sk_jobs.proofs.burials.bury_payload.Goals as goal
 
 pub returns-clause-ok : goal.returns-clause-ok
 returns-clause-ok c =
-    let moment = c.args.moment in
-    let now : min moment last_moment ≡ moment = omega (arith, c.requires.early) in
-    let score : c.of_moment.result ≡ pos (moment * 1000) = c.of_moment.ensures ∙ ap (λ n. pos (n * 1000)) now in
-    if_ok _ _ c.told.result (λ reply tells. λ w phases seat phase alike.
-    let v = at w moment c.args.stock.now phases in
-    let after = staging (is_buried_as c.args.payload) Put phase in
-    let next = turned seat after phases in
-    let put = put_back v Dead (pos (moment * 1000), c.args.payload) ∷ Turns seat after ∷ [] in
-    let mid = ap (λ u. changed u (Turns seat after)) (c.in_ok-put_back.ensures.ok v phases ∙ ap (λ s. changed v (put_back v Dead (s, c.args.payload))) score) in
-    let sent = c.in_ok-report.ensures.ok w v next put c.args.payload c.in_ok-member.ensures alike mid in
-    record { reply_is = tells (buried_by v c.args.payload put) sent.moved sent.buried sent.fired sent.trimmed; new_is = sent.world }) c.told.ensures
+    let v = world c.args.store.now in
+    let payload = c.args.payload in
+    let now : min v.moment last_moment ≡ v.moment = omega (arith, c.requires.early) in
+    let score : c.of_moment-score.result ≡ moment_score v = c.of_moment-score.ensures ∙ ap (λ n. pos (n * 1000)) now in
+    let put = put_back v Dead (moment_score v, payload) ∷ [] in
+    let mid = c.in_ok-put_back.ensures.ok ∙ ap (λ s. changed v (put_back v Dead (s, payload))) score in
+    let sent = buried_after v (world c.put_back.new.store) (world c.bury_put.new.store) put payload c.in_ok-report.report mid (c.in_ok-report.ensures.ok payload c.in_ok-member.ensures) in
+    if_ok _ _ c.told.result (λ reply tells. tells v (world c.bury_put.new.store) (buried_by v payload put) sent) c.told.ensures
 
 pub bury_put-requires-clause-covered : goal.bury_put-requires-clause-covered
 bury_put-requires-clause-covered c =
-    let s = c.args.stock.now in
-    let inner = ap (λ (u : World). u.tally.inner) (c.in_ok-put_back.ensures.ok some_world some_world.phases) ∙ put_inner (with_seats some_world s.places.stands some_world.phases) Dead (c.of_moment.result, c.args.payload) _ in
-    covered_with c.put_back.new.places.stands s.places.stands s.batches.stands inner c.requires.covered
+    let v = world c.args.store.now in
+    quiet_covered v (world c.put_back.new.store) (put_back v Dead (c.of_moment-score.result, c.args.payload) ∷ []) c.in_ok-put_back.ensures.ok (put_quiet Dead (c.of_moment-score.result, c.args.payload) (row_of c.args.payload (dead_rows v))) c.requires.covered

@@ -1,8 +1,12 @@
-use Rattle.std.proofs.Common.{◌∙◌, sym}
-use Rattle.sk_model.proofs.Coming.{if_ok}
-use Rattle.sk_jobs.specs.Stocked.{at}
-use Rattle.sk_jobs.proofs.Calling.{tells_of}
+use Rattle.std.proofs.Common.{IfOk, refl, subst, sym}
+use Rattle.std.specs.Prelude.{Option}
+use Rattle.sk_batch.specs.declared.member.Member.{Member}
+use Rattle.sk_store.specs.Stored.{world}
+use Rattle.sk_jobs.specs.Calls.{IsTold, tell_member}
 use Rattle.sk_jobs.proofs.calls.tell.Goals as goal
 
 pub returns-in-Some-clause-ok : goal.returns-in-Some-clause-ok
-returns-in-Some-clause-ok c = if_ok _ _ c.tell_batch.result (λ fired told. λ w moment phases text is alike. tells_of (at w moment c.args.stock.now phases) (at w moment c.tell_batch.new.stock phases) c.args.event text c.in-Some.member fired.items (sym c.in-Some.is ∙ is) (told w moment phases alike)) c.tell_batch.ensures.ok
+returns-in-Some-clause-ok c =
+    let old = world c.args.store.now in
+    let new = world c.tell_batch.new.store in
+    subst (λ (member : Option Member). IfOk c.tell_batch.result (λ fired. IsTold old new fired.items (tell_member c.args.event old member))) (sym c.in-Some.is) c.tell_batch.ensures.ok

@@ -1,26 +1,20 @@
-use Rattle.std.proofs.Common.{◌∷◌, [], refl, subst, sym}
+use Rattle.std.proofs.Common.{subst, sym}
 use Rattle.sk_batch.specs.declared.event.Event.TheVariants.{Reported}
-use Rattle.sk_counters.specs.Counters.{failed, processed}
-use Rattle.sk_model.specs.Change.{Counts}
-use Rattle.sk_model.specs.Outcome.{Comes}
-use Rattle.sk_seats.specs.Phases.{phase_in}
 use Rattle.sk_seats.specs.Works.{is_held_as}
 use Rattle.sk_model.specs.Told.{and_tell}
-use Rattle.sk_jobs.specs.Stocked.{at}
-use Rattle.sk_jobs.proofs.Calling.{if_closed}
-use Rattle.sk_jobs.proofs.Telling.{closed_comes}
+use Rattle.sk_model.specs.World.{phase_of}
+use Rattle.sk_store.proofs.Steps.{whole}
+use Rattle.sk_store.specs.Stored.{Runs, world}
+use Rattle.sk_jobs.specs.Calls.{counts_failed}
 use Rattle.sk_jobs.proofs.Working.{found_at, found_is}
 use Rattle.sk_jobs.proofs.runs.fail.Goals as goal
 
-pub returns-clause-ok : goal.returns-clause-ok
-returns-clause-ok c =
-    let moment = c.args.moment in
-    let seats = c.args.seats.now in
-    let old = c.args.stock.now in
+pub returns : goal.returns
+returns c =
+    let old = c.args.store.now in
     let text = c.args.text.now in
-    let phase = phase_in seats c.args.seat in
+    let phase = phase_of (world old) c.args.seat in
     let found = found_at c.get.result.now phase (is_held_as text) c.in-Ok.at c.get.ensures.is c.in-Ok.ensures.found in
-    if_closed _ _ _ c.fail_open-done.result c.close.result c.close.ensures.is (λ reply comes committed. λ w.
-    subst (λ o. Comes (at w moment old seats) o reply (at w moment c.close.new.self seats)) (sym (found_is phase (is_held_as text) c.in-Ok.at (λ ident. and_tell Reported (at w moment old seats) text (Counts processed ∷ Counts failed ∷ [])) found))
-    (closed_comes w moment old c.begin.new.self c.fail_open-done.new.stock c.close.new.self seats seats seats (λ v. and_tell Reported v text (Counts processed ∷ Counts failed ∷ [])) reply c.begin.ensures committed refl (comes w text c.in_ok-member.ensures)))
-    c.fail_open-done.ensures.ok c.close.ensures.ok
+    let ran = whole old c.begin.new.self c.fail_open-done.new.store c.close.new.self (λ v. and_tell Reported v text counts_failed) c.fail_open-done.result c.close.result
+    c.requires.ready c.begin.ensures c.fail_open-done.ensures.step c.fail_open-done.ensures.ok c.close.ensures.same c.close.ensures.ok c.close.ensures.err in
+    subst (λ o. Runs old o c.close.result c.close.new.self) (sym (found_is phase (is_held_as text) c.in-Ok.at (λ ident. and_tell Reported (world old) text counts_failed) found)) ran

@@ -1,6 +1,8 @@
-use Rattle.std.proofs.Common.{◌∙◌, ap}
+use Rattle.std.proofs.Common.{◌∙◌, ap, sym}
 use Rattle.sk_seats.specs.Works.{is_held_as}
 use Rattle.sk_model.proofs.Coming.{if_ok}
+use Rattle.sk_model.specs.World.{phase_of}
+use Rattle.sk_store.specs.Stored.{world}
 use Rattle.sk_jobs.specs.Calls.{member_of}
 use Rattle.sk_jobs.proofs.Working.{found_in, held_text}
 use Rattle.sk_jobs.proofs.runs.member_at.Goals as goal
@@ -8,6 +10,7 @@ use Rattle.sk_jobs.proofs.runs.member_at.Goals as goal
 pub returns : goal.returns
 returns c =
     let text = c.args.text.now in
-    let found = found_in c.args.phase.now c.in-Joined.field-0 c.in-Joined.works (is_held_as text) c.args.at c.in-Joined.is c.requires in
-    let same = held_text text c.in-Joined.works c.get.result.now (c.get.ensures (is_held_as text) found) in
+    let phase = phase_of (world c.args.store.now) c.args.seat in
+    let found = found_in phase c.in-Joined.field-0 c.in-Joined.works (is_held_as text) c.args.at (sym c.get.ensures.is ∙ c.in-Joined.is) c.requires in
+    let same = held_text text c.in-Joined.works c.get-in-Joined.result.now (c.get-in-Joined.ensures (is_held_as text) found) in
     if_ok _ _ c.member_of.result (λ member is. is ∙ ap member_of same) c.member_of.ensures

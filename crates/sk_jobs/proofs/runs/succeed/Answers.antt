@@ -1,33 +1,66 @@
-use Rattle.std.proofs.Common.{◌∷◌, [], subst, sym}
+use Rattle.std.proofs.Common.{◌∙◌, ◌∷◌, ap, subst, sym}
 use Rattle.sk_resp.specs.Spelling.{Bytes}
 use Rattle.sk_batch.specs.declared.event.Event.TheVariants as event
-use Rattle.sk_counters.specs.Counters.{processed}
-use Rattle.sk_model.specs.Change.{Counts, Turns}
-use Rattle.sk_model.specs.Outcome.{Comes}
-use Rattle.sk_seats.specs.Phases.{phase_in, staging, turned}
-use Rattle.sk_seats.specs.Works.{is_held_as}
+use Rattle.sk_model.specs.Change.{Turns, perform}
+use Rattle.sk_model.specs.Outcome.{Comes, Outcome}
+use Rattle.sk_model.specs.Unique.{unlocks}
+use Rattle.sk_model.specs.Workers.{and_unlock}
+use Rattle.sk_payload.specs.declared.head.Until.TheVariants as until
 use Rattle.sk_model.specs.Told.{and_tell}
+use Rattle.sk_model.specs.World.{phase_of}
+use Rattle.sk_seats.specs.Phases.{staging}
+use Rattle.sk_seats.specs.Works.{is_held_as}
 use Rattle.sk_seats.specs.declared.work.End.TheVariants.{Returned}
 use Rattle.sk_seats.specs.declared.work.Stage.TheVariants.{Settled}
 use Rattle.sk_seats.proofs.Seating.{has_works, stage_stays}
-use Rattle.sk_jobs.specs.Stocked.{at}
-use Rattle.sk_jobs.proofs.Calling.{ok_of}
-use Rattle.sk_jobs.proofs.Telling.{closed_comes}
+use Rattle.sk_store.proofs.Steps.{seated_ready, seats_stay, undone_again, whole}
+use Rattle.sk_store.specs.Stored.{world}
+use Rattle.sk_jobs.specs.Calls.{counts_processed}
+use Rattle.sk_jobs.proofs.Turning.{returned_turned, staged_is, starved, with_phases, within_still}
+use Rattle.sk_jobs.proofs.UniquePushes.{comes_more}
 use Rattle.sk_jobs.proofs.Working.{found_at, found_is}
 use Rattle.sk_jobs.proofs.runs.succeed.Goals as goal
 
-pub returns-clause-ok : goal.returns-clause-ok
-returns-clause-ok c = λ w.
-    let moment = c.args.moment in
-    let seats = c.args.seats.now in
-    let seat = c.args.seat in
-    let old = c.args.stock.now in
+pub stage-requires : goal.stage-requires
+stage-requires c =
+    let old = c.args.store.now in
     let text = c.args.text.now in
-    let phase = phase_in seats seat in
+    let found = found_at c.get.result.now (phase_of (world old) c.args.seat) (is_held_as text) c.in-Ok.at c.get.ensures.is c.in-Ok.ensures.found in
+    let same = seats_stay old c.begin.new.self c.succeed_open-done.new.store c.close.new.self c.begin.ensures c.succeed_open-done.ensures.step c.in_ok-reply.ensures.ok in
+    within_still old.seats c.close.new.self.seats c.args.seat c.in-Ok.at (is_held_as text) same found
+
+pub returns-in_err-reply : goal.returns-in_err-reply
+returns-in_err-reply c =
+    let same = undone_again c.args.store.now c.begin.new.self c.succeed_open-done.new.store c.close.new.self c.requires.ready c.begin.ensures c.succeed_open-done.ensures.step c.in_err-reply.ensures.err in
+    starved c.args.store.now c.close.new.self _ c.from_residual-in_err-reply.result c.from_residual-in_err-reply.ensures.0 same
+
+pub returns : goal.returns
+returns c =
+    let old = c.args.store.now in
+    let closed = c.close.new.self in
+    let seat = c.args.seat in
+    let text = c.args.text.now in
+    let reply = c.in_ok-reply.reply in
+    let v = world old in
+    let phase = phase_of v seat in
     let found = found_at c.get.result.now phase (is_held_as text) c.in-Ok.at c.get.ensures.is c.in-Ok.ensures.found in
-    let after = staging (is_held_as text) (Settled Returned) phase in
-    let comes = ok_of _ c.in_ok-reply.reply c.succeed_open-done.result c.in_ok-reply.ensures.is c.succeed_open-done.ensures.ok in
-    let alike = λ (jid : Bytes). stage_stays jid seat seats (is_held_as text) (Settled Returned) c.get.ensures.order (has_works phase c.in-Ok.at found.within) in
-    subst (λ o. Comes (at w moment old seats) o c.in_ok-reply.reply (at w moment c.close.new.self c.stage.new.self)) (sym (found_is phase (is_held_as text) c.in-Ok.at (λ ident. and_tell event.Returned (at w moment old seats) text (Turns seat after ∷ Counts processed ∷ [])) found))
-    (closed_comes w moment old c.begin.new.self c.succeed_open-done.new.stock c.close.new.self seats (turned seat after seats) c.stage.new.self (λ v. and_tell event.Returned v text (Turns seat after ∷ Counts processed ∷ [])) c.in_ok-reply.reply c.begin.ensures c.in_ok-reply.ensures.ok
-    (c.stage.ensures (is_held_as text) found.is) (comes w seats seat after text c.in_ok-member.ensures alike))
+    let same = seats_stay old c.begin.new.self c.succeed_open-done.new.store closed c.begin.ensures c.succeed_open-done.ensures.step c.in_ok-reply.ensures.ok in
+    let alike = λ (jid : Bytes). stage_stays jid seat old.seats (is_held_as text) (Settled Returned) c.get.ensures.order (has_works phase c.in-Ok.at found.within) in
+    let ran = whole old c.begin.new.self c.succeed_open-done.new.store closed (λ u. and_tell event.Returned u text counts_processed) c.succeed_open-done.result _
+    c.requires.ready c.begin.ensures c.succeed_open-done.ensures.step c.succeed_open-done.ensures.ok c.in_ok-reply.ensures.same c.in_ok-reply.ensures.ok c.in_ok-reply.ensures.err in
+    let next = staged_is old.seats closed.seats c.stage.new.self seat c.in-Ok.at (is_held_as text) (Settled Returned) same found c.stage.ensures in
+    let turn = staging (is_held_as text) (Settled Returned) phase in
+    let after = world (record closed { seats = c.stage.new.self }) in
+    let told : Outcome = and_tell event.Returned v text (Turns seat turn ∷ counts_processed) in
+    let comes = returned_turned v (world closed) after event.Returned seat turn text reply alike ran.0 (ap (λ p. with_phases p (world closed)) next) in
+    let ended = comes_more v after (world c.let_go.new.store) told reply (unlocks until.Success text) comes (c.let_go.ensures.world ∙ ap (perform after) c.in_ok-lock.ensures) in (
+      subst (λ o. Comes v o reply (world c.let_go.new.store)) (sym (found_is phase (is_held_as text) c.in-Ok.at (λ ident. and_unlock text told) found)) ended,
+      c.let_go.ensures.ready,
+    )
+
+pub let_go-requires : goal.let_go-requires
+let_go-requires c =
+    let old = c.args.store.now in
+    let ran = whole old c.begin.new.self c.succeed_open-done.new.store c.close.new.self (λ u. and_tell event.Returned u c.args.text.now counts_processed) c.succeed_open-done.result _
+    c.requires.ready c.begin.ensures c.succeed_open-done.ensures.step c.succeed_open-done.ensures.ok c.in_ok-reply.ensures.same c.in_ok-reply.ensures.ok c.in_ok-reply.ensures.err in
+    seated_ready c.close.new.self c.stage.new.self ran.1

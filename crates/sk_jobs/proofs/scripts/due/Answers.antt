@@ -1,27 +1,19 @@
-use Rattle.std.proofs.Common.{◌≡◌, IfOk, of_z, rules, subst, sym, to_z, w64}
+use Rattle.std.proofs.Common.{◌≡◌, ◌∙◌, IfOk, of_z, rules, subst, sym, to_z, w64}
 use Rattle.std.specs.Prelude.{nat_abs}
-use Rattle.sk_cmd.specs.declared.argument.Scored.{Scored}
-use Rattle.sk_cmd.specs.declared.argument.Scored.TheVariants.{Retry, Schedule}
 use Rattle.sk_model.specs.Jobs.{due}
 use Rattle.sk_model.specs.Outcome.{Comes}
-use Rattle.sk_seats.specs.Phases.{Phases}
-use Rattle.sk_model.specs.World.{World}
-use Rattle.sk_jobs.specs.Calls.{Alike}
-use Rattle.sk_jobs.specs.Stocked.{at}
+use Rattle.sk_model.specs.World.{World, phase_of}
+use Rattle.sk_store.proofs.Steps.{whole}
+use Rattle.sk_store.specs.Stored.{Runs, world}
+use Rattle.sk_jobs.proofs.Working.{plain_is}
 use Rattle.sk_jobs.proofs.scripts.due.Goals as goal
 
-pub returns-in-Schedule-clause-ok : goal.returns-in-Schedule-clause-ok
-returns-in-Schedule-clause-ok c =
-    let old = c.args.stock.now in
-    let new = c.send_due.new.stock in
+pub returns-in-Plain : goal.returns-in-Plain
+returns-in-Plain c =
+    let old = c.args.store.now in
+    let o = λ (v : World). due v c.args.set (nat_abs c.args.limit) in
     let same : to_z w64 (of_z w64 c.args.limit) ≡ c.args.limit = search rules in
-    subst (λ (s : Scored). IfOk c.send_due.result (λ reply. (w : World) (phases : Phases) → Alike phases c.args.seats.now → Comes (at w c.args.moment old phases) (due (at w c.args.moment old phases) s (nat_abs c.args.limit)) reply (at w c.args.moment new phases))) (sym c.in-Schedule.is)
-    (subst (λ n. IfOk c.send_due.result (λ reply. (w : World) (phases : Phases) → Alike phases c.args.seats.now → Comes (at w c.args.moment old phases) (due (at w c.args.moment old phases) Schedule (nat_abs n)) reply (at w c.args.moment new phases))) same c.send_due.ensures.ok)
-
-pub returns-in-Retry-clause-ok : goal.returns-in-Retry-clause-ok
-returns-in-Retry-clause-ok c =
-    let old = c.args.stock.now in
-    let new = c.send_due-in-Retry.new.stock in
-    let same : to_z w64 (of_z w64 c.args.limit) ≡ c.args.limit = search rules in
-    subst (λ (s : Scored). IfOk c.send_due-in-Retry.result (λ reply. (w : World) (phases : Phases) → Alike phases c.args.seats.now → Comes (at w c.args.moment old phases) (due (at w c.args.moment old phases) s (nat_abs c.args.limit)) reply (at w c.args.moment new phases))) (sym c.in-Retry.is)
-    (subst (λ n. IfOk c.send_due-in-Retry.result (λ reply. (w : World) (phases : Phases) → Alike phases c.args.seats.now → Comes (at w c.args.moment old phases) (due (at w c.args.moment old phases) Retry (nat_abs n)) reply (at w c.args.moment new phases))) same c.send_due-in-Retry.ensures.ok)
+    let did = subst (λ n. IfOk c.due_open-done.result (λ reply. Comes (world c.begin.new.self) (due (world c.begin.new.self) c.args.set (nat_abs n)) reply (world c.due_open-done.new.store))) same c.due_open-done.ensures.ok in
+    let ran = whole old c.begin.new.self c.due_open-done.new.store c.close.new.self o c.due_open-done.result c.close.result
+    c.requires.ready c.begin.ensures c.due_open-done.ensures.step did c.close.ensures.same c.close.ensures.ok c.close.ensures.err in
+    subst (λ outcome. Runs old outcome c.close.result c.close.new.self) (sym (plain_is (phase_of (world old) c.args.seat) (o (world old)) (sym c.get.ensures.is ∙ c.in-Plain.is))) ran

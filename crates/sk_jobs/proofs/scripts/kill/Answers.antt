@@ -1,13 +1,15 @@
-use Rattle.std.proofs.Common.{refl, subst, sym}
-use Rattle.sk_cmd.specs.declared.argument.Scored.{Scored}
-use Rattle.sk_model.specs.Jobs.{kill, nothing}
-use Rattle.sk_model.specs.Outcome.{Comes}
-use Rattle.sk_model.proofs.Coming.{if_ok}
-use Rattle.sk_jobs.specs.Stocked.{at}
+use Rattle.std.proofs.Common.{◌∙◌, subst, sym}
+use Rattle.sk_model.specs.Jobs.{kill}
+use Rattle.sk_model.specs.World.{World, phase_of}
+use Rattle.sk_store.proofs.Steps.{whole}
+use Rattle.sk_store.specs.Stored.{Runs, world}
+use Rattle.sk_jobs.proofs.Working.{plain_is}
 use Rattle.sk_jobs.proofs.scripts.kill.Goals as goal
 
-pub returns-in-Dead-clause-ok : goal.returns-in-Dead-clause-ok
-returns-in-Dead-clause-ok c = if_ok _ _ c.told.result (λ reply tells. λ w phases alike.
-    let v = at w c.args.moment c.args.stock.now phases in
-    subst (λ (s : Scored). Comes v (kill v s c.args.text.now) reply v) (sym c.in-Dead.is)
-    (record { reply_is = tells nothing c.nothing.ensures.none.0 c.nothing.ensures.none.1 c.nothing.ensures.texts.0 c.nothing.ensures.texts.1; new_is = refl })) c.told.ensures
+pub returns-in-Plain : goal.returns-in-Plain
+returns-in-Plain c =
+    let old = c.args.store.now in
+    let o = λ (v : World). kill v c.args.set c.args.text.now in
+    let ran = whole old c.begin.new.self c.kill_open-done.new.store c.close.new.self o c.kill_open-done.result c.close.result
+    c.requires.ready c.begin.ensures c.kill_open-done.ensures.step c.kill_open-done.ensures.ok c.close.ensures.same c.close.ensures.ok c.close.ensures.err in
+    subst (λ outcome. Runs old outcome c.close.result c.close.new.self) (sym (plain_is (phase_of (world old) c.args.seat) (o (world old)) (sym c.get.ensures.is ∙ c.in-Plain.is))) ran

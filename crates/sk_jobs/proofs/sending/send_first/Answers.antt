@@ -1,23 +1,18 @@
-use Rattle.std.proofs.Common.{◌≡◌, ◌∙◌, Bool, refl}
-use Rattle.std.specs.Ordering.{is_eq}
-use Rattle.sk_cmd.specs.declared.argument.Scored.TheVariants.{Dead}
+use Rattle.std.proofs.Common.{◌∙◌}
 use Rattle.sk_cmd.specs.declared.argument.Side.TheVariants.{Left}
-use Rattle.sk_places.specs.declared.row.Place.{Place}
 use Rattle.sk_places.specs.declared.row.Place.TheVariants.{Set}
-use Rattle.sk_places.specs.Rows.{place_cmp, rows_at}
+use Rattle.sk_store.specs.Stored.{world}
+use Rattle.sk_jobs.specs.Sending.{set_rows}
 use Rattle.sk_jobs.proofs.Calling.{on_ok}
-use Rattle.sk_jobs.proofs.Fronts.{front_named, front_text, turned}
-use Rattle.sk_jobs.proofs.SentOn.{moved_left}
+use Rattle.sk_jobs.proofs.Fronts.{front_named, front_text}
+use Rattle.sk_jobs.proofs.SentOn.{carried_left}
 use Rattle.sk_jobs.proofs.sending.send_first.Goals as goal
 
 pub returns-in-Some-head-clause-left : goal.returns-in-Some-head-clause-left
-returns-in-Some-head-clause-left c = λ row more e.
-    moved_left (λ p. is_eq (place_cmp (Set c.args.set) p)) row more c.args.stock.now.places.stands c.send_on.new.places.stands c.in_ok-queue-in-Some-head.queue Left refl e (c.in_ok-send_on-in-Some-head.ensures.ok row more e)
+returns-in-Some-head-clause-left c = λ row more front. carried_left c.args.store.now c.send_on.new.store row c.in_ok-queue-in-Some-head.queue Left (c.in_ok-send_on-in-Some-head.ensures.ok row more front)
 
 pub returns-clause-left : goal.returns-clause-left
-returns-clause-left c =
-    let rows = c.args.stock.now.places.stands.rows in
-    let test : Place → Bool = λ p. is_eq (place_cmp (Set c.args.set) p) in
-    on_ok _ _ c.bury.result (λ left. λ row more e.
-    let named = c.in_ok-text-in-None.ensures ∙ c.text.ensures ∙ front_text (Set c.args.set) row more rows _ e c.in-Some.ensures in
-    left test row more (record { queues = λ queue. refl; dead = turned (Set Dead) (Set c.args.set) c.requires.alive }) (front_named c.in_ok-text-in-None.text row more (rows_at (Set c.args.set) rows) e named) e) c.bury.ensures.left
+returns-clause-left c = on_ok _ _ c.bury.result (λ left. λ row more front.
+    let v = world c.args.store.now in
+    let named = c.in_ok-text-in-None.ensures ∙ c.text.ensures ∙ front_text (Set c.args.set) row more v.rows _ front c.in-Some.ensures in
+    left row (front_named c.in_ok-text-in-None.text row more (set_rows c.args.set v) front named)) c.bury.ensures.left

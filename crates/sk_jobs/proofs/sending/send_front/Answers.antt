@@ -1,49 +1,34 @@
-use Rattle.std.proofs.Common.{◌≡◌, ◌≤◌, ◌-◌, ◌+◌, ◌∷◌, ◌∙◌, ℕ, List, [], suc, zero, ap, arith, length, refl, subst, sym, take}
-use Rattle.sk_payload.specs.Head.{head}
-use Rattle.sk_places.specs.Rows.{rows_at}
-use Rattle.sk_places.specs.declared.row.Place.TheVariants.{Set}
+use Rattle.std.proofs.Common.{◌≡◌, ◌≤◌, ◌-◌, ◌∙◌, ℕ, List, [], ◌∷◌, suc, zero, ap, arith, length, refl, take}
 use Rattle.sk_places.specs.declared.row.Row.{Row}
 use Rattle.sk_model.specs.Jobs.{send}
-use Rattle.sk_seats.specs.Phases.{Phases}
-use Rattle.sk_model.specs.World.{World}
-use Rattle.sk_jobs.specs.Calls.{Alike}
-use Rattle.sk_jobs.specs.Stocked.{at}
-use Rattle.sk_jobs.proofs.SentOn.{IsLeft, all_sent, one_sent}
-use Rattle.sk_jobs.proofs.Stocking.{step_again}
+use Rattle.sk_store.proofs.Steps.{joined}
+use Rattle.sk_store.specs.Stored.{world}
+use Rattle.sk_jobs.specs.Sending.{set_rows}
+use Rattle.sk_jobs.proofs.SentOn.{IsOne, all_sent, one_of, row_sent, set_aside}
 use Rattle.sk_jobs.proofs.sending.send_front.Goals as goal
-
--- some are left, so that there is a first one
-first_there : (own : List Row) (k : ℕ) → suc k ≤ length own → (row : Row) × ((more : List Row) × (own ≡ row ∷ more))
-first_there [] k h = absurd (omega (arith, h))
-first_there (row ∷ more) k h = (row, (more, refl))
 
 pub loop-left-preserved : goal.loop-left-preserved
 loop-left-preserved c =
-    let now = c.loop-left.stock in
-    let next = c.send_first.new.stock in
-    let rows = now.places.stands.rows in
-    let all : List Row = take c.args.count (rows_at (Set c.args.set) c.args.stock.now.places.stands.rows) in
+    let set = c.args.set in
+    let old = c.args.store.now in
+    let now = c.loop-left.store in
+    let next = c.send_first.new.store in
+    let rows : List Row = set_rows set (world now) in
     let was = c.loop-left.invariant in
+    let done = c.append.ensures in
     let k = c.loop-left.left - 1 in
     let number : c.loop-left.left ≡ suc k = omega (arith, c.loop-left-test.true) in
-    let enough : suc k ≤ length (rows_at (Set c.args.set) rows) = omega (arith, number, was.enough) in
-    let first = first_there (rows_at (Set c.args.set) rows) k enough in
-    let row = first.0 in
-    let more = first.1.0 in
-    let front = first.1.1 in
-    let behind = c.in_ok-one.ensures.left row more front in
-    let done = c.append.ensures in
+    let enough : suc k ≤ length rows = omega (arith, number, was.enough) in
+    let first : IsOne rows = one_of rows (omega (arith, enough)) in
+    let gone : set_rows set (world next) ≡ first.more = c.in_ok-one.ensures.left first.row first.more first.is _ first.more (set_aside set c.requires.alive) first.is in
+    let front : IsOne (take c.loop-left.left rows) = record { row = first.row; more = take k first.more; is = ap (λ n. take n rows) number ∙ ap (take (suc k)) first.is } in
     record {
-      sent = λ w phases alike.
-          let v = at w c.args.moment now phases in
-          let left = subst (λ n. IsLeft send (at w c.args.moment c.args.stock.now phases) v c.loop-left.report all (take n (rows_at (Set c.args.set) rows))) number (was.sent w phases alike) in
-          let left_front = subst (λ own. IsLeft send (at w c.args.moment c.args.stock.now phases) v c.loop-left.report all (take (suc k) own)) front left in
-          subst (λ own. IsLeft send (at w c.args.moment c.args.stock.now phases) (at w c.args.moment next phases) c.append.new.self all (take k own)) (sym behind)
-          (one_sent send (at w c.args.moment c.args.stock.now phases) v (at w c.args.moment next phases) c.loop-left.report c.in_ok-one.one c.append.new.self all (take k more) row left_front (c.in_ok-one.ensures.ok w phases row more alike front) done.moved done.buried c.in_ok-append.ensures.fired c.in_ok-append.ensures.trimmed);
-      enough = omega (arith, enough, ap length front, ap length behind);
+      sent = row_sent send (take c.args.count (set_rows set (world old))) (take c.loop-left.left rows) (take k (set_rows set (world next))) (world old) (world now) (world next) c.loop-left.report c.in_ok-one.one c.append.new.self
+          front (ap (take k) gone) was.sent (c.in_ok-one.ensures.ok first.row first.more first.is) done.moved done.buried c.in_ok-append.ensures.fired c.in_ok-append.ensures.trimmed;
+      enough = omega (arith, enough, ap length first.is, ap length gone);
       number = omega (arith, was.number, number, c.in_ok-one.ensures.one, done.moved, done.buried);
       covered = c.in_ok-one.ensures.covered;
-      step = step_again was.step c.in_ok-one.ensures.step;
+      step = joined old now next was.step c.in_ok-one.ensures.step;
     }
 
 take_no : (n : ℕ) (rows : List Row) → n ≤ 0 → take n rows ≡ []
@@ -51,8 +36,7 @@ take_no zero rows h = refl
 take_no (suc n) rows h = absurd (omega (arith, h))
 
 pub returns-clause-ok : goal.returns-clause-ok
-returns-clause-ok c = λ w phases alike.
-    let now = c.loop-left.stock in
-    let rows = rows_at (Set c.args.set) now.places.stands.rows in
-    all_sent send (at w c.args.moment c.args.stock.now phases) (at w c.args.moment now phases) _ (take c.args.count (rows_at (Set c.args.set) c.args.stock.now.places.stands.rows)) (take c.loop-left.left rows)
-    (take_no c.loop-left.left rows c.loop-left-test.false) (c.loop-left.invariant.sent w phases alike)
+returns-clause-ok c =
+    let v = world c.args.store.now in
+    let now = world c.loop-left.store in
+    all_sent send v now c.loop-left.report (take c.args.count (set_rows c.args.set v)) (take c.loop-left.left (set_rows c.args.set now)) (take_no c.loop-left.left (set_rows c.args.set now) c.loop-left-test.false) c.loop-left.invariant.sent

@@ -4,4 +4,4 @@ use Rattle.sk_status.specs.Page.{page_text}
 use Rattle.sk_jobs.proofs.status.status_page.Goals as goal
 
 pub returns : goal.returns
-returns c = λ w phases. record { reply_is = ap Bulk (c.new.ensures ∙ c.in_ok-text.ensures ∙ ap page_text (c.in_ok-numbers.ensures w phases)); new_is = refl }
+returns c = (record { reply_is = ap Bulk (c.new.ensures ∙ c.in_ok-text.ensures ∙ ap page_text c.in_ok-numbers.ensures); new_is = refl }, c.requires)

@@ -1,4 +1,4 @@
-use Rattle.std.proofs.Common.{List, ap, filter, subst, sym}
+use Rattle.std.proofs.Common.{List, filter, subst, sym}
 use Rattle.sk_resp.specs.declared.reply.Reply.{Reply}
 use Rattle.sk_zset.specs.Bounds.{is_between}
 use Rattle.sk_value.specs.declared.edit.Edit.TheVariants as edit
@@ -7,14 +7,14 @@ use Rattle.sk_places.specs.declared.row.Row.{Row}
 use Rattle.sk_places.specs.Rows.{pair_of, rows_at}
 use Rattle.sk_model.specs.Outcome.{Comes}
 use Rattle.sk_model.specs.Sets.{edit_jobs}
-use Rattle.sk_keyspace.specs.Whole.{with_places}
+use Rattle.sk_store.specs.Stored.{world}
 use Rattle.sk_keyspace.proofs.Editing.{gone_comes}
 use Rattle.sk_keyspace.proofs.sets.remove_scores.Goals as goal
 
 pub returns-clause-done : goal.returns-clause-done
-returns-clause-done c = λ w.
-    let p = c.args.places.now.stands in
-    let new = c.remove_scores.new.self.stands in
-    let rows : List Row = rows_at (Set c.args.set) p.rows in
-    subst (λ (r : Reply). Comes (with_places w p) (edit_jobs (with_places w p) c.args.set (edit.Zremrangebyscore c.args.least c.args.greatest)) r (with_places w new)) (sym c.counted.ensures)
-    (gone_comes w (filter (λ row. is_between c.args.least c.args.greatest (pair_of row)) rows) c.remove_scores.result p new c.remove_scores.ensures.count (ap (λ s. s.stands) c.remove_scores.ensures.rest))
+returns-clause-done c =
+    let s = c.args.store.now in
+    let new = c.remove_scores.new.self in
+    let rows : List Row = rows_at (Set c.args.set) s.places.stands.rows in
+    subst (λ (r : Reply). Comes (world s) (edit_jobs (world s) c.args.set (edit.Zremrangebyscore c.args.least c.args.greatest)) r (world (record s { places = new }))) (sym c.counted.ensures)
+    (gone_comes s (filter (λ row. is_between c.args.least c.args.greatest (pair_of row)) rows) c.remove_scores.result new c.remove_scores.ensures.count c.remove_scores.ensures.rest)

@@ -1,0 +1,12 @@
+use Rattle.std.proofs.Common.{filter, length}
+use Rattle.sk_store.specs.Stored.{world}
+use Rattle.sk_jobs.specs.Rescuing.{IsPassed}
+use Rattle.sk_jobs.proofs.Passing.{past}
+use Rattle.sk_jobs.proofs.rescues.next_gone.Given as goal
+
+-- the rows behind the identities that were passed
+abbrev pub decreases-loop-ident : goal.decreases-loop-ident
+decreases-loop-ident l = length (filter (past l.after) (world l.store).rows)
+
+abbrev pub invariant-loop-ident : goal.invariant-loop-ident
+invariant-loop-ident l = record { passed : IsPassed l.after (world l.store) }

@@ -1,0 +1,143 @@
+// SK.RESCUE: the jobs of processes that are gone go back to their queues (Sidekiq's wiki, "Reliability").
+ghost use Rattle.std.specs.Prelude.{◌≡◌, ◌∷◌, [], ◌<◌, ◌≤◌, ◌+◌, ◌^◌, false, IfOk, OnOk, length};
+ghost use Rattle.std.specs.Ordering.{is_eq};
+ghost use Rattle.sk_base.specs.Score.{last_moment};
+ghost use Rattle.sk_cmd.specs.declared.argument.Scored.TheVariants.{Dead};
+ghost use Rattle.sk_places.specs.Rows.{place_cmp, rows_at};
+ghost use Rattle.sk_places.specs.declared.row.Place.TheVariants.{Set};
+ghost use Rattle.sk_places.specs.declared.row.Row.{Row};
+ghost use Rattle.sk_model.specs.Jobs.{each};
+ghost use Rattle.sk_model.specs.Outcome.{Comes};
+ghost use Rattle.sk_model.specs.Rescue.{left_rows, rescue, rescue_row};
+ghost use Rattle.sk_store.specs.Stored.{InStep, world};
+ghost use Rattle.sk_jobs.specs.Calls.{AreCovered};
+ghost use Rattle.sk_jobs.specs.Rescuing.{BuriesPoison, IsNext, IsPassed, own_rows};
+ghost use Rattle.sk_jobs.specs.Sending.{IsNamed, Sends, SendsFirst, Takes, TakesFirst};
+
+use crate::calls::member_of;
+use crate::dead::bury;
+use crate::report::Report;
+use crate::sending::send_on;
+use sk_cmd::Side;
+use sk_payload::Payload;
+use sk_places::Place;
+use sk_resp::{Memory, Reply, Word};
+use sk_store::Store;
+
+// How often a job is recovered within 72 hours before it is buried.
+const MOST_RECOVERIES: u64 = 3;
+
+// A job that was recovered too often is buried, and its recoveries are forgotten.
+fn bury_poison(store: &mut Store, list: &Place, payload: &Payload) -> Result<Report, Memory>
+    requires early { store.old.moment ≤ last_moment }
+    requires alive { is_eq (place_cmp (Set Dead) list.now) ≡ false }
+    requires covered { AreCovered store.old }
+    ensures ok { IfOk result (λ report. (row : Row) → IsNamed payload.now list.now store.old row → BuriesPoison store.old row report store.new) }
+    ensures one { IfOk result (λ report. report.moved + report.buried ≡ 1) }
+    ensures left { OnOk result ((row : Row) → IsNamed payload.now list.now store.old row → Takes (row ∷ []) store.old store.new) }
+    ensures covered { OnOk result (AreCovered store.new) }
+    ensures step { InStep store.old store.new }
+{
+    let member = member_of(store.alloc, payload)?;
+    let report = bury(store, list, payload.text(), member)?;
+    if let Some(head) = payload.head() {
+        store.leases.forget(&head.jid)?;
+    }
+    Ok(report)
+}
+
+// The first job of a list goes back to its queue, to be fetched first. At its third recovery, or without a head, it is buried.
+fn rescue_first(store: &mut Store, list: &Place) -> Result<Report, Memory>
+    requires early { store.old.moment ≤ last_moment }
+    requires alive { is_eq (place_cmp (Set Dead) list.now) ≡ false }
+    requires some { 0 < length (rows_at list.now (world store.old).rows) }
+    requires covered { AreCovered store.old }
+    ensures ok { IfOk result (λ report. SendsFirst rescue_row list.now store.old report store.new) }
+    ensures one { IfOk result (λ report. report.moved + report.buried ≡ 1) }
+    ensures left { OnOk result (TakesFirst list.now store.old store.new) }
+    ensures covered { OnOk result (AreCovered store.new) }
+    ensures step { InStep store.old store.new }
+{
+    let Some((_, payload)) = store.places.end(list, Side::Left) else {
+        unreachable!()
+    };
+    let Some(head) = payload.head() else {
+        let text = payload.text().copy()?;
+        return bury(store, list, &text, None);
+    };
+    let recoveries = store.leases.recovered(&head.jid, store.moment)?;
+    if recoveries >= MOST_RECOVERIES {
+        let payload = payload.copy()?;
+        return bury_poison(store, list, &payload);
+    }
+    let queue = head.queue.copy()?;
+    send_on(store, list, queue, Side::Right)?;
+    Ok(Report::one_moved(store.alloc))
+}
+
+// The jobs of a process go back to their queues, one after another.
+fn rescue_list(store: &mut Store, ident: Word) -> Result<Report, Memory>
+    requires early { store.old.moment ≤ last_moment }
+    requires covered { AreCovered store.old }
+    ensures ok { IfOk result (λ report. Sends (λ w. each rescue_row w (own_rows ident w)) store.old report store.new) }
+    ensures few { IfOk result (λ report. report.moved + report.buried ≡ length (own_rows ident (world store.old))) }
+    ensures left { OnOk result (Takes (own_rows ident (world store.old)) store.old store.new) }
+    ensures covered { OnOk result (AreCovered store.new) }
+    ensures step { InStep store.old store.new }
+{
+    let list = Place::Private(ident);
+    let mut report = Report::nothing(store.alloc);
+    let mut left = store.places.len(&list);
+    while left > 0 {
+        let one = rescue_first(store, &list)?;
+        report.append(one)?;
+        left -= 1;
+    }
+    Ok(report)
+}
+
+// The first process without a heartbeat, by its identity, that has a private list with a job. Its identity stands behind `after`, which goes on
+// past the living that stand before it.
+fn next_gone(store: &Store, after: &mut Option<Word>) -> Result<Option<Word>, Memory>
+    requires { IsPassed after.old (world store.now) }
+    ensures next { IfOk result (λ ident. IsNext ident (world store.now)) }
+    ensures passed { OnOk result (IsPassed after.new (world store.now)) }
+{
+    while let Some(ident) = store.places.next_ident(after.as_ref()) {
+        let ident = ident.copy()?;
+        if !store.leases.alive(&ident, store.moment) {
+            return Ok(Some(ident));
+        }
+        *after = Some(ident);
+    }
+    Ok(None)
+}
+
+// The jobs of all processes that are gone go back to their queues.
+fn rescue_all(store: &mut Store) -> Result<Report, Memory>
+    requires early { store.old.moment ≤ last_moment }
+    requires covered { AreCovered store.old }
+    ensures ok { IfOk result (λ report. Sends (λ w. each rescue_row w (left_rows w)) store.old report store.new) }
+    ensures few { IfOk result (λ report. report.moved + report.buried < 2 ^ 63) }
+    ensures step { InStep store.old store.new }
+{
+    let _count = store.places.row_count(); // for what it says of their number
+    let mut report = Report::nothing(store.alloc);
+    let mut after = None;
+    while let Some(ident) = next_gone(store, &mut after)? {
+        let more = rescue_list(store, ident)?;
+        report.append(more)?;
+    }
+    Ok(report)
+}
+
+/// What SK.RESCUE does in its step. After want of memory some of it is done.
+pub fn rescue_open(store: &mut Store) -> Result<Reply, Memory>
+    requires early { store.old.moment ≤ last_moment }
+    requires covered { AreCovered store.old }
+    ensures ok { IfOk result (λ reply. Comes (world store.old) (rescue (world store.old)) reply (world store.new)) }
+    ensures step { InStep store.old store.new }
+{
+    let report = rescue_all(store)?;
+    report.told(store.alloc)
+}

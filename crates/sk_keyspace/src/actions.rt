@@ -1,0 +1,34 @@
+// Every action on keys, handed to what does it.
+ghost use Rattle.sk_model.specs.Step.{act};
+ghost use Rattle.sk_store.specs.Stored.{IsReady, Runs, world};
+
+use crate::deletes::{delete, flush};
+use crate::edits::edit;
+use crate::looks::{exists, look};
+use crate::moves::move_text;
+use crate::plain::{expire, set};
+use sk_resp::{Memory, Reply, Say};
+use sk_store::Store;
+use sk_value::Action;
+
+/// Does what a command does that is no worker's. Where memory runs out nothing has changed.
+pub fn act(store: &mut Store, action: Action) -> Result<Reply, Memory>
+    requires { IsReady store.old }
+    ensures { Runs store.old (act (world store.old) action) result store.new }
+{
+    match action {
+        Action::Ping => Ok(Reply::Say(Say::Pong)),
+        Action::Echo(text) => Ok(Reply::Bulk(text)),
+        Action::Quit => Ok(Reply::Say(Say::Ok)),
+        Action::Look(key, how) => look(store, key, how),
+        Action::Edit(key, how) => edit(store, key, how),
+        Action::Set(key, text, options) => set(store, key, text, options),
+        Action::Expire(key, millis) => expire(store, key, millis),
+        Action::Exists(names) => exists(store, names),
+        Action::Delete(names) => Ok(delete(store, names)),
+        Action::Move(source, destination, from, to) => {
+            move_text(store, source, destination, from, to)
+        }
+        Action::Flush => Ok(flush(store)),
+    }
+}

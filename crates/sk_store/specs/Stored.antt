@@ -1,0 +1,71 @@
+-- What the store keeps, as the abstract store's world, and what a command does to it.
+use Rattle.std.specs.Prelude.{◌≡◌, ◌≤◌, List, Ok, Err, IsSome, None, Result}
+use Rattle.sk_base.specs.Score.{last_moment}
+use Rattle.sk_resp.specs.declared.reply.Reply.{Reply}
+use Rattle.sk_undo.specs.Steps.{begun, committed, undone}
+use Rattle.sk_model.specs.Change.{Change, perform}
+use Rattle.sk_model.specs.Outcome.{Comes, Outcome}
+use Rattle.sk_model.specs.World.{World}
+use Rattle.sk_store.specs.declared.store.Store.{Store}
+
+abbrev pub world : Store → World
+world s = record {
+  limits = s.limits;
+  moment = s.moment;
+  rows = s.places.stands.rows;
+  names = s.places.stands.names;
+  live = s.places.stands.lives.live;
+  tally = s.places.stands.lives.totals;
+  keys = s.keys;
+  phases = s.seats;
+  counters = s.counters.stands;
+  leases = s.leases.stands;
+  batches = s.batches.stands;
+}
+
+-- no step is open, and the moment is one that is told apart
+pub record IsReady (s : Store) : Type 0 where
+  pub places : s.places.stood ≡ None
+  pub leases : s.leases.stood ≡ None
+  pub batches : s.batches.stood ≡ None
+  pub counters : s.counters.stood ≡ None
+  pub early : s.moment ≤ last_moment
+
+-- The command came to this outcome and gave its reply; or memory was wanting, and nothing has changed.
+abbrev pub Runs : {E : Type 0} → Store → Outcome → Result Reply E → Store → Type 0
+Runs old o (Ok reply) new = Comes (world old) o reply (world new) × IsReady new
+Runs old o (Err wanting) new = new ≡ old
+
+-- All of these changes were made; or memory was wanting, and nothing has changed.
+abbrev pub IsAtomic : {A E : Type 0} → Store → List Change → Result A E → Store → Type 0
+IsAtomic old changes (Ok done) new = (world new ≡ perform (world old) changes) × IsReady new
+IsAtomic old changes (Err wanting) new = new ≡ old
+
+-- ## The step
+
+-- a step is open over all of it
+pub record IsOpen (s : Store) : Type 0 where
+  pub places : IsSome s.places.stood
+  pub leases : IsSome s.leases.stood
+  pub batches : IsSome s.batches.stood
+  pub counters : IsSome s.counters.stood
+
+-- The same step is open, and what no step is over stays.
+pub record InStep (old new : Store) : Type 0 where
+  pub places : new.places.stood ≡ old.places.stood
+  pub leases : new.leases.stood ≡ old.leases.stood
+  pub batches : new.batches.stood ≡ old.batches.stood
+  pub counters : new.counters.stood ≡ old.counters.stood
+  pub limits : new.limits ≡ old.limits
+  pub moment : new.moment ≡ old.moment
+  pub seats : new.seats ≡ old.seats
+  pub keys : new.keys ≡ old.keys
+
+abbrev pub begun_in : Store → Store
+begun_in s = record s { places = begun s.places; leases = begun s.leases; batches = begun s.batches; counters = begun s.counters }
+
+abbrev pub committed_in : Store → Store
+committed_in s = record s { places = committed s.places; leases = committed s.leases; batches = committed s.batches; counters = committed s.counters }
+
+abbrev pub undone_in : Store → Store
+undone_in s = record s { places = undone s.places; leases = undone s.leases; batches = undone s.batches; counters = undone s.counters }

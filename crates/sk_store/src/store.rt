@@ -1,0 +1,141 @@
+// All that the store keeps, and the step over what a command changes of it.
+ghost use Rattle.std.specs.Prelude.{◌≡◌, ◌<◌, ◌^◌, List, OnErr, OnOk, length};
+ghost use Rattle.sk_resp.specs.Spelling.{Bytes};
+ghost use Rattle.sk_model.specs.Change.{passed};
+ghost use Rattle.sk_model.specs.Room.{bytes_of, is_full};
+ghost use Rattle.sk_model.specs.World.{first};
+ghost use Rattle.sk_store.specs.Stored.{IsOpen, IsReady, begun_in, committed_in, undone_in, world};
+
+use crate::room::have_no_bytes;
+use sk_batch::Batches;
+use sk_counters::Counters;
+use sk_keys::Keys;
+use sk_leases::Leases;
+use sk_model::Limits;
+use sk_places::Places;
+use sk_resp::Memory;
+use sk_seats::Seats;
+use std::alloc::Global;
+
+// The last millisecond of the year 9998. A greater moment is taken for it.
+const LAST_MOMENT: u64 = 253_370_764_799_999;
+
+// The most pushes that a store takes, from its first moment on.
+const MOST_PUSHES: u64 = 1 << 62;
+
+/// All that the store keeps. A step is open over the places, the leases, the batches and the counters together, or over none of them.
+#[derive(Drop)]
+pub struct Store {
+    /// Where all of it comes from.
+    pub alloc: Global,
+    /// How much the store takes.
+    pub limits: Limits,
+    /// The greatest moment that it was handed, in milliseconds since 1970.
+    pub moment: u64,
+    /// The rows of queues, private lists and sets of jobs, and which jobs are live.
+    pub places: Places,
+    /// The heartbeats of processes, and the recoveries of jobs.
+    pub leases: Leases,
+    /// The batches, and what came of their members.
+    pub batches: Batches,
+    /// How many jobs ran, and how many runs failed.
+    pub counters: Counters,
+    /// What the seats are doing.
+    pub seats: Seats,
+    /// The plain keys.
+    pub keys: Keys,
+}
+
+impl Store {
+    /// Nothing, with these limits, at moment 0. Takes no memory.
+    pub fn new(alloc: Global, limits: Limits) -> Store
+        ensures world { world result ≡ first limits }
+        ensures ready { IsReady result }
+    {
+        Store {
+            alloc,
+            limits,
+            moment: 0,
+            places: Places::new(alloc),
+            leases: Leases::new(alloc),
+            batches: Batches::new(alloc, limits.batches),
+            counters: Counters::new(alloc),
+            seats: Seats::new(alloc),
+            keys: Keys::new(alloc),
+        }
+    }
+
+    /// The store is handed a moment, in milliseconds since 1970. The greatest counts, and what is over then goes. Takes no memory.
+    pub fn pass(&mut self, now: u64)
+        requires { IsReady self.old }
+        ensures world { world self.new ≡ passed now (world self.old) }
+        ensures ready { IsReady self.new }
+    {
+        self.moment = self.moment.max(now.min(LAST_MOMENT));
+        self.keys.purge(self.moment);
+        self.leases.purge(self.moment);
+    }
+
+    /// With so many texts of so many bytes, all counted as new, there would be more than the store takes. Takes no memory.
+    #[tactic(auto, using(crate::proofs::Bytes::bytes_are))]
+    pub fn is_full(&self, count: usize, bytes: u128) -> bool
+        requires { count < 2 ^ 63 }
+        ensures { (texts : List Bytes) → count ≡ length texts → bytes ≡ bytes_of texts → result ≡ is_full (world self.now) texts }
+    {
+        self.places.row_count() as u64 + count as u64 > self.limits.rows
+            || have_no_bytes(self.limits.bytes, self.places.byte_count(), bytes)
+            || self.places.push_count() + count as u64 > MOST_PUSHES
+    }
+
+    /// Opens a step. Takes no memory.
+    pub fn begin(&mut self)
+        requires { IsReady self.old }
+        ensures { self.new ≡ begun_in self.old }
+    {
+        self.places.begin();
+        self.leases.begin();
+        self.batches.begin();
+        self.counters.begin();
+    }
+
+    // What stood at the begin of the step stands again.
+    fn undo(&mut self)
+        requires { IsOpen self.old }
+        ensures { self.new ≡ undone_in self.old }
+    {
+        self.places.undo();
+        self.leases.undo();
+        self.batches.undo();
+        self.counters.undo();
+    }
+
+    // What stands now stays.
+    fn commit(&mut self)
+        requires { IsOpen self.old }
+        ensures { self.new ≡ committed_in self.old }
+    {
+        self.places.commit();
+        self.leases.commit();
+        self.batches.commit();
+        self.counters.commit();
+    }
+
+    /// Closes the step: what was done stays, and where memory ran out it leaves no trace. Takes no memory.
+    pub fn close<T: Drop>(&mut self, done: Result<T, Memory>) -> Result<T, Memory>
+        requires { IsOpen self.old }
+        ensures same { result ≡ done }
+        ensures ok { OnOk result (self.new ≡ committed_in self.old) }
+        ensures err { OnErr result (self.new ≡ undone_in self.old) }
+    {
+        match done {
+            Ok(value) => {
+                self.commit();
+                Ok(value)
+            }
+            Err(_) => {
+                self.undo();
+                Err(Memory)
+            }
+        }
+    }
+}
