@@ -37,12 +37,7 @@ impl<L: Ledger, B: Book> Model for State<L, B> {
 impl<L: Ledger, B: Book> State<L, B> {
     // An empty store with these limits.
     #[tactic(auto, using(crate::proofs::Journals::consistent_first))]
-    pub(crate) fn new(
-        alloc: Global,
-        limits: Limits,
-        book: B,
-        total: ledger::Book<L>,
-    ) -> State<L, B>
+    pub(crate) fn new(alloc: Global, limits: Limits, book: B, total: ledger::Book<L>) -> State<L, B>
         requires book { IfSome (B.log book) (λ log. log ≡ empty) }
         requires total { total.total ≡ 0 }
         ensures { result ≡ record { world = first limits; log = B.log book; total = 0 } }

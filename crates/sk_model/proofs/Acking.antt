@@ -20,6 +20,9 @@ use Rattle.sk_payload.specs.Head.{head, jid_of}
 use Rattle.sk_payload.specs.Member.{is_name}
 use Rattle.sk_payload.specs.declared.head.Head.{Head}
 use Rattle.sk_zset.specs.Pair.{Pair}
+use Rattle.sk_zset.specs.Bounds.{is_between}
+use Rattle.sk_resp.specs.WordOrder.{is_member}
+use Rattle.sk_value.specs.Lists.{range_of}
 use Rattle.sk_value.specs.Action.{action_of}
 use Rattle.sk_value.specs.declared.action.Action.{Action}
 use Rattle.sk_value.specs.declared.action.Action.TheVariants as action
@@ -31,6 +34,7 @@ use Rattle.sk_key.specs.Class.{class_of, queue_of, is_plain, is_queue}
 use Rattle.sk_batch.specs.Faults.{bid_fault, batch_fault, jids_fault, breaks, is_full}
 use Rattle.sk_batch.specs.Events.{made_fires}
 use Rattle.sk_batch.specs.Stat.{stat}
+use Rattle.sk_batch.specs.Told.{fires_of}
 use Rattle.sk_batch.specs.declared.batch.Batch.{Batch}
 use Rattle.sk_batch.specs.declared.batch_fault.BatchFault.{BatchFault}
 use Rattle.sk_batch.specs.declared.batch_fault.BatchFault.TheVariants.{Full}
@@ -41,7 +45,7 @@ use Rattle.sk_counters.specs.Counters.{failed, processed}
 use Rattle.sk_batch.specs.declared.firing.Firing.{Firing}
 use Rattle.sk_places.specs.Lives.{is_among, one_if}
 use Rattle.sk_places.specs.Totals.{count_end, count_push}
-use Rattle.sk_places.specs.Rows.{copies_of, end_taken, first_row, insert_after, is_at, is_same, number_taken, put_row, row_at, row_of, rows_at, take_row, without_first}
+use Rattle.sk_places.specs.Rows.{copies_of, end_taken, first_row, insert_after, is_at, is_same, number_taken, pair_of, put_row, row_at, row_of, rows_at, take_row, without_first}
 use Rattle.sk_places.specs.declared.ending.Ending.{Ending}
 use Rattle.sk_places.specs.declared.ending.Ending.TheVariants.{Returned, Discarded, Deleted, Trimmed, Muddled}
 use Rattle.sk_places.specs.declared.origin.Origin.{Origin}
@@ -66,13 +70,13 @@ use Rattle.sk_model.specs.Outcome.{Outcome}
 use Rattle.sk_model.specs.Room.{is_full as is_store_full, is_too_much}
 use Rattle.sk_model.specs.Queues.{pushes, takes, move_row, add_names, length_at}
 use Rattle.sk_model.specs.Deletes.{take_all, delete_as, delete_each, delete, flush, may_go}
-use Rattle.sk_model.specs.Sets.{add_as, add_each, add_one, edit_jobs, put_as}
+use Rattle.sk_model.specs.Sets.{add_as, add_each, add_one, edit_jobs, put_as, put_back}
 use Rattle.sk_model.specs.Seats.{fetched_from, is_for_all, is_workers, only, released_by, where_plain, where_some, works_on}
 use Rattle.sk_model.specs.Told.{call, fire_all, push_job, push_to, tell, tell_in, tell_of}
 use Rattle.sk_model.specs.Jobs.{Sent, bury, buried_by, due_rows, each, kill_row, merge, moment_score, put_dead, revive_as, revive_row, send, surplus, to_queue}
 use Rattle.sk_model.specs.Rescue.{bury_poison, is_poison, left_rows, recover, rescue_row}
 use Rattle.sk_model.specs.Batches.{all_may_join, are_callbacks, batch_add, batch_of, batch_push, jids_of, make, may_join, push_jobs, tells_stat, unless}
-use Rattle.sk_model.specs.Workers.{back, beat, bury as bury_held, fail, fetch, fetch_row, give, give_row, join, listed, ok, release_of, retry, work, work_as, work_edit}
+use Rattle.sk_model.specs.Workers.{back, beat, bury_text, fail, fetch, fetch_row, give, give_row, join, listed, ok, release_of, retry, work, work_as, work_edit}
 use Rattle.sk_model.specs.Step.{Steps, act, by_seat, edit_names, edit_queue, edits, is_script_built, moves, on_plain, outcome, run, starves}
 use Rattle.sk_model.specs.Acked.{Acks, AcksScript, RepliesAcknowledge, acked_by, acked_by_edit, number_in, where_array, where_number}
 use Rattle.sk_model.specs.Run.{is_ok}
@@ -244,24 +248,28 @@ zadd_counted w Dead pairs = refl
 
 -- ## What clients do to keys
 
+abbrev is_zadd : Edit → Bool
+is_zadd (edit.Zadd pairs) = true
+is_zadd other = false
+
+-- of what is written on a set of jobs, ZADD alone is acknowledged
+jobs_ack_none : (set : Scored) (e : Edit) (answer : Reply) → is_zadd e ≡ false → acked_by_edit (class.Jobs set) e answer ≡ 0
+jobs_ack_none set (edit.Zadd pairs) answer none = absurd (cc none)
+jobs_ack_none Schedule other answer none = refl
+jobs_ack_none Retry other answer none = refl
+jobs_ack_none Dead other answer none = refl
+
 edit_jobs_counted : (w : World) (set : Scored) (e : Edit) → Counted (acked_by_edit (class.Jobs set) e) (edit_jobs w set e)
 edit_jobs_counted w set (edit.Zadd pairs) = zadd_counted w set pairs
-edit_jobs_counted w Schedule (edit.Zrem members) = take_all_none _
-edit_jobs_counted w Retry (edit.Zrem members) = take_all_none _
-edit_jobs_counted w Dead (edit.Zrem members) = take_all_none _
-edit_jobs_counted w Schedule (edit.Zremrangebyrank first last) = take_all_none _
-edit_jobs_counted w Retry (edit.Zremrangebyrank first last) = take_all_none _
-edit_jobs_counted w Dead (edit.Zremrangebyrank first last) = take_all_none _
-edit_jobs_counted w Schedule (edit.Zremrangebyscore least greatest) = take_all_none _
-edit_jobs_counted w Retry (edit.Zremrangebyscore least greatest) = take_all_none _
-edit_jobs_counted w Dead (edit.Zremrangebyscore least greatest) = take_all_none _
-edit_jobs_counted w Schedule other = refl
-edit_jobs_counted w Retry other = refl
-edit_jobs_counted w Dead other = refl
+edit_jobs_counted w set (edit.Zrem members) = take_all_none (filter (λ row. is_member row.text members) (rows_at (Set set) w.rows)) ∙ sym (jobs_ack_none set (edit.Zrem members) _ refl)
+edit_jobs_counted w set (edit.Zremrangebyrank first last) = take_all_none (range_of first last (rows_at (Set set) w.rows)) ∙ sym (jobs_ack_none set (edit.Zremrangebyrank first last) _ refl)
+edit_jobs_counted w set (edit.Zremrangebyscore least greatest) =
+    take_all_none (filter (λ row. is_between least greatest (pair_of row)) (rows_at (Set set) w.rows)) ∙ sym (jobs_ack_none set (edit.Zremrangebyscore least greatest) _ refl)
+edit_jobs_counted w set other = sym (jobs_ack_none set other _ refl)
 
 edit_queue_counted : (w : World) (queue : Bytes) (e : Edit) → Counted (acked_by_edit class.Queue e) (edit_queue w queue e)
 edit_queue_counted w queue (edit.Push side texts) = either (Counted (λ answer. where_number answer (length texts))) (is_store_full w texts) _ _ (λ y. refl) (λ n. pushes_counted side (Queue queue) texts)
-edit_queue_counted w queue (edit.Lrem count text) = takes_none _ (row_at (Queue queue) text) (end_taken count)
+edit_queue_counted w queue (edit.Lrem count text) = let row : Row = row_at (Queue queue) text in takes_none (number_taken count (copies_of row w.rows)) row (end_taken count)
 edit_queue_counted w queue other = refl
 
 edit_names_quiet : (w : World) (e : Edit) → Quiet (edit_names w e)
@@ -322,7 +330,7 @@ fire_all_none (f ∷ firings) = none_pushed (call f.payload) (fire_all firings) 
 
 tell_in_none : (event : Told) (w : World) (jid : Bytes) (bid : Option Bytes) → pushed_in (tell_in event w jid bid).changes ≡ 0
 tell_in_none event w jid None = refl
-tell_in_none event w jid (Some bid) = fire_all_none _
+tell_in_none event w jid (Some bid) = fire_all_none (fires_of event bid jid w.batches)
 
 tell_of_none : (event : Told) (w : World) (found : Option Head) → pushed_in (tell_of event w found).changes ≡ 0
 tell_of_none event w None = refl
@@ -339,8 +347,9 @@ merge_none (Some other) row w = refl
 
 buried_by_none : (w : World) (text : Bytes) (put : List Change) → pushed_in put ≡ 0 → pushed_in (buried_by w text put).changes ≡ 0
 buried_by_none w text put none =
-    let trims : List Change = map (λ row. Moves (Trim row)) (surplus (perform w put) (rows_at (Set Dead) (perform w put).rows)) in
-    none_pushed (put ++ trims) _ (none_pushed put trims none (trims_none _)) (tell_of_none _ _ (head text))
+    let gone : List Row = surplus (perform w put) (rows_at (Set Dead) (perform w put).rows) in
+    let trims : List Change = map (λ row. Moves (Trim row)) gone in
+    none_pushed (put ++ trims) _ (none_pushed put trims none (trims_none gone)) (tell_of_none event.Died (perform w (put ++ trims)) (head text))
 
 bury_none : (w : World) (row : Row) → pushed_in (bury w row).changes ≡ 0
 bury_none w row = buried_by_none w row.text (put_dead w row) (merge_none _ row w)
@@ -391,7 +400,7 @@ put_none set pair (Some row) seat phase = refl
 
 retry_quiet : (w : World) (seat : ℕ) (phase : Phase) (pair : Option Pair) → Quiet (retry w seat phase pair)
 retry_quiet w seat phase None = refl
-retry_quiet w seat phase (Some pair) = either Quiet (list_any (is_retried_as pair.1) (works_of phase)) _ _ (λ y. put_none Retry pair _ seat _) (λ n. refl)
+retry_quiet w seat phase (Some pair) = either Quiet (list_any (is_retried_as pair.1) (works_of phase)) _ _ (λ y. put_none Retry pair _ seat (staging (is_retried_as pair.1) Put phase)) (λ n. refl)
 
 release_quiet : (w : World) (seat : ℕ) (phase : Phase) (ident : Bytes) (text : Option Bytes) → Quiet (release_of w seat phase ident text)
 release_quiet w seat phase ident None = refl
@@ -440,6 +449,11 @@ give_row_quiet seat phase h (Some row) = refl
 give_quiet : (w : World) (seat : ℕ) (phase : Phase) (ident text : Bytes) (found : Option Head) → Quiet (give w seat phase ident text found)
 give_quiet w seat phase ident text None = refl
 give_quiet w seat phase ident text (Some h) = give_row_quiet seat _ h (listed w ident text)
+
+bury_text_none : (w : World) (seat : ℕ) (phase : Phase) (text : Bytes) → pushed_in (bury_text w seat phase text).changes ≡ 0
+bury_text_none w seat phase text =
+    let after : Phase = staging (is_buried_as text) Put phase in
+    buried_by_none w text (put_back w Dead (moment_score w, text) ∷ Turns seat after ∷ []) (put_none Dead (moment_score w, text) (row_of text (rows_at (Set Dead) w.rows)) seat after)
 
 -- ## Batches
 
@@ -509,7 +523,7 @@ run_acked w seat phase (script.Start text) = in_some Quiet phase (is_held_as tex
 run_acked w seat phase (script.Ok text) = in_some Quiet phase (is_held_as text) _ (λ s. refl) (λ ident. and_tell_none event.Returned w text (Turns seat (staging (is_held_as text) (Settled end.Returned) phase) ∷ Counts processed ∷ []) refl)
 run_acked w seat phase (script.Fail text) = in_some Quiet phase (is_held_as text) _ (λ s. refl) (λ ident. and_tell_none event.Reported w text (Counts processed ∷ Counts failed ∷ []) refl)
 run_acked w seat phase (script.Drop text) = in_some Quiet phase (is_held_as text) _ (λ s. refl) (λ ident. refl)
-run_acked w seat phase (script.Bury text) = in_some Quiet phase (is_buried_as text) _ (λ s. refl) (λ ident. buried_by_none w text _ (put_none Dead _ _ seat _))
+run_acked w seat phase (script.Bury text) = in_some Quiet phase (is_buried_as text) _ (λ s. refl) (λ ident. bury_text_none w seat phase text)
 run_acked w seat phase (script.Back text) = in_some Quiet phase (is_held_as text) _ (λ s. refl) (λ ident. give_quiet w seat phase ident text (head text))
 run_acked w seat phase (script.Due set limit) = in_plain Quiet phase _ (λ s. refl) (each_none send send_none w (due_rows w set (nat_abs limit)))
 run_acked w seat phase (script.Revive set text) = in_plain Quiet phase _ (λ s. refl) (revive_row_quiet (row_of text (rows_at (Set set) w.rows)))

@@ -2,8 +2,8 @@
 ghost use Rattle.std.specs.Prelude.{◌≡◌, ◌^◌};
 
 use sk_cmd::read_command;
-use sk_desk::{Deed, Desk, Entry, FullBook, Hub, MemDesk, Pass};
 use sk_core::Core;
+use sk_desk::{Deed, Desk, Entry, FullBook, Hub, MemDesk, Pass};
 use sk_model::Limits;
 use sk_resp::{Reply, Word, Words};
 use std::alloc::Global;
@@ -121,7 +121,11 @@ fn is_cut(entry: &Entry) -> bool {
 #[test]
 fn a_job_goes_from_desk_to_desk(rt: HostRuntime) -> Result<(), Fail> {
     let blank = Blank::new(1 << 34);
-    let (fetched, acknowledged, entries, cuts) = push_and_fetch::<_, Brand>(&rt, rt.alloc(), blank)?;
+    let (fetched, acknowledged, entries, cuts) = push_and_fetch::<_, Brand>(
+        &rt,
+        rt.alloc(),
+        blank,
+    )?;
     assert!(rt; matches!(fetched, Reply::Bulk(text) if text.bytes() == JOB.as_bytes()));
     assert_eq!(rt; (acknowledged, entries, cuts), (1, 6, 2));
     Ok(())
