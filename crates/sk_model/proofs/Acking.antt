@@ -1,6 +1,6 @@
 -- The rows that a step pushes from outside are those that its reply acknowledges.
-use Rattle.std.proofs.Common.{◌≡◌, ◌≤◌, ◌+◌, ◌-◌, ◌∙◌, ℕ, zero, suc, List, [], ◌∷◌, ◌++◌, refl, sym, ap, subst, inl, inr, arith, Bool, true, false, cond, not, ◌||◌, ◌&&◌, length, map}
-use Rattle.std.specs.Prelude.{ℤ, pos, nat_abs, nat_lt, filter, Option, Some, None, Ok, Err}
+use Rattle.std.proofs.Common.{◌≡◌, ◌+◌, ◌∙◌, ℕ, zero, suc, List, [], ◌∷◌, ◌++◌, refl, sym, ap, subst, inl, inr, arith, Bool, true, false, cond, not, ◌||◌, ◌&&◌, length, map}
+use Rattle.std.specs.Prelude.{nat_abs, nat_lt, filter, Option, Some, None}
 use Rattle.std.specs.List.{list_all, list_any}
 use Rattle.sk_resp.specs.Spelling.{Bytes}
 use Rattle.sk_resp.specs.declared.reply.Reply.{Reply}
@@ -43,9 +43,9 @@ use Rattle.sk_batch.specs.declared.event.Event.{Event as Told}
 use Rattle.sk_batch.specs.declared.event.Event.TheVariants as event
 use Rattle.sk_counters.specs.Counters.{failed, processed}
 use Rattle.sk_batch.specs.declared.firing.Firing.{Firing}
-use Rattle.sk_places.specs.Lives.{is_among, one_if}
+use Rattle.sk_places.specs.Lives.{one_if}
 use Rattle.sk_places.specs.Totals.{count_end, count_push}
-use Rattle.sk_places.specs.Rows.{copies_of, end_taken, first_row, insert_after, is_at, is_same, number_taken, pair_of, put_row, row_at, row_of, rows_at, take_row, without_first}
+use Rattle.sk_places.specs.Rows.{copies_of, end_taken, first_row, insert_after, is_at, is_same, number_taken, pair_of, row_at, row_of, rows_at, without_first}
 use Rattle.sk_places.specs.declared.ending.Ending.{Ending}
 use Rattle.sk_places.specs.declared.ending.Ending.TheVariants.{Returned, Discarded, Deleted, Trimmed, Muddled}
 use Rattle.sk_places.specs.declared.origin.Origin.{Origin}
@@ -65,19 +65,19 @@ use Rattle.sk_seats.specs.declared.work.Work.{Work}
 use Rattle.sk_leases.specs.Leased.{is_alive}
 use Rattle.sk_model.specs.World.{World, phase_of}
 use Rattle.sk_model.specs.Live.{count_job, fresh, with_end}
-use Rattle.sk_model.specs.Change.{Add, Carry, Take, Trim, Merge, PutBack, Free, Fire, Change, Moves, Passes, Names, Unnames, Keeps, Turns, Beats, Counts, Recovers, Forgets, Makes, Joins, Tells, ending_of, changed, freed, freed_at, freed_work, perform}
+use Rattle.sk_model.specs.Change.{Add, Carry, Take, Trim, Free, Change, Moves, Passes, Names, Unnames, Turns, Counts, Recovers, ending_of, changed, freed, freed_at, freed_work, perform}
 use Rattle.sk_model.specs.Outcome.{Outcome}
 use Rattle.sk_model.specs.Room.{is_full as is_store_full, is_too_much}
-use Rattle.sk_model.specs.Queues.{pushes, takes, move_row, add_names, length_at}
-use Rattle.sk_model.specs.Deletes.{take_all, delete_as, delete_each, delete, flush, may_go}
+use Rattle.sk_model.specs.Queues.{pushes, takes, move_row, length_at}
+use Rattle.sk_model.specs.Deletes.{take_all, delete_as, delete_each, may_go}
 use Rattle.sk_model.specs.Sets.{add_as, add_each, add_one, edit_jobs, put_as, put_back}
 use Rattle.sk_model.specs.Seats.{fetched_from, is_for_all, is_workers, only, released_by, where_plain, where_some, works_on}
 use Rattle.sk_model.specs.Told.{call, fire_all, push_job, push_to, tell, tell_in, tell_of}
-use Rattle.sk_model.specs.Jobs.{Sent, bury, buried_by, due_rows, each, kill_row, merge, moment_score, put_dead, revive_as, revive_row, send, surplus, to_queue}
-use Rattle.sk_model.specs.Rescue.{bury_poison, is_poison, left_rows, recover, rescue_row}
+use Rattle.sk_model.specs.Jobs.{Sent, bury, buried_by, due_rows, each, kill_row, merge, moment_score, put_dead, revive_as, revive_row, send, surplus}
+use Rattle.sk_model.specs.Rescue.{bury_poison, is_poison, left_rows, rescue_row}
 use Rattle.sk_model.specs.Batches.{all_may_join, are_callbacks, batch_add, batch_of, batch_push, jids_of, make, may_join, push_jobs, tells_stat, unless}
-use Rattle.sk_model.specs.Workers.{back, beat, bury_text, fail, fetch, fetch_row, give, give_row, join, listed, ok, release_of, retry, work, work_as, work_edit}
-use Rattle.sk_model.specs.Step.{Steps, act, by_seat, edit_names, edit_queue, edits, is_script_built, moves, on_plain, outcome, run, starves}
+use Rattle.sk_model.specs.Workers.{bury_text, fetch, fetch_row, give, give_row, listed, release_of, retry, work, work_as, work_edit}
+use Rattle.sk_model.specs.Step.{Steps, act, by_seat, edit_names, edit_queue, edits, is_script_built, moves, on_plain, outcome, run}
 use Rattle.sk_model.specs.Acked.{Acks, AcksScript, RepliesAcknowledge, acked_by, acked_by_edit, number_in, where_array, where_number}
 use Rattle.sk_model.specs.Run.{is_ok}
 use Rattle.sk_model.proofs.Sending.{all_filter, all_own, row_there}
