@@ -14,14 +14,14 @@ use Rattle.sk_model.specs.Reading.{Words}
 use Rattle.sk_model.specs.Step.{Steps, cut}
 use Rattle.sk_model.specs.World.{World, first}
 use Rattle.sk_model.specs.declared.limits.Limits.{Limits}
-use Rattle.sk_model.proofs.Acking.{acked}
+use Rattle.sk_model.proofs.Acking.{acked, starved_acks_none}
 use Rattle.sk_model.proofs.Reliable.{reliable}
 use Rattle.sk_model.proofs.Running.{leads_on}
 use Rattle.sk_model.proofs.Starving.{limits_kept}
 use Rattle.sk_desk.specs.declared.entry.Entry.{Entry}
 use Rattle.sk_desk.specs.Journal.{IsJournal, KeepsReply, Records, RecordsAll, event_of}
 use Rattle.sk_desk.specs.Log.{IsClosed, IsOpen, IsText, Log, Notes, Prepares, Writes, ask_entry, cut_entry, empty, with_entry, with_note, with_waiting}
-use Rattle.sk_desk.specs.State.{Asked, IsConsistent, IsLogged, Quits, StateView}
+use Rattle.sk_desk.specs.State.{Asked, Asks, IsConsistent, IsLogged, Quits, StateView}
 
 -- ## What a book logs
 
@@ -95,27 +95,52 @@ consistent_first log limits total zero_ none = record { counted = zero_; logged 
 
 -- ## A command
 
--- what the steps of a command come to, where the tally grew by so many
-pub asks : (old new : StateView) (mid : Option Log) (seat now : ℕ) (words : Words) (c : Command) (answer : Reply) (mine mine' added : ℕ) → IsConsistent old → (o : Outcome) × Steps old.world seat now c o × Comes old.world o answer new.world
-    → Prepares seat now words old.log mid → Notes answer mid new.log → added ≡ new.world.tally.outside - old.world.tally.outside → new.total ≡ old.total + added → mine' ≡ mine + added → Asked old new seat now words c answer mine mine'
-asks old new mid seat now words c answer mine mine' added consistent (o, steps, comes) prepares (text, is_text, notes) is total amount =
-    let counts : Acknowledges c o.reply old.world.tally.outside (perform old.world o.changes).tally.outside = acked old.world seat now c o steps in
-    let outside : new.world.tally.outside ≡ (perform old.world o.changes).tally.outside = ap (λ (w : World). w.tally.outside) comes.new_is in
-    let same : added ≡ counts.added = omega (arith, is, outside, counts.after_is) in
+-- what a command comes to
+abbrev pub Stepped : World → ℕ → ℕ → Command → Reply → World → Type 0
+Stepped old seat now c answer new = (o : Outcome) × Steps old seat now c o × Comes old o answer new
+
+-- its reply acknowledges the rows that the tally grew by
+acknowledged : (old new : World) (seat now : ℕ) (c : Command) (answer : Reply) → Stepped old seat now c answer new → Acknowledges c answer old.tally.outside new.tally.outside
+acknowledged old new seat now c answer (o, steps, comes) =
+    let counts : Acknowledges c o.reply old.tally.outside (perform old o.changes).tally.outside = acked old seat now c o steps in
     record {
-      outcome = o;
-      steps = steps;
-      comes = comes;
-      acked = record { added = added; acks = subst (λ n. Acks c answer n) (sym same) (subst (λ r. Acks c r counts.added) (sym comes.reply_is) counts.acks); after_is = amount };
+      added = counts.added;
+      acks = subst (λ r. Acks c r counts.added) (sym comes.reply_is) counts.acks;
+      after_is = ap (λ (w : World). w.tally.outside) comes.new_is ∙ counts.after_is;
+    }
+
+-- which never falls
+pub grew : (old new : World) (seat now : ℕ) (c : Command) (answer : Reply) → Stepped old seat now c answer new → old.tally.outside ≤ new.tally.outside
+grew old new seat now c answer step = omega (arith, (acknowledged old new seat now c answer step).after_is)
+
+-- so does a desk's count, that of the rows which were pushed since some moment
+pub desk_acknowledged : (old new : World) (seat now : ℕ) (c : Command) (answer : Reply) (before : ℕ) → before ≤ old.tally.outside → Stepped old seat now c answer new → Acknowledges c answer (old.tally.outside - before) (new.tally.outside - before)
+desk_acknowledged old new seat now c answer before early step =
+    let counts : Acknowledges c answer old.tally.outside new.tally.outside = acknowledged old new seat now c answer step in
+    record { added = counts.added; acks = counts.acks; after_is = omega (arith, early, counts.after_is) }
+
+-- what `State::ask` comes to, where the tally grew by so many
+pub asks : (old new : StateView) (mid : Option Log) (seat now : ℕ) (words : Words) (c : Command) (answer : Reply) (mine mine' added : ℕ) → IsConsistent old → Stepped old.world seat now c answer new.world
+    → Prepares seat now words old.log mid → Notes answer mid new.log → added ≡ new.world.tally.outside - old.world.tally.outside → new.total ≡ old.total + added → mine' ≡ mine + added → Asked old new seat now words c answer mine mine'
+asks old new mid seat now words c answer mine mine' added consistent step prepares (text, is_text, notes) is total amount =
+    let counts : Acknowledges c answer old.world.tally.outside new.world.tally.outside = acknowledged old.world new.world seat now c answer step in
+    let same : counts.added ≡ added = omega (arith, is, counts.after_is) in
+    record {
+      outcome = step.0;
+      steps = step.1;
+      comes = step.2;
+      acked = record { added = added; acks = subst (λ n. Acks c answer n) same counts.acks; after_is = amount };
       total_is = total;
       text = text;
       is_text = is_text;
       entered = noted_after old.log mid new.log seat now words text (logged_closed old.log old.world consistent.logged) prepares notes;
     }
 
--- The tally never falls.
-pub more : (old new : World) (seat now : ℕ) (c : Command) (answer : Reply) → (o : Outcome) × Steps old seat now c o × Comes old o answer new → old.tally.outside ≤ new.tally.outside
-more old new seat now c answer (o, steps, comes) = omega (arith, (acked old seat now c o steps).after_is, ap (λ (w : World). w.tally.outside) comes.new_is)
+-- either way the share grew by what the reply acknowledges
+pub ask_acknowledged : (old new : StateView) (seat now : ℕ) (words : Words) (c : Command) (answer : Reply) (mine mine' : ℕ) → Asks old new seat now words c answer mine mine' → Acknowledges c answer mine mine'
+ask_acknowledged old new seat now words c answer mine mine' (inl asked) = asked.acked
+ask_acknowledged old new seat now words c answer mine mine' (inr unasked) =
+    record { added = 0; acks = subst (λ r. Acks c r 0) (sym unasked.says) (starved_acks_none c); after_is = omega (arith, unasked.mine_same) }
 
 -- what a command leaves is consistent again
 pub asked_consistent : (old new : StateView) (seat now : ℕ) (words : Words) (c : Command) (answer : Reply) (mine mine' : ℕ) → IsConsistent old → IsRead words (Ok c) → Asked old new seat now words c answer mine mine' → new.total ≡ new.world.tally.outside → IsConsistent new

@@ -1,5 +1,5 @@
 // A book that keeps every entry. An entry is made in a list of its own, whose node is then put behind the others: that takes no memory.
-ghost use Rattle.std.specs.Prelude.{◌≡◌, ◌≤◌, ◌^◌, length, MatchOption, Some};
+ghost use Rattle.std.specs.Prelude.{◌≡◌, ◌≤◌, ◌^◌, [], ◌∷◌, length, MatchOption, Some};
 ghost use Rattle.sk_desk.specs.Log.{IsText, cut_entry, empty, noted};
 
 use crate::{Ask, Book, Deed, Entry};

@@ -549,6 +549,10 @@ module _ (s : Say) (refused : is_ok (reply.Say s) ≡ false) where
   acks_none (command.Plain c) = sym (say_acks_none (action_of c) s)
   acks_none (command.Script c) = script_acks_none c
 
+-- nor does want of memory
+pub starved_acks_none : (c : Command) → Acks c (reply.Say say.Oom) 0
+starved_acks_none c = acks_none say.Oom refl c
+
 outcome_acked : (w : World) (seat now : ℕ) (c : Command) → Acks c (outcome w seat now c).reply (pushed_in (outcome w seat now c).changes)
 outcome_acked w seat now (command.Plain c) = by_seat_counted (changed w (Passes now)) seat (phase_of w seat) c
 outcome_acked w seat now (command.Script c) = either (IsAcked c) (is_script_built c) _ _ (λ y. run_acked (changed w (Passes now)) seat (phase_of w seat) c) (λ n. script_acks_none say.NotBuilt refl c)
@@ -558,4 +562,4 @@ pub acked : RepliesAcknowledge
 acked w seat now c o steps = record { added = pushed_in o.changes; acks = by_step steps; after_is = outside_counts w o.changes } where
   by_step : Steps w seat now c o → Acks c o.reply (pushed_in o.changes)
   by_step (inl e) = subst (λ (u : Outcome). Acks c u.reply (pushed_in u.changes)) (sym e) (outcome_acked w seat now c)
-  by_step (inr (may, e)) = subst (λ (u : Outcome). Acks c u.reply (pushed_in u.changes)) (sym e) (acks_none say.Oom refl c)
+  by_step (inr (may, e)) = subst (λ (u : Outcome). Acks c u.reply (pushed_in u.changes)) (sym e) (starved_acks_none c)
