@@ -20,6 +20,7 @@ pub mod Step
 pub mod Reading
 pub mod Event
 pub mod Run
+pub mod Acked
 pub mod Life
 pub mod Laws
 pub mod Once
