@@ -71,7 +71,7 @@ impl Core {
     pub fn sound(&self)
         ensures { KeepsLaws self.now }
     {
-        let _ = &self.parts;
+        let _ = &self.store;
     }
 
     /// What the seat is doing. Logarithmic.
