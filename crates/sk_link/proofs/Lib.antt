@@ -2,3 +2,4 @@ pub mod Carried
 pub mod Causes
 pub mod Lines
 pub mod Unread
+pub mod Walks
