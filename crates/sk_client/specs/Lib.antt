@@ -1,0 +1,5 @@
+pub mod Jid
+pub mod Drafts
+pub mod Push
+pub mod Requests
+pub mod Bulk
