@@ -3,3 +3,4 @@ pub mod Causes
 pub mod Lines
 pub mod Reports
 pub mod Unread
+pub mod Walks

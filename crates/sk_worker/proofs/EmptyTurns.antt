@@ -13,7 +13,7 @@ use Rattle.sk_worker.specs.Fetching.{FetchStage, FetchStep, begins, asking, fetc
 use Rattle.sk_worker.specs.Forms.{EmptyForm, call}
 use Rattle.sk_worker.specs.Request.{fetch_words}
 use Rattle.sk_worker.specs.Stage.{Settings}
-use Rattle.sk_worker.specs.Walk.{Walk}
+use Rattle.sk_link.specs.Walk.{Walk}
 
 -- ## What is held doesn't go while a worker fetches
 

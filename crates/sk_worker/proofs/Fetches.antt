@@ -15,11 +15,12 @@ use Rattle.sk_link.specs.declared.asking.Answer.TheVariants as answer
 use Rattle.sk_worker.specs.Event.{Event, asked}
 use Rattle.sk_worker.specs.Fetching.{FetchStage, FetchLine, FetchStep, FetchTranscript, asking, fetched, fetch, fetches, next_queue, if_room, after_reply}
 use Rattle.sk_worker.specs.Request.{fetch_words}
-use Rattle.sk_worker.specs.Saying.{GoesOn}
+use Rattle.sk_link.specs.Walk.{GoesOn}
 use Rattle.sk_worker.specs.Stage.{Settings}
-use Rattle.sk_worker.specs.Walk.{Walk}
+use Rattle.sk_link.specs.Walk.{Walk}
 use Rattle.sk_worker.specs.declared.turn.WorkFault.{WorkFault}
-use Rattle.sk_worker.proofs.Walks.{walk-append, broken_later, cause_before}
+use Rattle.sk_link.proofs.Walks.{walk-append, cause_before}
+use Rattle.sk_worker.proofs.Walks.{broken_later}
 
 pub fetch_line : (w : Settings) (ident : Bytes) (prefetch : ℕ) (queue : Bytes) (queues payloads : List Bytes) → w.ident ≡ ident → w.prefetch ≡ prefetch →
     FetchLine w (asking queue queues payloads) (fetch_words ident queue) answer.Popped (after_reply prefetch queue queues payloads)

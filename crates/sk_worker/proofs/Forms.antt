@@ -14,7 +14,7 @@ use Rattle.sk_worker.specs.Run.{place_of}
 use Rattle.sk_worker.specs.Event.{Event, ran, chose}
 use Rattle.sk_worker.specs.Stage
 use Rattle.sk_worker.specs.Stage.{Settings, Stage, Step, Line, holding, started, returned, raised, failed, decided, releasing, over, asks, runs, chooses, unknown}
-use Rattle.sk_worker.specs.Walk.{Walk}
+use Rattle.sk_link.specs.Walk.{Walk}
 use Rattle.sk_worker.specs.Forms.{Form, Failing, Fate}
 use Rattle.sk_worker.specs.Forms
 use Rattle.sk_worker.specs.declared.job.Raised.{Raised}

@@ -7,10 +7,11 @@ use Rattle.sk_link.specs.Fault.{IsCause}
 use Rattle.sk_link.specs.declared.asking.Answer.{Answer}
 use Rattle.sk_worker.specs.Event.{Event, asked}
 use Rattle.sk_worker.specs.Leaving.{LeaveStage, LeaveLine, LeaveStep, LeaveTranscript, BackTranscript, leaving, asks}
-use Rattle.sk_worker.specs.Saying.{GoesOn}
-use Rattle.sk_worker.specs.Walk.{Walk}
+use Rattle.sk_link.specs.Walk.{GoesOn}
+use Rattle.sk_link.specs.Walk.{Walk}
 use Rattle.sk_worker.specs.declared.turn.WorkFault.{WorkFault}
-use Rattle.sk_worker.proofs.Walks.{walk-append, broken_later, cause_before}
+use Rattle.sk_link.proofs.Walks.{walk-append, cause_before}
+use Rattle.sk_worker.proofs.Walks.{broken_later}
 
 pub leave_said : (ident : Bytes) (from : LeaveStage) (request : List Bytes) (wanted : Answer) (next : Reply → LeaveStage) (r : Reply) →
     LeaveLine ident from request wanted next → answers wanted r ≡ true → Walk (LeaveStep ident) from (asked (record { request = request; reply = r }) ∷ []) (next r)

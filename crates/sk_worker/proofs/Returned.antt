@@ -11,7 +11,7 @@ use Rattle.sk_worker.specs.Forms.{ReturnedForm, call}
 use Rattle.sk_worker.specs.Request.{script_words}
 use Rattle.sk_worker.specs.Stage
 use Rattle.sk_worker.specs.Stage.{Settings, Stage, Line, Step, holding, started, returned, raised, failed, decided, releasing, over, asks, runs, chooses}
-use Rattle.sk_worker.specs.Walk.{Walk}
+use Rattle.sk_link.specs.Walk.{Walk}
 use Rattle.sk_worker.specs.declared.job.Outcome.TheVariants as outcome
 
 -- the run failed, or the job has its place

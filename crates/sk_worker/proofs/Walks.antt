@@ -1,5 +1,5 @@
 -- How walks go on, and how a fault ends them.
-use Rattle.std.proofs.Common.{◌≡◌, ◌∙◌, inl, inr, ℕ, Bool, true, List, [], ◌∷◌, ◌++◌, map, refl, sym, subst, ap, Result, Ok, Err, Option, append_assoc, arith}
+use Rattle.std.proofs.Common.{◌≡◌, ◌∙◌, ℕ, Bool, true, List, [], ◌∷◌, ◌++◌, map, refl, sym, subst, ap, Result, Ok, Err, Option, append_assoc}
 use Rattle.sk_resp.specs.Spelling.{Bytes}
 use Rattle.sk_resp.specs.declared.reply.Reply.{Reply}
 use Rattle.sk_link.specs.Call.{Call}
@@ -8,33 +8,17 @@ use Rattle.sk_link.specs.Fault.{IsCause}
 use Rattle.sk_link.specs.declared.asking.Answer.{Answer}
 use Rattle.sk_link.specs.declared.asking.Answer.TheVariants as answer
 use Rattle.sk_link.specs.declared.link.LinkFault.{LinkFault}
-use Rattle.sk_link.specs.declared.link.LinkFault.TheVariants as link_fault
+use Rattle.sk_link.proofs.Walks.{walk-append, cause_before}
 use Rattle.sk_worker.specs.Event.{Event, asked}
 use Rattle.sk_worker.specs.Request.{release_words}
-use Rattle.sk_worker.specs.Saying.{GoesOn, Says}
+use Rattle.sk_link.specs.Walk.{GoesOn}
+use Rattle.sk_worker.specs.Saying.{Says}
 use Rattle.sk_worker.specs.Stage.{Settings, Stage, Line, Step, asks, over, releasing, release, AtLimit, JobTranscript}
-use Rattle.sk_worker.specs.Walk.{Walk, Broken}
+use Rattle.sk_link.specs.Walk.{Walk}
+use Rattle.sk_worker.specs.Broken.{Broken}
 use Rattle.sk_worker.specs.declared.turn.Turn.{Turn}
 use Rattle.sk_worker.specs.declared.turn.WorkFault.{WorkFault}
 use Rattle.sk_worker.specs.declared.turn.WorkFault.TheVariants as fault
-
-pub walk-append : {S : Type 0} (Step : S → Event → S → Type 0) (from mid to : S) (xs ys : List Event) → Walk Step from xs mid → Walk Step mid ys to → Walk Step from (xs ++ ys) to
-walk-append Step from mid to [] ys p q = subst (λ s. Walk Step s ys to) p q
-walk-append Step from mid to (x ∷ xs) ys p q = (p.0, p.1, walk-append Step p.0 mid to xs ys p.2 q)
-
--- The cause of a fault is one of all calls together, where the earlier ones had none.
-pub cause_before : (before mid now_ : ℕ) (ended mid_ended : Bool) (unread : Option Bytes) → GoesOn before mid ended mid_ended →
-    (f : LinkFault) → IsCause mid now_ mid_ended unread f → IsCause before now_ ended unread f
-cause_before before mid now_ ended mid_ended unread on link_fault.Failed h = elim h [ inl lt ↦ inl (omega (arith, on.later)) | inr top ↦ inr top ]
-cause_before before mid now_ ended mid_ended unread on (link_fault.Unreadable kept) h = h
-cause_before before mid now_ ended mid_ended unread on link_fault.Ended h = on.open_ h
-cause_before before mid now_ ended mid_ended unread on link_fault.Memory h = tt
-
-pub goes_on : (before mid now_ : ℕ) (ended mid_ended now_ended : Bool) → GoesOn before mid ended mid_ended → GoesOn mid now_ mid_ended now_ended → GoesOn before now_ ended now_ended
-goes_on before mid now_ ended mid_ended now_ended p q = record { later = omega (arith, p.later, q.later); open_ = λ e. p.open_ (q.open_ e) }
-
-pub stays_on : (count : ℕ) (ended : Bool) → GoesOn count count ended ended
-stays_on count ended = record { later = omega arith; open_ = λ e. e }
 
 -- What is broken off from a stage on is broken off from an earlier one, with the events that lead there.
 pub broken_later : {S : Type 0} (Gave Before : LinkFault → Type 0) (Line : S → List Bytes → Answer → (Reply → S) → Type 0) (Step : S → Event → S → Type 0) (Limit : S → Type 0)

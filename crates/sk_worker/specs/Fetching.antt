@@ -11,7 +11,8 @@ use Rattle.sk_policy.specs.Order.{draws, queues_in}
 use Rattle.sk_worker.specs.Request.{fetch_words}
 use Rattle.sk_worker.specs.Event.{Event, ordered, asked}
 use Rattle.sk_worker.specs.Stage.{Settings}
-use Rattle.sk_worker.specs.Walk.{Walk, Broken}
+use Rattle.sk_link.specs.Walk.{Walk}
+use Rattle.sk_worker.specs.Broken.{Broken}
 use Rattle.sk_worker.specs.declared.turn.WorkFault.{WorkFault}
 
 pub data FetchStage : Type 0 where

@@ -12,7 +12,8 @@ use Rattle.sk_link.specs.declared.asking.Answer.TheVariants as answer
 use Rattle.sk_link.specs.declared.link.LinkFault.{LinkFault}
 use Rattle.sk_worker.specs.Request.{script_words, release_words}
 use Rattle.sk_worker.specs.Event.{Event, asked}
-use Rattle.sk_worker.specs.Walk.{Walk, Broken}
+use Rattle.sk_link.specs.Walk.{Walk}
+use Rattle.sk_worker.specs.Broken.{Broken}
 use Rattle.sk_worker.specs.declared.turn.WorkFault.{WorkFault}
 
 pub data LeaveStage : Type 0 where

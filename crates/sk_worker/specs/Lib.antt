@@ -1,7 +1,7 @@
 pub mod Run
 pub mod Request
 pub mod Event
-pub mod Walk
+pub mod Broken
 pub mod Stage
 pub mod Fetching
 pub mod Turn

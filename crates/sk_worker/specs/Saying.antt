@@ -1,5 +1,5 @@
--- A worker's request with its answer, and what a link tells of a call that others follow.
-use Rattle.std.specs.Prelude.{◌≡◌, ◌≤◌, ℕ, Bool, true, false, List, [], ◌∷◌, Result, Ok, Err}
+-- A worker's request with its answer.
+use Rattle.std.specs.Prelude.{◌≡◌, true, false, List, [], ◌∷◌, Result, Ok, Err}
 use Rattle.sk_resp.specs.Spelling.{Bytes}
 use Rattle.sk_resp.specs.declared.reply.Reply.{Reply}
 use Rattle.sk_link.specs.Call.{Call}
@@ -24,8 +24,3 @@ Says Gave Carried request wanted (Err fault.Ended) = ⊥
 abbrev pub Joins : (LinkFault → Type 0) → (List Call → Type 0) → Bytes → Result (Unit {0}) WorkFault → Type 0
 Joins Gave Carried ident (Ok done) = (r : Reply) × Says Gave Carried (join_words ident) answer.Okay (Ok r)
 Joins Gave Carried ident (Err f) = Says Gave Carried (join_words ident) answer.Okay (Err f)
-
--- A link that had no fault: its count didn't fall, and it hasn't ended, unless it had before.
-pub record GoesOn (before now_ : ℕ) (had_ended has_ended : Bool) : Type 0 where
-  pub later : before ≤ now_
-  pub open_ : has_ended ≡ true → had_ended ≡ true

@@ -16,7 +16,8 @@ use Rattle.sk_policy.specs.declared.decision.Decision.TheVariants as decide
 use Rattle.sk_worker.specs.Run.{place_of}
 use Rattle.sk_worker.specs.Request.{script_words, retry_words, release_words}
 use Rattle.sk_worker.specs.Event.{Event, asked, ran, chose}
-use Rattle.sk_worker.specs.Walk.{Walk, Broken}
+use Rattle.sk_link.specs.Walk.{Walk}
+use Rattle.sk_worker.specs.Broken.{Broken}
 use Rattle.sk_worker.specs.declared.job.Raised.{Raised}
 use Rattle.sk_worker.specs.declared.job.Outcome.{Outcome}
 use Rattle.sk_worker.specs.declared.job.Outcome.TheVariants as outcome

@@ -8,7 +8,8 @@ use Rattle.sk_worker.specs.Event.{Event, Choice, calls, runs, moments, words, ch
 use Rattle.sk_worker.specs.Fetching.{FetchStep, FetchLine, fetched, fetch_start}
 use Rattle.sk_worker.specs.Run.{Run, place_of}
 use Rattle.sk_worker.specs.Stage.{Settings, holding, JobTranscript}
-use Rattle.sk_worker.specs.Walk.{Walk, Broken}
+use Rattle.sk_link.specs.Walk.{Walk}
+use Rattle.sk_worker.specs.Broken.{Broken}
 use Rattle.sk_worker.specs.declared.turn.Turn.{Turn}
 use Rattle.sk_worker.specs.declared.turn.Turn.TheVariants as turn
 use Rattle.sk_worker.specs.declared.turn.WorkFault.{WorkFault}

@@ -5,7 +5,7 @@ ghost use Rattle.sk_link.specs.Call.{Call};
 ghost use Rattle.sk_link.specs.Fault.{IsCause};
 ghost use Rattle.sk_worker.specs.Event.{Event, asked};
 ghost use Rattle.sk_worker.specs.Fetching.{FetchTranscript, FetchStage, fetch_start, if_room, next_queue};
-ghost use Rattle.sk_worker.specs.Saying.{GoesOn};
+ghost use Rattle.sk_link.specs.Walk.{GoesOn};
 ghost use Rattle.sk_worker.specs.Stage.{Settings};
 ghost use Rattle.sk_worker.specs.Turn.{Parts};
 

@@ -5,7 +5,7 @@ ghost use Rattle.sk_worker.specs.Event.{Event};
 ghost use Rattle.sk_worker.specs.Fetching.{FetchStep, fetch_start, fetched};
 ghost use Rattle.sk_worker.specs.Forms.{EmptyForm, Form, ReturnedForm};
 ghost use Rattle.sk_worker.specs.Stage.{Step, Settings, holding, over, returned};
-ghost use Rattle.sk_worker.specs.Walk.{Walk};
+ghost use Rattle.sk_link.specs.Walk.{Walk};
 ghost use Rattle.sk_worker.specs.declared.turn.Turn.{Turn};
 
 /// What a whole turn does with a job has one of four forms: the job has no head, its run returned, its run raised an error, or its class has no job.

@@ -7,7 +7,7 @@ ghost use Rattle.sk_link.specs.Call.{Call};
 ghost use Rattle.sk_link.specs.Fault.{IsCause};
 ghost use Rattle.sk_worker.specs.Event.{asked};
 ghost use Rattle.sk_worker.specs.Leaving.{LeaveTranscript, BackTranscript, buried, given_back, leaving};
-ghost use Rattle.sk_worker.specs.Saying.{GoesOn};
+ghost use Rattle.sk_link.specs.Walk.{GoesOn};
 
 use crate::say::{release_request, say, script};
 use crate::turn::WorkFault;

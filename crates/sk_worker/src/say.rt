@@ -3,25 +3,22 @@ ghost use Rattle.std.specs.Prelude.{◌≡◌, ◌++◌, List, IfOk, OnOk, map};
 ghost use Rattle.sk_resp.specs.Spelling.{Bytes};
 ghost use Rattle.sk_link.specs.Fault.{IsCause};
 ghost use Rattle.sk_worker.specs.Request.{fetch_words, join_words, release_words, retry_words, script_words};
-ghost use Rattle.sk_worker.specs.Saying.{GoesOn, Says};
+ghost use Rattle.sk_link.specs.Walk.{GoesOn};
+ghost use Rattle.sk_worker.specs.Saying.{Says};
 
 use crate::Memory;
 use crate::turn::WorkFault;
 use sk_base::Score;
-use sk_link::{Answer, AskFault, Link, ask};
+use sk_link::{Answer, AskFault, Link, ask, words_of};
 use sk_payload::Payload;
-use sk_resp::{Reply, Text, Word, Words};
+use sk_resp::{Reply, Text, Words};
 use std::alloc::Global;
 
-// The words with these bytes.
-fn words_of(alloc: Global, parts: &[&[u8]]) -> Result<Words, Memory>
+// The words with these bytes, as a request.
+fn request(alloc: Global, parts: &[&[u8]]) -> Result<Words, Memory>
     ensures { IfOk result (λ words. words ≡ map (λ part. part.now) parts.now) }
 {
-    let mut words = Vec::new(alloc);
-    for part in parts {
-        words.push(Word::new(part.to_vec(alloc)?))?;
-    }
-    Ok(Words::new(words))
+    Ok(Words::new(words_of(alloc, parts)?))
 }
 
 fn key(alloc: Global, front: &[u8], name: &Text) -> Result<Vec<u8>, Memory>
@@ -36,14 +33,14 @@ fn key(alloc: Global, front: &[u8], name: &Text) -> Result<Vec<u8>, Memory>
 pub(crate) fn script(alloc: Global, name: &[u8], payload: &Payload) -> Result<Words, Memory>
     ensures { IfOk result (λ words. words ≡ script_words name.now payload.now) }
 {
-    words_of(alloc, &[name, payload.text().bytes()])
+    request(alloc, &[name, payload.text().bytes()])
 }
 
 /// `SK.JOIN ident`
 pub(crate) fn join_request(alloc: Global, ident: &Text) -> Result<Words, Memory>
     ensures { IfOk result (λ words. words ≡ join_words ident.now) }
 {
-    words_of(alloc, &[b"SK.JOIN", ident.text().as_bytes()])
+    request(alloc, &[b"SK.JOIN", ident.text().as_bytes()])
 }
 
 /// `LMOVE queue:queue sq:ident RIGHT LEFT`
@@ -52,7 +49,7 @@ pub(crate) fn fetch_request(alloc: Global, ident: &Text, queue: &Text) -> Result
 {
     let from = key(alloc, b"queue:", queue)?;
     let to = key(alloc, b"sq:", ident)?;
-    words_of(alloc, &[b"LMOVE", &from, &to, b"RIGHT", b"LEFT"])
+    request(alloc, &[b"LMOVE", &from, &to, b"RIGHT", b"LEFT"])
 }
 
 /// `LREM sq:ident 1 payload`
@@ -64,7 +61,7 @@ pub(crate) fn release_request(
     ensures { IfOk result (λ words. words ≡ release_words ident.now payload.now) }
 {
     let from = key(alloc, b"sq:", ident)?;
-    words_of(alloc, &[b"LREM", &from, b"1", payload.text().bytes()])
+    request(alloc, &[b"LREM", &from, b"1", payload.text().bytes()])
 }
 
 /// `ZADD retry score payload`
@@ -73,7 +70,7 @@ pub(crate) fn retry_request(alloc: Global, score: Score, payload: &Payload) -> R
 {
     let mut text = Vec::new(alloc);
     score.write(alloc, &mut text)?;
-    words_of(alloc, &[b"ZADD", b"retry", &text, payload.text().bytes()])
+    request(alloc, &[b"ZADD", b"retry", &text, payload.text().bytes()])
 }
 
 /// Asks the request, where there was memory for its words, and answers the reply where it is of the kind wanted.

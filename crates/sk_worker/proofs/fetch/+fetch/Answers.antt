@@ -8,9 +8,11 @@ use Rattle.sk_link.specs.declared.link.LinkFault.{LinkFault}
 use Rattle.sk_worker.specs.Event.{asked}
 use Rattle.sk_worker.specs.Fetching.{FetchLine, FetchStep, FetchTranscript, asking, next_queue, if_room, after_reply}
 use Rattle.sk_worker.specs.Request.{fetch_words}
-use Rattle.sk_worker.specs.Walk.{Walk, Broken}
+use Rattle.sk_link.specs.Walk.{Walk}
+use Rattle.sk_worker.specs.Broken.{Broken}
 use Rattle.sk_worker.proofs.Fetches.{named, first_asked, first_named, fetch_line, fetch_said, fetch_after, after_other, room, rest_is}
-use Rattle.sk_worker.proofs.Walks.{unsaid, goes_on}
+use Rattle.sk_worker.proofs.Walks.{unsaid}
+use Rattle.sk_link.proofs.Walks.{goes_on}
 use Rattle.sk_worker.proofs.fetch.+fetch.Goals as goal
 
 pub returns-in-Err-clause-told : goal.returns-in-Err-clause-told

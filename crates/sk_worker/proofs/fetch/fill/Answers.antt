@@ -5,7 +5,7 @@ use Rattle.sk_worker.specs.Event.{asked, ordered}
 use Rattle.sk_worker.specs.Fetching.{FetchStep, FetchTranscript, begins, next_queue, if_room, fetch_start, orders}
 use Rattle.sk_worker.proofs.Events.{parts_order}
 use Rattle.sk_worker.proofs.Fetches.{named, fetch_after, room}
-use Rattle.sk_worker.proofs.Walks.{stays_on}
+use Rattle.sk_link.proofs.Walks.{stays_on}
 use Rattle.sk_worker.proofs.fetch.fill.Goals as goal
 
 pub returns-in-Ok-clause-told : goal.returns-in-Ok-clause-told

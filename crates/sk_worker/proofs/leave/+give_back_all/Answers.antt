@@ -4,7 +4,7 @@ use Rattle.sk_link.specs.Fault.{IsCause}
 use Rattle.sk_link.specs.declared.link.LinkFault.{LinkFault}
 use Rattle.sk_worker.specs.Event.{asked}
 use Rattle.sk_worker.specs.Leaving.{LeaveLine, LeaveStep, LeaveTranscript, leaving}
-use Rattle.sk_worker.specs.Walk.{Broken}
+use Rattle.sk_worker.specs.Broken.{Broken}
 use Rattle.sk_worker.proofs.Leaves.{leave_after}
 use Rattle.sk_worker.proofs.leave.+give_back_all.Goals as goal
 

@@ -8,7 +8,8 @@ use Rattle.sk_worker.specs.Event.{asked}
 use Rattle.sk_worker.specs.Leaving.{LeaveLine, LeaveStep, buried, leaving, bury}
 use Rattle.sk_worker.specs.Request.{script_words}
 use Rattle.sk_worker.proofs.Leaves.{leave_said, one_after}
-use Rattle.sk_worker.proofs.Walks.{unsaid, goes_on}
+use Rattle.sk_worker.proofs.Walks.{unsaid}
+use Rattle.sk_link.proofs.Walks.{goes_on}
 use Rattle.sk_worker.proofs.leave.bury.Goals as goal
 
 pub returns-in-Ok-clause-told : goal.returns-in-Ok-clause-told

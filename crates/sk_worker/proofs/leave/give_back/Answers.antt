@@ -6,7 +6,7 @@ use Rattle.sk_link.specs.declared.link.LinkFault.{LinkFault}
 use Rattle.sk_worker.specs.Event.{asked}
 use Rattle.sk_worker.specs.Leaving.{LeaveLine, LeaveStep, leaving, back, given_back}
 use Rattle.sk_worker.specs.Request.{script_words}
-use Rattle.sk_worker.specs.Walk.{Walk}
+use Rattle.sk_link.specs.Walk.{Walk}
 use Rattle.sk_worker.proofs.Leaves.{leave_said}
 use Rattle.sk_worker.proofs.Walks.{unsaid}
 use Rattle.sk_worker.proofs.leave.give_back.Goals as goal

@@ -6,7 +6,7 @@ use Rattle.sk_link.specs.declared.link.LinkFault.{LinkFault}
 use Rattle.sk_worker.specs.Event.{asked}
 use Rattle.sk_worker.specs.Leaving.{LeaveLine, LeaveStep, buried, leaving, release}
 use Rattle.sk_worker.specs.Request.{release_words}
-use Rattle.sk_worker.specs.Walk.{Walk}
+use Rattle.sk_link.specs.Walk.{Walk}
 use Rattle.sk_worker.proofs.Leaves.{leave_said}
 use Rattle.sk_worker.proofs.Walks.{unsaid}
 use Rattle.sk_worker.proofs.leave.release.Goals as goal

@@ -6,7 +6,7 @@ use Rattle.sk_worker.specs.Event.{runs, choices}
 use Rattle.sk_worker.specs.Fetching.{FetchStep, fetched, fetch_start}
 use Rattle.sk_worker.specs.Stage.{Settings, holding}
 use Rattle.sk_worker.specs.Turn.{TurnTranscript, unfetched, empty, job}
-use Rattle.sk_worker.specs.Walk.{Walk}
+use Rattle.sk_link.specs.Walk.{Walk}
 use Rattle.sk_worker.specs.declared.turn.Turn.TheVariants as turn
 use Rattle.sk_worker.proofs.Events.{parts_only, parts_then, parts_same, yields-append, RulesAnswered-of, if_ok_always}
 use Rattle.sk_worker.proofs.Runs.{RunsTold-none, RunsTold-of, RunsTold-to, written_back}

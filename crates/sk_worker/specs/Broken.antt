@@ -1,19 +1,15 @@
--- What a worker does, told as a walk through a table. A table has stages. In some of them one request may be asked, and its line says which kind of
--- answer is wanted and where that leads; other events lead from a stage to the next without a request.
+-- What a worker does is told as a walk through a table. A line of it says which request is asked at a stage, which kind of answer is wanted, and
+-- where that leads; other events lead from a stage to the next without a request. A fault breaks a walk off.
 use Rattle.std.specs.Prelude.{◌≡◌, ◌++◌, ◌∷◌, [], false, List}
 use Rattle.sk_resp.specs.Spelling.{Bytes}
 use Rattle.sk_resp.specs.declared.reply.Reply.{Reply}
 use Rattle.sk_link.specs.Asking.{answers}
 use Rattle.sk_link.specs.declared.asking.Answer.{Answer}
 use Rattle.sk_link.specs.declared.link.LinkFault.{LinkFault}
+use Rattle.sk_link.specs.Walk.{Walk}
 use Rattle.sk_worker.specs.Event.{Event, asked}
 use Rattle.sk_worker.specs.declared.turn.WorkFault.{WorkFault}
 use Rattle.sk_worker.specs.declared.turn.WorkFault.TheVariants as fault
-
--- The events lead from the one stage to the other.
-abbrev pub Walk : {S : Type 0} → (S → Event → S → Type 0) → S → List Event → S → Type 0
-Walk Step from [] to = to ≡ from
-Walk Step from (event ∷ events) to = (next : _) × Step from event next × Walk Step next events to
 
 -- The events lead to a stage, and the last of them is the request of a line from there, with a reply that it doesn't want.
 pub record Refuses {S : Type 0} (Line : S → List Bytes → Answer → (Reply → S) → Type 0) (Step : S → Event → S → Type 0)
