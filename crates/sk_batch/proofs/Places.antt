@@ -28,7 +28,7 @@ pub drop_whole : {X : Type 0} (xs : List X) (at end : ℕ) → end ≡ length xs
 drop_whole xs at end e = let n : at + 1 ≡ suc at = omega arith in ap (drop (at + 1)) (take_all end xs (omega (arith, e))) ∙ ap (λ m. drop m xs) n
 
 module _ {K T : Type 0} where
-  put_down_behind : (found : Option (K × T)) (n : ℕ) (tag : K) (x : K × T) (rest : List (K × T)) → put_down found (suc n) tag (x ∷ rest) ≡ x ∷ put_down found n tag rest
+  pub put_down_behind : (found : Option (K × T)) (n : ℕ) (tag : K) (x : K × T) (rest : List (K × T)) → put_down found (suc n) tag (x ∷ rest) ≡ x ∷ put_down found n tag rest
   put_down_behind None n tag x rest = refl
   put_down_behind (Some y) n tag x rest = refl
 
