@@ -13,6 +13,7 @@ pub mod Batches
 pub mod Seats
 pub mod Digest
 pub mod Unique
+pub mod Periodic
 pub mod Workers
 pub mod Rescue
 pub mod Status
@@ -21,9 +22,9 @@ pub mod Reading
 pub mod Event
 pub mod Run
 pub mod Life
-pub mod Laws
 pub mod Once
 pub mod Covered
 pub mod Causes
+pub mod Laws
 pub mod Reliable
 pub mod Starving
