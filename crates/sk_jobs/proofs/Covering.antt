@@ -1,4 +1,4 @@
--- The callbacks that were pushed are no more than were fired, before a batch is told and after it.
+-- The rows that the store pushed itself are no more than there is room for and than were fired, before a batch is told and after it.
 use Rattle.std.proofs.Common.{◌≡◌, ◌<◌, ◌≤◌, ◌^◌, ℕ, zero, suc, ◌+◌, List, [], ◌∷◌, length, refl, sym, subst, ◌∙◌, arith, true, ℤ}
 use Rattle.std.specs.Prelude.{Option, Some, None, Result, Ok, Err, IfOk, OnOk}
 use Rattle.sk_cmd.specs.declared.argument.Scored.{Scored}
@@ -22,6 +22,7 @@ use Rattle.sk_batch.specs.declared.firing.Firing.{Firing}
 use Rattle.sk_model.specs.Batches.{push_jobs}
 use Rattle.sk_model.specs.Change.{Change, perform}
 use Rattle.sk_model.specs.Covered.{IsCovered, fired_count}
+use Rattle.sk_model.specs.Room.{most_pushes}
 use Rattle.sk_model.specs.Sets.{put_as}
 use Rattle.sk_model.specs.Told.{tell_in}
 use Rattle.sk_model.specs.World.{World}
@@ -36,21 +37,21 @@ use Rattle.sk_jobs.specs.Calls.{AreCovered, IsTold}
 -- ## How many pushes there are
 
 -- where so many batches have fired no more than three callbacks each
-few_fired : (t : Totals) (s : Batched) (count : ℕ) → t.inner + count ≤ fired_count s.batches → t.outside ≤ last_outside → length s.batches ≤ 2 ^ 60 → pushes_in t + count ≤ last_push
+few_fired : (t : Totals) (s : Batched) (count : ℕ) → t.inner + count ≤ most_pushes + fired_count s.batches → t.outside ≤ last_outside → length s.batches ≤ 2 ^ 60 → pushes_in t + count ≤ last_push
 few_fired t s count covered outside few = omega (arith, covered, outside, few, count_few s.batches)
 
 -- what a batch fires that is told of a job can be pushed
 pub told_fits : (t : Totals) (s end : Batched) (e : Event) (bid jid : Bytes) (fs : List Firing) → IsCovered t.inner s → fs ≡ fires_of e bid jid s → end ≡ fired (fires_of e bid jid s) (marked (mark_of e) bid jid s) → t.outside ≤ last_outside → length end.batches ≤ 2 ^ 60
     → pushes_in t + length fs ≤ last_push
 told_fits t s end e bid jid fs c fires is outside few =
-    let count = subst (λ (b : Batched). t.inner + length (fires_of e bid jid s) ≤ fired_count b.batches) (sym is) (told_count t.inner e bid jid s c) in
+    let count = subst (λ (b : Batched). t.inner + length (fires_of e bid jid s) ≤ most_pushes + fired_count b.batches) (sym is) (told_count t.inner e bid jid s c) in
     subst (λ gs. pushes_in t + length gs ≤ last_push) (sym fires) (few_fired t end (length (fires_of e bid jid s)) count outside few)
 
 -- and what one fires that is made
 pub made_fits : (t : Totals) (inner : ℕ) (s end : Batched) (batch : Batch) (jids : List Bytes) (fs : List Firing) → make_fault batch.bid batch.parent jids s ≡ None → IsCovered inner s → t.inner ≡ inner → fs ≡ made_fires batch jids → end ≡ made batch jids s → t.outside ≤ last_outside
     → length end.batches ≤ 2 ^ 60 → pushes_in t + length fs ≤ last_push
 made_fits t inner s end batch jids fs clear c same fires is outside few =
-    let count = subst (λ (b : Batched). inner + length (made_fires batch jids) ≤ fired_count b.batches) (sym is) (clear_count batch jids s inner clear c) in
+    let count = subst (λ (b : Batched). inner + length (made_fires batch jids) ≤ most_pushes + fired_count b.batches) (sym is) (clear_count batch jids s inner clear c) in
     subst (λ gs. pushes_in t + length gs ≤ last_push) (sym fires) (few_fired t end (length (made_fires batch jids)) (omega (arith, count, same)) outside few)
 
 -- jobs that clients push are no callbacks

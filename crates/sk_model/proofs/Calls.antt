@@ -45,7 +45,7 @@ push_follows : (w : World) (text : Bytes) (found : Option Head) → CallsFollow 
 push_follows w text None = tt
 push_follows w text (Some h) = (([], refl), tt)
 
-calls_call : (w : World) (o : Option Bytes) → CallsFollow w (call o)
+pub calls_call : (w : World) (o : Option Bytes) → CallsFollow w (call o)
 calls_call w None = tt
 calls_call w (Some text) = push_follows w text (head text)
 

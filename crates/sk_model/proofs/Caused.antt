@@ -57,7 +57,7 @@ use Rattle.sk_counters.specs.Counters.{processed, failed}
 use Rattle.sk_leases.specs.Leased.{is_alive}
 use Rattle.sk_model.specs.Reading.{Words}
 use Rattle.sk_model.specs.World.{World, phase_of, first}
-use Rattle.sk_model.specs.Change.{Carry, Trim, Change, Moves, Passes, Names, Unnames, Turns, Counts, Recovers, Forgets, Makes, changed, perform}
+use Rattle.sk_model.specs.Change.{Carry, Trim, Change, Moves, Passes, Names, Unnames, Turns, Counts, Recovers, Forgets, Marks, Makes, changed, perform}
 use Rattle.sk_key.specs.Class.{class_of, queue_of, is_plain, is_queue, private_key}
 use Rattle.sk_model.specs.Outcome.{Outcome}
 use Rattle.sk_model.specs.Room.{is_full as is_store_full, is_too_much}
@@ -67,14 +67,16 @@ use Rattle.sk_model.specs.Sets.{add_as, add_one, add_each, edit_jobs, put_as, pu
 use Rattle.sk_model.specs.Seats.{fetched_from, is_for_all, is_workers, only, released_by, releases, where_plain, where_some}
 use Rattle.sk_model.specs.Jobs.{Sent, bury, buried_by, due_rows, each, kill_row, merge, moment_score, put_dead, revive_as, revive_row, send, surplus, to_queue}
 use Rattle.sk_model.specs.Told.{and_tell, push_job, push_to, fire_all}
-use Rattle.sk_model.specs.Batches.{all_may_join, are_callbacks, batch_add, batch_of, batch_push, jids_of, join as join_batch, make, push_jobs, tells_stat, unless}
+use Rattle.sk_model.specs.Batches.{all_may_join, are_callbacks, may_call, batch_add, batch_of, batch_push, jids_of, join as join_batch, make, push_jobs, tells_stat, unless}
 use Rattle.sk_model.specs.Rescue.{bury_poison, is_poison, left_rows, rescue_row}
 use Rattle.sk_model.specs.Workers.{bury as bury_held, fail, fetch, fetch_row, give, give_row, ok, release_of, retry, work, work_as, work_edit}
-use Rattle.sk_model.specs.Step.{act, by_seat, edit_names, edit_queue, edits, is_script_built, moves, on_plain, outcome, run}
+use Rattle.sk_model.specs.Step.{act, by_seat, edit_names, edit_queue, edits, moves, on_plain, outcome, run}
 use Rattle.sk_model.specs.Event.{Event, Ask, Cut, Gives, Happens, Run, Step, after}
-use Rattle.sk_model.specs.Causes.{CausesFrom, HaveCauses, IsRemoval, MovesHaveCauses, removes}
+use Rattle.sk_model.specs.Causes.{CausesFrom, HaveCauses, IsRemoval, IsSlot, MovesHaveCauses, removes}
 use Rattle.sk_model.specs.Unique.{unlocks}
 use Rattle.sk_payload.specs.declared.head.Until.TheVariants as until
+use Rattle.sk_leases.specs.Leased.{is_led_by_another, last, leads}
+use Rattle.sk_model.specs.Periodic.{cron, has_loop, is_above, is_in_time, is_process, lead, push_slot}
 use Rattle.sk_model.proofs.Unique.{unique_push_causes, unlocks_causes}
 use Rattle.sk_model.proofs.Marked.{ParentTakes, Sane}
 use Rattle.sk_model.proofs.Fired.{all_quiet, perform-append, quiet-append, quiet_batches}
@@ -87,7 +89,7 @@ use Rattle.sk_model.proofs.Working.{put_quiet}
 use Rattle.sk_model.proofs.Making.{bid_clear, jobs_quiet, made_called}
 use Rattle.sk_model.proofs.Commands.{lawful}
 use Rattle.sk_model.proofs.Firing.{sane_first}
-use Rattle.sk_model.proofs.Causing.{all_tame, buried_causes, causes_append, causes_tame, fires_cause, some_burial, tame-append, tell_causes}
+use Rattle.sk_model.proofs.Causing.{all_tame, buried_causes, causes_append, causes_tame, fires_cause, job_causes, some_burial, tame-append, tell_causes}
 
 -- ## Which outcome it is
 
@@ -102,6 +104,10 @@ in_plain P (Joined ident works) o none one = none
 in_some : (P : List Change → Type 0) (phase : Phase) (test : Work → Bool) (o : Bytes → Outcome) → P [] → ((ident : Bytes) → list_any test (works_of phase) ≡ true → P (o ident).changes) → P (where_some phase test o).changes
 in_some P Plain test o none one = none
 in_some P (Joined ident works) test o none one = either P (list_any test works) _ _ (λ y. one ident y) (λ n. none)
+
+not_false : (b : Bool) → not b ≡ false → b ≡ true
+not_false true e = refl
+not_false false e = absurd (cc e)
 
 -- ## What clients do to keys needs no cause, but where it takes rows away
 
@@ -542,6 +548,25 @@ module _ (w : World) (seat now : ℕ) (words : Words) where
       in_some C (phase_of w seat) (is_buried_as text) _ tt
       (λ ident some. buried_causes w event v text put (put_buried pair (row_of text (rows_at (Set Dead) v.rows)) (Turns seat phase ∷ [])) (put_causes (command.Script (script.Bury text)) phase Dead pair _ read some) (done_sane v text put quiet s))
 
+  lead_causes : (ident : Bytes) → IsRead words (Ok (command.Script (script.Lead ident))) → C (lead v ident).changes
+  lead_causes ident read = either C (is_process v ident) _ _
+      (λ y. either C (is_led_by_another ident v.moment v.leases) _ _ (λ other. tt) (λ free. (record { seat = seat; now = now; words = words; event_is = refl; read = read; process = y; free = free }, tt)))
+      (λ n. tt)
+
+  push_slot_causes : (loop : Bytes) (slot : ℕ) (text : Bytes) → IsSlot w loop slot text event → C (push_slot v loop slot text).changes
+  push_slot_causes loop slot text cause = either C (is_store_full v (text ∷ [])) _ _ (λ y. tt) (λ n. (cause, job_causes w event false (changed v (Marks loop slot text)) text (head text)))
+
+  cron_causes : (ident loop : Bytes) (slot : ℤ) (text : Bytes) → IsRead words (Ok (command.Script (script.Cron ident loop slot text))) → C (cron v ident loop (nat_abs slot) text).changes
+  cron_causes ident loop slot text read =
+      either C (not (is_process v ident)) _ _ (λ y. tt) (λ process.
+      either C (not (may_call (head text) && is_name 255 loop)) _ _ (λ y. tt) (λ n.
+      either C (not (leads ident v.moment v.leases)) _ _ (λ y. tt) (λ leader.
+      either C (not (is_above (nat_abs slot) (last loop v.leases))) _ _ (λ y. tt) (λ above.
+      either C (not (is_in_time v (nat_abs slot))) _ _ (λ y. tt) (λ timely.
+      either C (not (has_loop v loop)) _ _ (λ y. tt) (λ n.
+      push_slot_causes loop (nat_abs slot) text
+      (record { seat = seat; now = now; words = words; ident = ident; number = slot; event_is = refl; read = read; slot_is = refl; leads = not_false _ leader; rises = not_false _ above; timely = not_false _ timely })))))))
+
   run_causes : (c : ScriptCommand) → IsRead words (Ok (command.Script c)) → Sane w.batches → C (run v seat (phase_of w seat) c).changes
   run_causes (script.Beat ident) read s = either C (is_name 255 ident) _ _ (λ y. (tt, tt)) (λ n. tt)
   run_causes (script.Join ident) read s = in_plain C (phase_of w seat) _ tt (either C (is_name 255 ident && is_alive ident v.moment v.leases) _ _ (λ y. (tt, tt)) (λ n. tt))
@@ -560,15 +585,15 @@ module _ (w : World) (seat now : ℕ) (words : Words) where
   run_causes (script.Bpush bid parent complete success death texts) read s = batch_push_causes w event v (batch_of bid parent complete success death) texts
   run_causes (script.Badd bid texts) read s = batch_add_causes w event v bid texts
   run_causes (script.Bstat bid) read s = stat_causes w event v (stat bid v.batches)
-  run_causes (script.Lead ident) read s = tt
-  run_causes (script.Cron ident loop slot text) read s = tt
+  run_causes (script.Lead ident) read s = in_plain C (phase_of w seat) _ tt (lead_causes ident read)
+  run_causes (script.Cron ident loop slot text) read s = in_plain C (phase_of w seat) _ tt (cron_causes ident loop slot text read)
   run_causes (script.Where jid) read s = tt
   run_causes script.Status read s = tt
 
   -- ## The step
 
   script_causes : (c : ScriptCommand) → IsRead words (Ok (command.Script c)) → Sane w.batches → HaveCauses w event false [] w (outcome w seat now (command.Script c)).changes
-  script_causes c read s = either (HaveCauses w event false [] w) (is_script_built c) _ _ (λ y. (tt, run_causes c read s)) (λ n. tt)
+  script_causes c read s = (tt, run_causes c read s)
 
   command_causes : (c : Command) → IsRead words (Ok c) → Sane w.batches → HaveCauses w event false [] w (outcome w seat now c).changes
   command_causes (command.Plain c) read s = (tt, plain_causes c read)

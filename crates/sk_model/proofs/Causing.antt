@@ -17,7 +17,7 @@ use Rattle.sk_batch.specs.declared.event.Event.TheVariants.{Returned, Reported, 
 use Rattle.sk_batch.specs.declared.firing.Firing.{Firing}
 use Rattle.sk_places.specs.declared.origin.Origin.TheVariants.{Outside, Inner}
 use Rattle.sk_model.specs.World.{World}
-use Rattle.sk_model.specs.Change.{Add, Carry, Take, Trim, Merge, PutBack, Free, Fire, Change, Moves, Passes, Names, Unnames, Keeps, Turns, Beats, Counts, Recovers, Forgets, Locks, Unlocks, Makes, Joins, Tells, changed, perform}
+use Rattle.sk_model.specs.Change.{Add, Carry, Take, Trim, Merge, PutBack, Free, Fire, Change, Moves, Passes, Names, Unnames, Keeps, Turns, Beats, Counts, Recovers, Forgets, Locks, Unlocks, Elects, Marks, Makes, Joins, Tells, changed, perform}
 use Rattle.sk_model.specs.Told.{call, fire_all, push_to, tell_in, tell_of}
 use Rattle.sk_model.specs.Jobs.{surplus, buried_by}
 use Rattle.sk_model.specs.Event.{Event}
@@ -40,6 +40,8 @@ is_tame takes (Moves (PutBack row)) = false
 is_tame takes (Moves (Add row end Inner)) = false
 is_tame takes (Locks digest jid seconds) = false
 is_tame takes (Unlocks digest jid) = false
+is_tame takes (Elects ident) = false
+is_tame takes (Marks loop slot text) = false
 is_tame takes (Tells Returned bid jid) = false
 is_tame takes other = true
 
@@ -76,6 +78,8 @@ module _ (w : World) (event : Event) where
   cause_tame takes b due (Forgets jid) removal e = tt
   cause_tame takes b due (Locks digest jid seconds) removal e = absurd (cc e)
   cause_tame takes b due (Unlocks digest jid) removal e = absurd (cc e)
+  cause_tame takes b due (Elects ident) removal e = absurd (cc e)
+  cause_tame takes b due (Marks loop slot text) removal e = absurd (cc e)
   cause_tame takes b due (Makes batch jids) removal e = tt
   cause_tame takes b due (Joins bid jids) removal e = tt
   cause_tame takes b due (Tells Returned bid jid) removal e = absurd (cc e)
@@ -110,6 +114,8 @@ module _ (w : World) (event : Event) where
   later_cause b c due (Forgets jid) more h = tt
   later_cause b c due (Locks digest jid seconds) more h = h
   later_cause b c due (Unlocks digest jid) more h = h
+  later_cause b c due (Elects ident) more h = h
+  later_cause b c due (Marks loop slot text) more h = h
   later_cause b c due (Makes batch jids) more h = tt
   later_cause b c due (Joins bid jids) more h = tt
   later_cause b c due (Tells Returned bid jid) more h = h
@@ -142,6 +148,8 @@ module _ (w : World) (event : Event) where
   behind_cause b due (Forgets jid) h = tt
   behind_cause b due (Locks digest jid seconds) h = h
   behind_cause b due (Unlocks digest jid) h = h
+  behind_cause b due (Elects ident) h = h
+  behind_cause b due (Marks loop slot text) h = h
   behind_cause b due (Makes batch jids) h = tt
   behind_cause b due (Joins bid jids) h = tt
   behind_cause b due (Tells Returned bid jid) h = h
@@ -166,7 +174,7 @@ module _ (w : World) (event : Event) where
 
   -- ## Firings, and what is told
 
-  job_causes : (b : Bool) (v : World) (text : Bytes) (found : Option Head) → HaveCauses w event b (push_to Inner text found) v (push_to Inner text found)
+  pub job_causes : (b : Bool) (v : World) (text : Bytes) (found : Option Head) → HaveCauses w event b (push_to Inner text found) v (push_to Inner text found)
   job_causes b v text None = tt
   job_causes b v text (Some h) = (refl, tt)
 

@@ -37,12 +37,13 @@ use Rattle.sk_model.specs.Life.{IsSound}
 use Rattle.sk_model.specs.Event.{Event, Ask, Cut, Gives, Happens}
 use Rattle.sk_model.specs.Room.{is_full}
 use Rattle.sk_model.specs.Seats.{is_workers, is_for_all}
-use Rattle.sk_model.specs.Step.{Steps, act, by_seat, cut, run, is_script_built, edits, edit_queue, edit_names, on_plain, moves, outcome}
+use Rattle.sk_model.specs.Step.{Steps, act, by_seat, cut, run, edits, edit_queue, edit_names, on_plain, moves, outcome}
 use Rattle.sk_model.proofs.Taking.{there, one_fewer, taken_at_most, end_there}
 use Rattle.sk_model.proofs.Going.{filter_among}
 use Rattle.sk_model.proofs.Sending.{choice, taking_good, edit_jobs_good, due_good, kill_good, revive_good}
 use Rattle.sk_model.proofs.Rescuing.{rescue_good}
 use Rattle.sk_model.proofs.Unique.{unique_push_good}
+use Rattle.sk_model.proofs.Periodic.{cron_good, lead_good}
 use Rattle.sk_model.proofs.Working.{where_plain_good, beat_good, join_good, work_good, start_good, fail_good, ok_good, drop_good, bury_good, back_good}
 use Rattle.sk_model.proofs.Making.{batch_push_lawful, batch_add_lawful}
 use Rattle.sk_model.specs.Batches.{batch_of, tells_stat}
@@ -194,18 +195,14 @@ run_lawful w seat phase (script.Upush text score) is = (unique_push_good w text 
 run_lawful w seat phase (script.Bpush bid parent complete success death texts) is = batch_push_lawful w (batch_of bid parent complete success death) texts
 run_lawful w seat phase (script.Badd bid texts) is = batch_add_lawful w bid texts
 run_lawful w seat phase (script.Bstat bid) is = (stat_good w (stat bid w.batches)).lawful
-run_lawful w seat phase (script.Lead ident) is = (good_nothing w).lawful
-run_lawful w seat phase (script.Cron ident loop slot text) is = (good_nothing w).lawful
+run_lawful w seat phase (script.Lead ident) is = (where_plain_good w phase _ (lead_good w ident)).lawful
+run_lawful w seat phase (script.Cron ident loop slot text) is = (where_plain_good w phase _ (cron_good w ident loop (nat_abs slot) text)).lawful
 run_lawful w seat phase (script.Where jid) is = (good_nothing w).lawful
 run_lawful w seat phase script.Status is = (good_nothing w).lawful
 
-whichever : (w : World) (b : Bool) (one other : Outcome) → Lawful w one.changes → Lawful w other.changes → Lawful w (cond b one other).changes
-whichever w true one other f g = f
-whichever w false one other f g = g
-
 outcome_lawful : (w : World) (seat now : ℕ) (c : Command) → Lawful w (outcome w seat now c).changes
 outcome_lawful w seat now (command.Plain c) = lawful_passes w now _ (by_seat_good (changed w (Passes now)) seat (phase_of w seat) c refl).lawful
-outcome_lawful w seat now (command.Script c) = whichever w (is_script_built c) _ _ (lawful_passes w now _ (run_lawful (changed w (Passes now)) seat (phase_of w seat) c refl)) (good_nothing w).lawful
+outcome_lawful w seat now (command.Script c) = lawful_passes w now _ (run_lawful (changed w (Passes now)) seat (phase_of w seat) c refl)
 
 -- ## What a store owes to the laws
 

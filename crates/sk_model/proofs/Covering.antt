@@ -28,7 +28,7 @@ use Rattle.sk_seats.specs.declared.work.Work.{Work}
 use Rattle.sk_seats.specs.Works.{first, is_done_as}
 use Rattle.sk_model.specs.World.{World, phase_of}
 use Rattle.sk_model.specs.Live.{count_job, fresh}
-use Rattle.sk_model.specs.Change.{Add, Carry, Take, Trim, Merge, PutBack, Free, Fire, Move, Change, Moves, Passes, Names, Unnames, Keeps, Turns, Beats, Counts, Recovers, Forgets, Locks, Unlocks, Makes, Joins, Tells, changed, ending_of, freed, freed_at, freed_work, moved, perform}
+use Rattle.sk_model.specs.Change.{Add, Carry, Take, Trim, Merge, PutBack, Free, Fire, Move, Change, Moves, Passes, Names, Unnames, Keeps, Turns, Beats, Counts, Recovers, Forgets, Locks, Unlocks, Elects, Marks, Makes, Joins, Tells, changed, ending_of, freed, freed_at, freed_work, moved, perform}
 use Rattle.sk_model.specs.Covered.{IsCovered, fired_count, has_kind, kinds_fired, was_fired}
 use Rattle.sk_model.specs.Once.{same_kind, settles}
 use Rattle.sk_model.specs.Told.{call, fire_all, push_to}
@@ -110,6 +110,8 @@ change_inner w (Recovers jid) = omega arith
 change_inner w (Forgets jid) = omega arith
 change_inner w (Locks digest jid seconds) = omega arith
 change_inner w (Unlocks digest jid) = omega arith
+change_inner w (Elects ident) = omega arith
+change_inner w (Marks loop slot text) = omega arith
 change_inner w (Makes batch jids) = omega arith
 change_inner w (Joins bid jids) = omega arith
 change_inner w (Tells event bid jid) = omega arith
@@ -126,7 +128,7 @@ quiet_calls [] q = refl
 quiet_calls (change ∷ changes) q = let f = first_quiet change changes q in omega (arith, quiet_call change f.0, quiet_calls changes f.1)
 
 -- each firing has at most one
-push_few : (text : Bytes) (found : Option Head) → callbacks (push_to Inner text found) ≤ 1
+pub push_few : (text : Bytes) (found : Option Head) → callbacks (push_to Inner text found) ≤ 1
 push_few text None = omega arith
 push_few text (Some h) = omega arith
 

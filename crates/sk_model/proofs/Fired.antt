@@ -18,7 +18,7 @@ use Rattle.sk_places.specs.declared.origin.Origin.{Origin}
 use Rattle.sk_places.specs.declared.origin.Origin.TheVariants.{Inner, Outside}
 use Rattle.sk_model.specs.World.{World}
 use Rattle.sk_places.specs.Lives.{one_if}
-use Rattle.sk_model.specs.Change.{Fire, Makes, Joins, Tells, Change, Moves, after_fire, changed, perform, Add}
+use Rattle.sk_model.specs.Change.{Fire, Makes, Joins, Tells, Marks, Change, Moves, after_fire, changed, perform, Add}
 use Rattle.sk_model.specs.Told.{push_to, push_job, call, fire_all}
 use Rattle.sk_model.specs.Once.{same_kind, times, times_in}
 pub use Rattle.sk_model.specs.Covered.{has_kind, was_fired}
@@ -38,6 +38,7 @@ is_quiet (Moves (Add row end Inner)) = false
 is_quiet (Makes batch jids) = false
 is_quiet (Joins bid jids) = false
 is_quiet (Tells event bid jid) = false
+is_quiet (Marks loop slot text) = false
 is_quiet other = true
 
 abbrev pub all_quiet : List Change → Bool
@@ -90,7 +91,7 @@ push_times : (kind : Kind) (b : Bytes) (text : Bytes) (found : Option Head) → 
 push_times kind b text None = refl
 push_times kind b text (Some h) = refl
 
-call_times : (kind : Kind) (b : Bytes) (o : Option Bytes) → times kind b (call o) ≡ 0
+pub call_times : (kind : Kind) (b : Bytes) (o : Option Bytes) → times kind b (call o) ≡ 0
 call_times kind b None = refl
 call_times kind b (Some text) = push_times kind b text (head text)
 

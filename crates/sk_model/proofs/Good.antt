@@ -11,7 +11,7 @@ use Rattle.sk_batch.specs.Batched.{Batched}
 use Rattle.sk_batch.specs.declared.firing.Kind.TheVariants.{Death}
 use Rattle.sk_seats.specs.declared.phase.Phase.{Phase}
 use Rattle.sk_model.specs.World.{World, phase_of}
-use Rattle.sk_model.specs.Change.{Add, Carry, Take, Trim, PutBack, Free, Change, Moves, Passes, Names, Unnames, Keeps, Turns, Beats, Counts, Recovers, Forgets, Locks, Unlocks, changed, perform}
+use Rattle.sk_model.specs.Change.{Add, Carry, Take, Trim, PutBack, Free, Change, Moves, Passes, Names, Unnames, Keeps, Turns, Beats, Counts, Recovers, Forgets, Locks, Unlocks, Elects, Marks, changed, perform}
 use Rattle.sk_places.specs.Lives.{one_if}
 use Rattle.sk_model.specs.Once.{CallsFollow, times, buries, is_dead_set}
 use Rattle.sk_places.specs.declared.origin.Origin.{Origin}
@@ -23,7 +23,7 @@ use Rattle.sk_model.proofs.Fired.{was_fired, all_quiet, quiet_batches, quiet_tim
 use Rattle.sk_model.proofs.Leads.{Leads, StaysWhole, leads_own, leads_same, leads_then}
 use Rattle.sk_model.proofs.Calls.{calls-append, calls_quiet}
 use Rattle.sk_model.proofs.Covering.{Covers, covers_append, covers_quiet}
-use Rattle.sk_model.proofs.Keeps.{KeepsJobs, keeps_nothing, keeps_append, keeps_others, keeps_add, keeps_put, keeps_carry, keeps_take, keeps_trim, keeps_free, keeps_turn, keeps_passes, keeps_names, keeps_unnames, keeps_keeps, keeps_beats, keeps_counts, keeps_recovers, keeps_forgets, keeps_locks, keeps_unlocks}
+use Rattle.sk_model.proofs.Keeps.{KeepsJobs, keeps_nothing, keeps_append, keeps_others, keeps_add, keeps_put, keeps_carry, keeps_take, keeps_trim, keeps_free, keeps_turn, keeps_passes, keeps_names, keeps_unnames, keeps_keeps, keeps_beats, keeps_counts, keeps_recovers, keeps_forgets, keeps_locks, keeps_unlocks, keeps_leads}
 
 -- a member of the batch was buried, and death was fired
 abbrev pub has_died : Batched → Bytes → Bool
@@ -174,6 +174,9 @@ good_locks w digest jid seconds = good_quiet w _ (keeps_locks w digest jid secon
 
 pub good_unlocks : (w : World) (digest jid : Bytes) → Good w (Unlocks digest jid ∷ [])
 good_unlocks w digest jid = good_quiet w _ (keeps_unlocks w digest jid) refl (λ b. refl)
+
+pub good_leads : (w : World) (ident : Bytes) → Good w (Elects ident ∷ [])
+good_leads w ident = good_quiet w _ (keeps_leads w ident) refl (λ b. refl)
 
 -- ## Time goes on, and then any changes
 

@@ -60,10 +60,10 @@ fault_away words fault.NotScore c holder read is = absurd (cc (one_command words
 fault_away words fault.BadBound c holder read is = absurd (cc (one_command words (Err fault.BadBound) (Ok c) read is (λ e. cc e) (λ e. cc e)))
 fault_away words fault.Syntax c holder read is = absurd (cc (one_command words (Err fault.Syntax) (Ok c) read is (λ e. cc e) (λ e. cc e)))
 
-abbrev read_as : Command → Read Command
+abbrev pub read_as : Command → Read Command
 read_as c = Ok c
 
-same_command : (c d : Command) → read_as c ≡ read_as d → c ≡ d
+pub same_command : (c d : Command) → read_as c ≡ read_as d → c ≡ d
 same_command c d e = cc e
 
 module _ (w : World) (seat now : ℕ) (text : Bytes) (score : Option ℤ) (h : Head) (holder : Bytes) (is : head text ≡ Some h) (held : holder_then (digest h) now w ≡ Some holder) where

@@ -13,7 +13,7 @@ use Rattle.sk_batch.specs.declared.firing.Kind.{Kind}
 use Rattle.sk_places.specs.Rows.{is_same, take_row}
 use Rattle.sk_seats.specs.declared.phase.Phase.{Phase}
 use Rattle.sk_model.specs.World.{World, phase_of}
-use Rattle.sk_model.specs.Change.{Add, Carry, Take, Trim, Merge, PutBack, Free, Change, Moves, Passes, Names, Unnames, Keeps, Turns, Beats, Counts, Recovers, Forgets, Locks, Unlocks, Fire, Makes, Joins, Tells, carried, moved, changed, perform}
+use Rattle.sk_model.specs.Change.{Add, Carry, Take, Trim, Merge, PutBack, Free, Change, Moves, Passes, Names, Unnames, Keeps, Turns, Beats, Counts, Recovers, Forgets, Locks, Unlocks, Elects, Marks, Fire, Makes, Joins, Tells, carried, moved, changed, perform}
 use Rattle.sk_model.specs.Laws.{copies, pushed, taken}
 use Rattle.sk_model.specs.Life.{Life, Live, IsKept, IsSound, Knows, life_after, life_through}
 use Rattle.sk_places.specs.declared.ending.Ending.TheVariants.{Deleted, Trimmed}
@@ -132,6 +132,12 @@ keeps_locks w digest jid seconds = quiet w (Locks digest jid seconds) (λ j life
 
 pub keeps_unlocks : (w : World) (digest jid : Bytes) → KeepsJobs w (Unlocks digest jid ∷ [])
 keeps_unlocks w digest jid = quiet w (Unlocks digest jid) (λ j life was live. was live) refl refl (λ text. omega arith)
+
+pub keeps_leads : (w : World) (ident : Bytes) → KeepsJobs w (Elects ident ∷ [])
+keeps_leads w ident = quiet w (Elects ident) (λ j life was live. was live) refl refl (λ text. omega arith)
+
+pub keeps_marks : (w : World) (loop : Bytes) (slot : ℕ) (text : Bytes) → KeepsJobs w (Marks loop slot text ∷ [])
+keeps_marks w loop slot text = quiet w (Marks loop slot text) (λ j life was live. was live) refl refl (λ text. omega arith)
 
 pub keeps_fire : (w : World) (bid : Bytes) (kind : Kind) → KeepsJobs w (Moves (Fire bid kind) ∷ [])
 keeps_fire w bid kind = quiet w (Moves (Fire bid kind)) (λ jid life was live. was live) refl refl (λ text. omega arith)

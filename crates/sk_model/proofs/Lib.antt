@@ -22,6 +22,7 @@ pub mod Sending
 pub mod Fronts
 pub mod Causing
 pub mod Unique
+pub mod Periodic
 pub mod Working
 pub mod Rescuing
 pub mod Making
@@ -30,6 +31,7 @@ pub mod Runs
 pub mod Firing
 pub mod Caused
 pub mod Holders
+pub mod Leaders
 pub mod Reliable
 pub mod Starving
 pub mod Running

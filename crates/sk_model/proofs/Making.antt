@@ -23,7 +23,7 @@ use Rattle.sk_places.specs.Lives.{one_if}
 use Rattle.sk_model.specs.Covered.{IsCovered, fired_count}
 use Rattle.sk_model.specs.Change.{Makes, Joins, Change, with_batch, changed, perform}
 use Rattle.sk_model.specs.Outcome.{Outcome}
-use Rattle.sk_model.specs.Room.{is_too_much}
+use Rattle.sk_model.specs.Room.{is_too_much, most_pushes}
 use Rattle.sk_model.specs.Told.{push_job, fire_all}
 use Rattle.sk_model.specs.Batches.{jids_of, unless, all_may_join, are_callbacks, push_jobs, make, batch_push, join, batch_add}
 use Rattle.sk_model.specs.Once.{CallsFollow, called, times, buries}
@@ -142,7 +142,7 @@ module _ (s : Batched) (batch : Batch) (jids : List Bytes) (new : is_there batch
     by_jids (j ∷ js) = tt
 
   -- what it fires is covered
-  pub made_count : (callbacks : ℕ) → IsCovered callbacks s → callbacks + length fs ≤ fired_count end.batches
+  pub made_count : (callbacks : ℕ) → IsCovered callbacks s → callbacks + length fs ≤ most_pushes + fired_count end.batches
   made_count callbacks c =
       let count = count_all s v fs made_leads (λ kind b h. grind (arith, h)) (λ b sane. none_dies_once s v fs b (no_deaths b).0) c.sane c.settled in
       omega (arith, count, c.fired)
@@ -276,7 +276,7 @@ bid_clear bid None s e = (grind (arith, e), tt)
 bid_clear bid (Some p) s e = (grind (arith, e), (grind (arith, e), grind (arith, e)))
 
 -- a batch that breaks no rule
-pub clear_count : (batch : Batch) (jids : List Bytes) (s : Batched) (callbacks : ℕ) → make_fault batch.bid batch.parent jids s ≡ None → IsCovered callbacks s → callbacks + length (made_fires batch jids) ≤ fired_count (made batch jids s).batches
+pub clear_count : (batch : Batch) (jids : List Bytes) (s : Batched) (callbacks : ℕ) → make_fault batch.bid batch.parent jids s ≡ None → IsCovered callbacks s → callbacks + length (made_fires batch jids) ≤ most_pushes + fired_count (made batch jids s).batches
 clear_count batch jids s callbacks none c =
     let k = bid_clear batch.bid batch.parent s (first_clear batch.bid batch.parent s _ none) in
     made_count s batch jids k.0 k.1 callbacks c

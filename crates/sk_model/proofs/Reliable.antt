@@ -2,6 +2,7 @@
 use Rattle.sk_model.specs.Reliable.{Reliable}
 use Rattle.sk_model.proofs.Caused.{moves_have_causes}
 use Rattle.sk_model.proofs.Holders.{one_holder}
+use Rattle.sk_model.proofs.Leaders.{one_leader, slots_rise}
 use Rattle.sk_model.proofs.Runs.{balance, conserve, copies_kept}
 use Rattle.sk_model.proofs.Firing.{batch_once, callbacks_follow, complete_once, death_once, settled_stays}
 
@@ -17,4 +18,6 @@ reliable limits steps run = record {
   callbacks_follow = callbacks_follow limits steps run;
   moves_have_causes = moves_have_causes limits steps run;
   one_holder = one_holder limits steps run;
+  one_leader = one_leader limits steps run;
+  slots_rise = slots_rise limits steps run;
 }

@@ -22,7 +22,7 @@ use Rattle.sk_places.specs.Totals.{accounted, pushes_in, count_push, count_end}
 use Rattle.sk_model.specs.World.{World, phase_of}
 use Rattle.sk_model.specs.Live.{fresh, is_live, born, count_job, with_end}
 use Rattle.sk_places.specs.Lives.{without_jid, one_if, over, was_live}
-use Rattle.sk_model.specs.Change.{Move, Add, Carry, Take, Trim, Merge, PutBack, Free, Change, Moves, Passes, Names, Unnames, Keeps, Turns, Beats, Counts, Recovers, Forgets, Locks, Unlocks, Fire, Makes, Joins, Tells, ending_of, freed, freed_at, freed_work, moved, changed}
+use Rattle.sk_model.specs.Change.{Move, Add, Carry, Take, Trim, Merge, PutBack, Free, Change, Moves, Passes, Names, Unnames, Keeps, Turns, Beats, Counts, Recovers, Forgets, Locks, Unlocks, Elects, Marks, Fire, Makes, Joins, Tells, ending_of, freed, freed_at, freed_work, moved, changed}
 use Rattle.sk_model.specs.Life.{Life, Unborn, Live, Ended, IsKept, IsSound, Knows, Balanced, is_distinct, ended, freed_life, life_at, life_of_work, life_after}
 use Rattle.sk_model.proofs.Texts.{bytes_tell}
 use Rattle.sk_model.proofs.Living.{has_jid, has_inserted, has_left, had_before, had_other, length_inserted, length_left, distinct_inserted, distinct_left}
@@ -96,6 +96,8 @@ module _ (w : World) (jid : Bytes) (before : Life) (distinct : is_distinct w.liv
   live_back (Forgets other) live = was live
   live_back (Locks digest other seconds) live = was live
   live_back (Unlocks digest other) live = was live
+  live_back (Elects ident) live = was live
+  live_back (Marks loop slot text) live = was live
   live_back (Makes batch jids) live = was live
   live_back (Joins bid jids) live = was live
   live_back (Tells event bid other) live = was live
@@ -167,6 +169,8 @@ module _ (w : World) (jid : Bytes) (before : Life) (was : before ≡ Live → is
   live_on (Forgets other) live = was live
   live_on (Locks digest other seconds) live = was live
   live_on (Unlocks digest other) live = was live
+  live_on (Elects ident) live = was live
+  live_on (Marks loop slot text) live = was live
   live_on (Makes batch jids) live = was live
   live_on (Joins bid jids) live = was live
   live_on (Tells event bid other) live = was live
@@ -271,6 +275,8 @@ module _ (w : World) (s : IsSound w) where
   change_counts (Forgets other) = (s.distinct, s.balanced)
   change_counts (Locks digest other seconds) = (s.distinct, s.balanced)
   change_counts (Unlocks digest other) = (s.distinct, s.balanced)
+  change_counts (Elects ident) = (s.distinct, s.balanced)
+  change_counts (Marks loop slot text) = (s.distinct, s.balanced)
   change_counts (Makes batch jids) = (s.distinct, s.balanced)
   change_counts (Joins bid jids) = (s.distinct, s.balanced)
   change_counts (Tells event bid other) = (s.distinct, s.balanced)

@@ -30,7 +30,7 @@ use Rattle.sk_seats.specs.declared.work.Stage.TheVariants.{Held, Put, Settled}
 use Rattle.sk_seats.specs.declared.work.Work.{Work}
 use Rattle.sk_seats.specs.Works.{first as first_work, is_done_as}
 use Rattle.sk_model.specs.World.{World, phase_of}
-use Rattle.sk_model.specs.Change.{Add, Carry, Take, Trim, Merge, PutBack, Free, Fire, Change, Moves, Passes, Names, Unnames, Keeps, Turns, Beats, Counts, Recovers, Forgets, Locks, Unlocks, Makes, Joins, Tells, changed, freed, freed_at, freed_work, perform}
+use Rattle.sk_model.specs.Change.{Add, Carry, Take, Trim, Merge, PutBack, Free, Fire, Change, Moves, Passes, Names, Unnames, Keeps, Turns, Beats, Counts, Recovers, Forgets, Locks, Unlocks, Elects, Marks, Makes, Joins, Tells, changed, freed, freed_at, freed_work, perform}
 use Rattle.sk_model.specs.Outcome.{Outcome, tells}
 use Rattle.sk_model.specs.Seats.{releases}
 use Rattle.sk_model.specs.Step.{Steps, may_starve, outcome}
@@ -202,6 +202,8 @@ changed_limits w (Recovers jid) = refl
 changed_limits w (Forgets jid) = refl
 changed_limits w (Locks digest jid seconds) = refl
 changed_limits w (Unlocks digest jid) = refl
+changed_limits w (Elects ident) = refl
+changed_limits w (Marks loop slot text) = refl
 changed_limits w (Makes batch jids) = refl
 changed_limits w (Joins bid jids) = refl
 changed_limits w (Tells event bid jid) = refl

@@ -30,6 +30,7 @@ use Rattle.sk_places.specs.Lives.{one_if}
 use Rattle.sk_model.specs.Covered.{IsCovered, fired_count}
 use Rattle.sk_model.specs.Change.{Fire, Tells, Change, Moves, changed, perform}
 use Rattle.sk_places.specs.Rows.{copies_of}
+use Rattle.sk_model.specs.Room.{most_pushes}
 use Rattle.sk_model.specs.Told.{push_to, push_job, call, fire_all, tell_in, tell_of, tell}
 use Rattle.sk_model.specs.Once.{CallsFollow, times, buries, is_of_batch, names_batch}
 use Rattle.sk_model.proofs.Texts.{bytes_tell}
@@ -257,7 +258,7 @@ told_dies event.Died bid jid s b sane =
     (grind (arith, one), λ some. grind (arith, one, some, there))
 
 -- as many callbacks more as are fired stay covered
-pub told_count : (callbacks : ℕ) (e : Event) (bid jid : Bytes) (s : Batched) → IsCovered callbacks s → callbacks + length (fires_of e bid jid s) ≤ fired_count (after_told e bid jid s).batches
+pub told_count : (callbacks : ℕ) (e : Event) (bid jid : Bytes) (s : Batched) → IsCovered callbacks s → callbacks + length (fires_of e bid jid s) ≤ most_pushes + fired_count (after_told e bid jid s).batches
 told_count callbacks e bid jid s c =
     let count = count_all s (marked (mark_of e) bid jid s) (fires_of e bid jid s) (leads_told e bid jid s) (λ kind b h. h) (told_dies e bid jid s) c.sane c.settled in
     omega (arith, count, c.fired)

@@ -1,5 +1,5 @@
 -- What moves come from. Each that takes a row away, puts a text back, or is the store's own push has its cause in the event, or in a change before it.
-use Rattle.std.specs.Prelude.{◌≡◌, ℕ, ℤ, pos, List, [], ◌∷◌, Option, Some, None, Ok, Bool, true, false, ◌||◌}
+use Rattle.std.specs.Prelude.{◌≡◌, ℕ, ℤ, nat_abs, pos, List, [], ◌∷◌, Option, Some, None, Ok, Bool, true, false, ◌||◌}
 use Rattle.std.specs.List.{list_any}
 use Rattle.sk_resp.specs.Spelling.{Bytes}
 use Rattle.sk_cmd.specs.Table.{IsRead}
@@ -21,7 +21,10 @@ use Rattle.sk_seats.specs.declared.phase.Phase.TheVariants.{Plain}
 use Rattle.sk_seats.specs.Phases.{works_of}
 use Rattle.sk_seats.specs.Works.{is_buried_as, is_held_as}
 use Rattle.sk_model.specs.World.{World, first, phase_of}
-use Rattle.sk_model.specs.Change.{Add, Carry, Take, Trim, PutBack, Free, Change, Moves, Locks, Unlocks, Tells, changed}
+use Rattle.sk_model.specs.Change.{Add, Carry, Take, Trim, PutBack, Free, Change, Moves, Passes, Locks, Unlocks, Elects, Marks, Tells, changed}
+use Rattle.sk_leases.specs.Leased.{is_led_by_another, last, leads}
+use Rattle.sk_model.specs.Periodic.{is_above, is_in_time, is_process}
+use Rattle.sk_model.specs.Reading.{Words}
 use Rattle.sk_model.specs.Seats.{releases}
 use Rattle.sk_model.specs.Event.{Event, Ask, Cut, Run, Step, after}
 use Rattle.sk_model.specs.Once.{called_by, is_dead_set}
@@ -108,6 +111,30 @@ pub record IsUnlocking (w : World) (digest_of jid : Bytes) (event : Event) : Typ
   pub digest_is : digest h ≡ digest_of
   pub jid_is : h.jid ≡ jid
 
+-- This process is alive and makes itself the leader, while no other one leads: SK.LEAD.
+pub record IsLeading (w : World) (ident : Bytes) (event : Event) : Type 0 where
+  pub seat : ℕ
+  pub now : ℕ
+  pub words : Words
+  pub event_is : event ≡ Ask seat now words
+  pub read : IsRead words (Ok (command.Script (script.Lead ident)))
+  pub process : is_process (changed w (Passes now)) ident ≡ true
+  pub free : is_led_by_another ident (changed w (Passes now)).moment (changed w (Passes now)).leases ≡ false
+
+-- The leader of that moment pushes this job for this slot of its loop, which is above the loop's last one, and open: SK.CRON.
+pub record IsSlot (w : World) (loop : Bytes) (slot : ℕ) (text : Bytes) (event : Event) : Type 0 where
+  pub seat : ℕ
+  pub now : ℕ
+  pub words : Words
+  pub ident : Bytes
+  pub number : ℤ
+  pub event_is : event ≡ Ask seat now words
+  pub read : IsRead words (Ok (command.Script (script.Cron ident loop number text)))
+  pub slot_is : nat_abs number ≡ slot
+  pub leads : leads ident (changed w (Passes now)).moment (changed w (Passes now)).leases ≡ true
+  pub rises : is_above slot (last loop w.leases) ≡ true
+  pub timely : is_in_time (changed w (Passes now)) slot ≡ true
+
 -- ## Each change
 
 -- a text comes into the dead set
@@ -116,7 +143,8 @@ is_burial (Moves (Carry row from to score end)) = is_dead_set to
 is_burial (Moves (PutBack row)) = is_dead_set row.place
 is_burial other = false
 
--- w: the world before the event. buried: whether a text came into the dead set earlier in the event. due: the callback of the firing just before it.
+-- w: the world before the event. buried: whether a text came into the dead set earlier in the event. due: the callback of the firing just before it, or
+-- the job of the slot.
 abbrev pub HasCause : World → Event → Bool → List Change → Change → Type 0
 HasCause w event buried due (Moves (Take row from)) = IsRemoval w event
 HasCause w event buried due (Moves (Trim row)) = (is_dead_set row.place ≡ true) × (buried ≡ true)
@@ -126,6 +154,8 @@ HasCause w event buried due (Moves (Add row end Inner)) = due ≡ Moves (Add row
 HasCause w event buried due (Tells Returned bid jid) = IsReturn w bid jid event
 HasCause w event buried due (Locks digest_of jid seconds) = IsLocking digest_of jid seconds event
 HasCause w event buried due (Unlocks digest_of jid) = IsUnlocking w digest_of jid event
+HasCause w event buried due (Elects ident) = IsLeading w ident event
+HasCause w event buried due (Marks loop slot text) = IsSlot w loop slot text event
 HasCause w event buried due other = Unit {0}
 
 -- v: the world that the changes before these left

@@ -28,7 +28,7 @@ use Rattle.sk_batch.specs.Told.{mark_of}
 use Rattle.sk_batch.specs.declared.batch.Batch.{Batch}
 use Rattle.sk_batch.specs.declared.event.Event.{Event}
 use Rattle.sk_batch.specs.declared.firing.Kind.{Kind}
-use Rattle.sk_leases.specs.Leased.{beat, recovered, forgotten, locked, unlocked, purged as still_leased}
+use Rattle.sk_leases.specs.Leased.{beat, recovered, forgotten, locked, unlocked, led, marked as slotted, purged as still_leased}
 use Rattle.sk_seats.specs.declared.phase.Phase.{Phase}
 use Rattle.sk_seats.specs.declared.phase.Phase.TheVariants.{Plain, Joined}
 use Rattle.sk_seats.specs.declared.work.Stage.{Stage}
@@ -78,6 +78,10 @@ pub data Change : Type 0 where
   Locks : (digest jid : Bytes) → (seconds : ℕ) → Change
   -- a job lets go of the lock under a digest, if it is the holder
   Unlocks : (digest jid : Bytes) → Change
+  -- a process leads for half a minute from now on
+  Elects : (ident : Bytes) → Change
+  -- This is the last slot of a periodic job now. The text is pushed next.
+  Marks : (loop : Bytes) → (slot : ℕ) → (text : Bytes) → Change
   -- a batch is made, with its first jobs
   Makes : (batch : Batch) → (jids : List Bytes) → Change
   -- a batch gets more jobs
@@ -122,8 +126,8 @@ moved w (PutBack row) = record w { rows = put_row Left row w.rows; names = named
 moved w (Free seat text) = freed text w (phase_of w seat)
 moved w (Fire bid kind) = record w { batches = after_fire bid kind w.batches }
 
--- The greatest moment counts, up to the last one that is told apart. Plain keys, heartbeats, recoveries and locks whose deadline it has reached are
--- gone.
+-- The greatest moment counts, up to the last one that is told apart. Plain keys, heartbeats, recoveries, locks and the lease of the leader are gone
+-- whose deadline it has reached.
 abbrev pub moment_after : ℕ → World → ℕ
 moment_after now w = max w.moment (min now last_moment)
 
@@ -143,6 +147,8 @@ changed w (Recovers jid) = record w { leases = recovered jid w.moment w.leases }
 changed w (Forgets jid) = record w { leases = forgotten jid w.leases }
 changed w (Locks digest jid seconds) = record w { leases = locked digest jid seconds w.moment w.leases }
 changed w (Unlocks digest jid) = record w { leases = unlocked digest jid w.leases }
+changed w (Elects ident) = record w { leases = led ident w.moment w.leases }
+changed w (Marks loop slot text) = record w { leases = slotted loop slot w.leases }
 changed w (Makes batch jids) = record w { batches = joined batch.bid jids (with_batch batch w.batches) }
 changed w (Joins bid jids) = record w { batches = joined bid jids w.batches }
 changed w (Tells event bid jid) = record w { batches = marked (mark_of event) bid jid w.batches }

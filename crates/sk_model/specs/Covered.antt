@@ -1,5 +1,5 @@
 -- Each callback that was pushed stands behind something that was fired of a batch, and of a batch each kind is fired once. So there are no more of them
--- than three for a batch.
+-- than three for a batch. A periodic job is pushed where there is room.
 use Rattle.std.specs.Prelude.{◌≡◌, ◌≤◌, ℕ, ◌+◌, List, [], ◌∷◌, Option, Some, None, Bool, true, false, cond}
 use Rattle.sk_resp.specs.Spelling.{Bytes}
 use Rattle.sk_batch.specs.Batched.{Batched, BatchEntry, MemberEntry, has_bid, is_there}
@@ -8,6 +8,7 @@ use Rattle.sk_batch.specs.declared.batch.Fired.{Fired}
 use Rattle.sk_batch.specs.declared.firing.Kind.{Kind}
 use Rattle.sk_batch.specs.declared.firing.Kind.TheVariants.{Complete, Success, Death}
 use Rattle.sk_places.specs.Lives.{one_if}
+use Rattle.sk_model.specs.Room.{most_pushes}
 
 -- ## Batches in order
 
@@ -52,8 +53,9 @@ fired_count (e ∷ es) = kinds_fired e.0 + fired_count es
 
 -- ## Callbacks
 
--- So many callbacks were pushed: no more than were fired. What succeeded is settled, so that it won't fire again.
-pub record IsCovered (callbacks : ℕ) (s : Batched) : Type 0 where
+-- So many rows were pushed by the store itself: as periodic jobs no more than there is room for, and as callbacks no more than were fired. What
+-- succeeded is settled, so that it won't fire again.
+pub record IsCovered (inner : ℕ) (s : Batched) : Type 0 where
   pub sane : Sane s
   pub settled : (b : Bytes) → was_fired Success b s.batches ≡ true → is_settled s b ≡ true
-  pub fired : callbacks ≤ fired_count s.batches
+  pub fired : inner ≤ most_pushes + fired_count s.batches

@@ -1,5 +1,5 @@
 -- What holds of every run of events.
-use Rattle.std.specs.Prelude.{◌≡◌, ◌⊎◌, ℕ, ℤ, ◌+◌, List, [], ◌∷◌, Bool, true, false, ◌&&◌, cond, Option, Some, Ok}
+use Rattle.std.specs.Prelude.{◌≡◌, ◌==◌, ◌⊎◌, ℕ, ℤ, ◌+◌, List, [], ◌∷◌, Bool, true, false, ◌&&◌, cond, Option, Some, Ok}
 use Rattle.std.specs.List.{list_all, list_any}
 use Rattle.std.specs.Str.{bytes_eq}
 use Rattle.sk_resp.specs.Spelling.{Bytes}
@@ -9,7 +9,9 @@ use Rattle.sk_resp.specs.declared.say.Say.TheVariants as say
 use Rattle.sk_cmd.specs.Table.{IsRead}
 use Rattle.sk_cmd.specs.declared.command.Command.TheVariants as command
 use Rattle.sk_cmd.specs.declared.command.ScriptCommand.TheVariants as script
-use Rattle.sk_leases.specs.Leased.{holder_at}
+use Rattle.sk_leases.specs.Leased.{holder_at, is_led_by_another}
+use Rattle.sk_value.specs.Answer.{counted}
+use Rattle.sk_model.specs.Causes.{IsSlot}
 use Rattle.sk_payload.specs.Head.{head}
 use Rattle.sk_payload.specs.declared.head.Head.{Head}
 use Rattle.sk_model.specs.declared.limits.Limits.{Limits}
@@ -20,7 +22,7 @@ use Rattle.sk_seats.specs.declared.phase.Phase.{Phase}
 use Rattle.sk_seats.specs.declared.phase.Phase.TheVariants.{Plain, Joined}
 use Rattle.sk_seats.specs.Works.{is_done_as}
 use Rattle.sk_model.specs.World.{World, first, phase_of}
-use Rattle.sk_model.specs.Change.{Add, Take, Trim, Merge, PutBack, Free, Change, Moves, Passes, changed}
+use Rattle.sk_model.specs.Change.{Add, Take, Trim, Merge, PutBack, Free, Change, Moves, Passes, Marks, changed}
 use Rattle.sk_model.specs.Digest.{digest}
 use Rattle.sk_model.specs.Event.{Event, Ask, Cut, Run, Step, after}
 use Rattle.sk_model.specs.Outcome.{Outcome}
@@ -150,3 +152,38 @@ OneHolderFrom w (step ∷ steps) = KeepsHolder w step.event step.outcome × OneH
 -- It is so at every step of every run.
 abbrev pub OneHolder : Type 0
 OneHolder = (limits : Limits) (steps : List Step) → Run (first limits) steps → OneHolderFrom (first limits) steps
+
+-- ## One process leads
+
+-- The reply is 0 or a refusal, and time alone goes on.
+pub record IsNotLed (o : Outcome) : Type 0 where
+  pub reply : (o.reply ≡ counted 0) ⊎ (is_refusal o.reply ≡ true)
+  pub still : list_all is_time o.changes ≡ true
+
+-- While one process leads, no other one comes to.
+abbrev pub KeepsLeader : World → Event → Outcome → Type 0
+KeepsLeader w (Ask seat now words) o = (ident : Bytes) → IsRead words (Ok (command.Script (script.Lead ident)))
+    → is_led_by_another ident (changed w (Passes now)).moment (changed w (Passes now)).leases ≡ true → IsNotLed o
+KeepsLeader w (Cut seat) o = Unit {0}
+
+abbrev pub OneLeaderFrom : World → List Step → Type 0
+OneLeaderFrom w [] = Unit {0}
+OneLeaderFrom w (step ∷ steps) = KeepsLeader w step.event step.outcome × OneLeaderFrom (after w step) steps
+
+abbrev pub OneLeader : Type 0
+OneLeader = (limits : Limits) (steps : List Step) → Run (first limits) steps → OneLeaderFrom (first limits) steps
+
+-- ## Slots rise
+
+-- the change gives the loop this slot
+abbrev pub is_mark : Bytes → ℕ → Change → Bool
+is_mark loop slot (Marks other number text) = bytes_eq other loop && (number == slot)
+is_mark loop slot other = false
+
+-- Each slot that a loop gets is above its last one. The leader of that moment sent it, and it was open.
+abbrev pub SlotsRiseFrom : World → List Step → Type 0
+SlotsRiseFrom w [] = Unit {0}
+SlotsRiseFrom w (step ∷ steps) = ((loop : Bytes) (slot : ℕ) → list_any (is_mark loop slot) step.outcome.changes ≡ true → (text : Bytes) × IsSlot w loop slot text step.event) × SlotsRiseFrom (after w step) steps
+
+abbrev pub SlotsRise : Type 0
+SlotsRise = (limits : Limits) (steps : List Step) → Run (first limits) steps → SlotsRiseFrom (first limits) steps

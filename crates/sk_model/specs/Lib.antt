@@ -13,6 +13,7 @@ pub mod Batches
 pub mod Seats
 pub mod Digest
 pub mod Unique
+pub mod Periodic
 pub mod Workers
 pub mod Rescue
 pub mod Status
@@ -22,9 +23,9 @@ pub mod Event
 pub mod Run
 pub mod Acked
 pub mod Life
-pub mod Laws
 pub mod Once
 pub mod Covered
 pub mod Causes
+pub mod Laws
 pub mod Reliable
 pub mod Starving

@@ -16,8 +16,9 @@ use Rattle.sk_batch.specs.declared.firing.Kind.TheVariants.{Complete, Success, D
 use Rattle.sk_model.specs.declared.limits.Limits.{Limits}
 use Rattle.sk_model.specs.World.{World, first}
 use Rattle.sk_places.specs.Lives.{one_if}
-use Rattle.sk_model.specs.Change.{Carry, PutBack, Fire, Change, Moves, changed}
-use Rattle.sk_model.specs.Told.{call}
+use Rattle.sk_model.specs.Change.{Carry, PutBack, Fire, Marks, Change, Moves, changed}
+use Rattle.sk_places.specs.declared.origin.Origin.TheVariants.{Inner}
+use Rattle.sk_model.specs.Told.{call, push_job}
 use Rattle.sk_model.specs.Event.{Run, Step, after}
 
 -- ## How often something is fired
@@ -136,9 +137,10 @@ callback_of kind (b ∷ more) = callback kind b.1.callbacks
 abbrev pub called : Kind → Bytes → Batched → Option Bytes
 called kind bid s = callback_of kind (filter (has_bid bid) s.batches)
 
--- what is to follow a change: a firing's callback is pushed
+-- what is to follow a change: a firing's callback is pushed, and the job of a slot
 abbrev pub called_by : World → Change → List Change
 called_by w (Moves (Fire bid kind)) = call (called kind bid w.batches)
+called_by w (Marks loop slot text) = push_job Inner text
 called_by w other = []
 
 -- these changes come first
@@ -153,6 +155,6 @@ abbrev pub CallsFollowFrom : World → List Step → Type 0
 CallsFollowFrom w [] = Unit {0}
 CallsFollowFrom w (step ∷ steps) = CallsFollow w step.outcome.changes × CallsFollowFrom (after w step) steps
 
--- Each firing is followed at once by the push of the batch's callback, where it has one.
+-- Each firing is followed at once by the push of the batch's callback, where it has one, and each slot by the push of its job.
 abbrev pub CallbacksFollow : Type 0
 CallbacksFollow = (limits : Limits) (steps : List Step) → Run (first limits) steps → CallsFollowFrom (first limits) steps

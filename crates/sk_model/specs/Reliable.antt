@@ -4,7 +4,7 @@ use Rattle.sk_model.specs.declared.limits.Limits.{Limits}
 use Rattle.sk_model.specs.World.{first}
 use Rattle.sk_model.specs.Causes.{CausesFrom}
 use Rattle.sk_model.specs.Event.{Step, Run}
-use Rattle.sk_model.specs.Laws.{BalanceFrom, CopiesKeptFrom, LiveJobsStand, OneHolderFrom}
+use Rattle.sk_model.specs.Laws.{BalanceFrom, CopiesKeptFrom, LiveJobsStand, OneHolderFrom, OneLeaderFrom, SlotsRiseFrom}
 use Rattle.sk_model.specs.Life.{Unborn}
 use Rattle.sk_model.specs.Once.{CallsFollowFrom, CompleteOnceFrom, DeathOnceFrom, SettledStaysFrom, SuccessOnceFrom}
 
@@ -29,6 +29,10 @@ pub record IsReliable (limits : Limits) (steps : List Step) : Type 0 where
   pub moves_have_causes : CausesFrom (first limits) steps
   -- While a lock stands, a unique push under its digest is answered by the holder's id or by a refusal, and moves nothing.
   pub one_holder : OneHolderFrom (first limits) steps
+  -- While one process leads no other one comes to.
+  pub one_leader : OneLeaderFrom (first limits) steps
+  -- The slots of each periodic job rise, each sent in time by the leader of that moment.
+  pub slots_rise : SlotsRiseFrom (first limits) steps
 
 -- every run is
 abbrev pub Reliable : Type 0

@@ -40,6 +40,7 @@ use Rattle.sk_model.specs.Life.{rows_of}
 use Rattle.sk_model.specs.Status.{status}
 use Rattle.sk_model.specs.Workers.{beat, join, work, start, ok, drop, fail, bury, back}
 use Rattle.sk_model.specs.Unique.{unique_push}
+use Rattle.sk_model.specs.Periodic.{cron, lead}
 use Rattle.sk_model.specs.Batches.{batch_of, batch_push, batch_add, batch_stat}
 
 -- ## Keys of the clients' own
@@ -103,11 +104,6 @@ by_seat w seat phase c = cond (is_workers (action_of c)) (work w seat phase (act
 
 -- ## The commands of the store's own
 
-abbrev pub is_script_built : ScriptCommand → Bool
-is_script_built (script.Lead ident) = false
-is_script_built (script.Cron ident loop slot text) = false
-is_script_built other = true
-
 abbrev pub run : World → ℕ → Phase → ScriptCommand → Outcome
 run w seat phase (script.Beat ident) = beat ident
 run w seat phase (script.Join ident) = where_plain phase (join w seat ident)
@@ -127,7 +123,8 @@ run w seat phase (script.Badd bid texts) = batch_add w bid texts
 run w seat phase (script.Bstat bid) = batch_stat w bid
 run w seat phase (script.Where jid) = says (counted (rows_of jid w))
 run w seat phase script.Status = status w
-run w seat phase other = tells say.NotBuilt
+run w seat phase (script.Lead ident) = where_plain phase (lead w ident)
+run w seat phase (script.Cron ident loop slot text) = where_plain phase (cron w ident loop (nat_abs slot) text)
 
 -- ## The step
 
@@ -139,9 +136,9 @@ abbrev pub plain_outcome : World → ℕ → ℕ → PlainCommand → Outcome
 plain_outcome w seat now c = at_moment now (by_seat (changed w (Passes now)) seat (phase_of w seat) c)
 
 abbrev pub script_outcome : World → ℕ → ℕ → ScriptCommand → Outcome
-script_outcome w seat now c = cond (is_script_built c) (at_moment now (run (changed w (Passes now)) seat (phase_of w seat) c)) (tells say.NotBuilt)
+script_outcome w seat now c = at_moment now (run (changed w (Passes now)) seat (phase_of w seat) c)
 
--- What the store makes of a command that a seat hands it at a moment. A form that isn't built leaves the world as it is.
+-- What the store makes of a command that a seat hands it at a moment.
 abbrev pub outcome : World → ℕ → ℕ → Command → Outcome
 outcome w seat now (command.Plain c) = plain_outcome w seat now c
 outcome w seat now (command.Script c) = script_outcome w seat now c

@@ -31,7 +31,7 @@ pub record World : Type 0 where
   pub phases : Phases
   -- how many jobs ran, and how many runs failed
   pub counters : Counters
-  -- the heartbeats of worker processes, the recoveries of jobs, and the locks of unique jobs
+  -- the heartbeats of worker processes, the recoveries of jobs, the locks of unique jobs, the leader, and the last slots of periodic jobs
   pub leases : Leased
   -- the batches of jobs, and what came of their members
   pub batches : Batched

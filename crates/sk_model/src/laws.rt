@@ -1,7 +1,7 @@
 // What holds of every run of events.
 ghost use Rattle.std.specs.Prelude.{◌≡◌};
 ghost use Rattle.sk_model.specs.Causes.{MovesHaveCauses};
-ghost use Rattle.sk_model.specs.Laws.{Balance, Conserve, CopiesKept, OneHolder};
+ghost use Rattle.sk_model.specs.Laws.{Balance, Conserve, CopiesKept, OneHolder, OneLeader, SlotsRise};
 ghost use Rattle.sk_model.specs.Once.{BatchOnce, CallbacksFollow, CompleteOnce, DeathOnce, SettledStays};
 ghost use Rattle.sk_model.specs.Reading.{IsSaid, Said, SomeReading, Words};
 ghost use Rattle.sk_model.specs.Reliable.{Reliable};
@@ -70,6 +70,17 @@ pub fn moves_have_causes()
 /// and nothing moves: time alone goes on.
 pub fn a_lock_has_one_holder()
     ensures { OneHolder }
+{}
+
+/// While one process leads, SK.LEAD of another one is answered by 0 or by a refusal, and time alone goes on.
+pub fn one_process_leads()
+    ensures { OneLeader }
+{}
+
+/// The slots of each periodic job strictly rise. Each was sent by the process whose lease stood at that moment, and had come, not more than 600,000
+/// milliseconds ago.
+pub fn slots_rise()
+    ensures { SlotsRise }
 {}
 
 /// All of these hold of each run together.
