@@ -15,7 +15,7 @@ use Rattle.sk_payload.specs.declared.draft_fault.DraftFault.TheVariants as why
 use Rattle.sk_payload.specs.declared.draft.JobDraft.{JobDraft}
 use Rattle.sk_payload.specs.declared.draft_fault.DraftFault.{DraftFault}
 use Rattle.sk_client.specs.Drafts.{first_fault, AreBuilt, IsFirstFault, texts}
-use Rattle.sk_client.specs.Push.{NotBuilt}
+use Rattle.sk_client.specs.Making.{NotBuilt}
 use Rattle.sk_client.specs.Bulk.{queue_of}
 use Rattle.sk_client.specs.declared.client_fault.ClientFault.{ClientFault}
 use Rattle.sk_client.specs.declared.client_fault.ClientFault.TheVariants as fault

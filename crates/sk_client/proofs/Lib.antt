@@ -1,3 +1,3 @@
 pub mod Built
-pub mod Requests
+pub mod Held
 pub mod Slices

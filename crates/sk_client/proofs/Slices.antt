@@ -9,8 +9,9 @@ use Rattle.sk_link.specs.Asking.{is_number}
 use Rattle.sk_link.specs.Call.{Call}
 use Rattle.sk_link.specs.declared.asking.Answer.TheVariants as answer
 use Rattle.sk_resp.specs.declared.reply.Reply.TheVariants as reply
-use Rattle.sk_client.specs.Push.{Push, Accepted, Fails, IsOfNoDraft, accepts}
-use Rattle.sk_client.specs.Requests.{lpush_words, lpush_slice}
+use Rattle.sk_client.specs.Push.{Push, Accepted, Fails, accepts}
+use Rattle.sk_client.specs.Making.{IsOfNoDraft, lpush_slice}
+use Rattle.sk_client.specs.Requests.{lpush_words}
 use Rattle.sk_client.specs.Bulk.{IsSlice, PushesSlices, PushesFirst, StopsAt, request_length}
 use Rattle.sk_client.specs.declared.client_fault.ClientFault.{ClientFault}
 use Rattle.sk_client.specs.declared.client_fault.ClientFault.TheVariants as fault

@@ -37,14 +37,6 @@ AcceptedBy Carried push r = AreBuilt push.drafts × Carries Carried push r × (a
 abbrev pub Accepted : (List Call → Type 0) → Push → Type 0
 Accepted Carried push = (r : Reply) × AcceptedBy Carried push r
 
--- The first draft that can't be built has that fault, or there was no memory.
-abbrev pub NotBuilt : List JobDraft → ClientFault → Type 0
-NotBuilt drafts (fault.Draft f) = IsFirstFault drafts f
-NotBuilt drafts (fault.Link f) = ⊥
-NotBuilt drafts (fault.Refused r) = ⊥
-NotBuilt drafts (fault.Held jid) = ⊥
-NotBuilt drafts fault.Memory = Unit {0}
-
 -- What each fault says. Draft: the first draft that can't be built has it, and nothing was sent. Link: the request has no reply.
 -- Refused: its reply is no answer. Held: its answer is the job that holds the lock. Memory: nothing was sent.
 abbrev pub Fails : (List Call → Type 0) → Push → ClientFault → Type 0
@@ -54,29 +46,11 @@ Fails Carried push (fault.Refused r) = AreBuilt push.drafts × Carries Carried p
 Fails Carried push (fault.Held jid) = AreBuilt push.drafts × Carries Carried push (reply.Bulk jid) × (answers push.wanted (reply.Bulk jid) ≡ true)
 Fails Carried push fault.Memory = Carried []
 
--- The fault is of no draft.
-abbrev pub IsOfNoDraft : ClientFault → Type 0
-IsOfNoDraft (fault.Draft f) = ⊥
-IsOfNoDraft (fault.Link f) = Unit {0}
-IsOfNoDraft (fault.Refused r) = Unit {0}
-IsOfNoDraft (fault.Held jid) = Unit {0}
-IsOfNoDraft fault.Memory = Unit {0}
-
 -- A fault of the link has its cause: by the count of faults before and now, by whether the link had ended before, and by the bytes behind
 -- the last whole reply.
-abbrev pub HasCause : ℕ → ℕ → Bool → Option Bytes → ClientFault → Type 0
-HasCause before now ended unread (fault.Draft f) = Unit {0}
-HasCause before now ended unread (fault.Link f) = IsCause before now ended unread f
-HasCause before now ended unread (fault.Refused r) = Unit {0}
-HasCause before now ended unread (fault.Held jid) = Unit {0}
-HasCause before now ended unread fault.Memory = Unit {0}
-
--- The request was made, or why it wasn't.
-abbrev pub Makes : Push → Result (List Bytes) ClientFault → Type 0
-Makes push (Ok words) = (words ≡ push.words) × AreBuilt push.drafts
-Makes push (Err f) = NotBuilt push.drafts f
-
--- The words grew by the texts of these drafts, or why they didn't.
-abbrev pub Adds : List JobDraft → List Bytes → List Bytes → List Bytes → Result Unit ClientFault → Type 0
-Adds drafts texts old new (Ok done) = (new ≡ old ++ texts) × AreBuilt drafts
-Adds drafts texts old new (Err f) = NotBuilt drafts f
+abbrev pub HasLinkCause : ℕ → ℕ → Bool → Option Bytes → ClientFault → Type 0
+HasLinkCause before now ended unread (fault.Draft f) = Unit {0}
+HasLinkCause before now ended unread (fault.Link f) = IsCause before now ended unread f
+HasLinkCause before now ended unread (fault.Refused r) = Unit {0}
+HasLinkCause before now ended unread (fault.Held jid) = Unit {0}
+HasLinkCause before now ended unread fault.Memory = Unit {0}

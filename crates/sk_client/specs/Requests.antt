@@ -45,7 +45,3 @@ bpush batch = record { drafts = drafts_of batch; words = bpush_words batch; want
 -- `SK.BADD bid text ..`
 abbrev pub badd : Bytes → List JobDraft → Push
 badd bid jobs = record { drafts = jobs; words = codes "SK.BADD" ∷ bid ∷ texts jobs; wanted = Number }
-
--- `LPUSH queue:q text ..` of texts that are built
-abbrev pub lpush_slice : Bytes → List Bytes → Push
-lpush_slice queue slice = record { drafts = []; words = lpush_words queue slice; wanted = Number }

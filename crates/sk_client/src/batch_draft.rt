@@ -1,6 +1,7 @@
 // Batches: a new one with its callbacks and jobs, and more jobs for one that is open.
 ghost use Rattle.std.specs.Prelude.{◌≡◌, ◌<◌, IfOk, IfErr, OnOk, length};
-ghost use Rattle.sk_client.specs.Push.{Accepted, AcceptedBy, Fails, HasCause, Makes};
+ghost use Rattle.sk_client.specs.Push.{Accepted, AcceptedBy, Fails, HasLinkCause};
+ghost use Rattle.sk_client.specs.Making.{Makes};
 ghost use Rattle.sk_client.specs.Requests.{bpush, badd};
 
 use crate::ClientFault;
@@ -11,18 +12,19 @@ use sk_payload::JobDraft;
 use sk_resp::{Reply, Text, Words};
 use std::alloc::Global;
 
-/// A batch to be made (Sidekiq's wiki, "Batches"). The store refuses jobs whose `bid` is another, and callbacks with a `bid` or a lock.
+/// A batch that isn't made yet (Sidekiq's wiki, "Batches"). The store refuses it where a job's `bid` isn't the batch's, or where a callback has a `bid`
+/// or a lock.
 #[derive(Drop)]
 pub struct BatchDraft {
     /// Its id, a name of at most 64 bytes.
     pub bid: Text,
-    /// The batch that it stands in.
+    /// The id of the batch that it stands in.
     pub parent: Option<Text>,
-    /// The job that is pushed once each of its jobs has run.
+    /// The callback that is pushed once each of its jobs has run.
     pub complete: Option<JobDraft>,
-    /// The job that is pushed once each of its jobs has succeeded.
+    /// The callback that is pushed once each of its jobs has succeeded.
     pub success: Option<JobDraft>,
-    /// The job that is pushed once one of its jobs has died.
+    /// The callback that is pushed once one of its jobs has died.
     pub death: Option<JobDraft>,
     /// Its jobs.
     pub jobs: Vec<JobDraft>,
@@ -43,12 +45,14 @@ impl BatchDraft {
         Ok(Words::new(words))
     }
 
-    /// Makes the batch, and pushes its jobs (`SK.BPUSH`). Answers the events that this fired, each a batch and a word: where it has no jobs,
-    /// these are its own `complete` and `success`, and those of the batches that it stood in.
+    /// Makes the batch, and pushes each of its jobs at the left end of its queue (`SK.BPUSH`). Answers the store's array of the events that this
+    /// fired, as pairs of a bid and a word: a batch without jobs fires its own `complete` and `success`, and another fires none.
+    ///
+    /// The texts are built in the order of the fields: `complete`, `success`, `death`, and then the jobs.
     pub fn send<L: Link>(&self, alloc: Global, link: &mut L) -> Result<Reply, ClientFault>
         ensures ok { IfOk result (AcceptedBy (L.carried link.old link.new) (bpush self.now)) }
         ensures err { IfErr result (Fails (L.carried link.old link.new) (bpush self.now)) }
-        ensures cause { IfErr result (HasCause (L.faults link.old) (L.faults link.new) (L.has_ended link.old) (L.unread link.new)) }
+        ensures cause { IfErr result (HasLinkCause (L.faults link.old) (L.faults link.new) (L.has_ended link.old) (L.unread link.new)) }
     {
         let words = self.words(alloc)?;
         request(alloc, link, &words, Answer::List)
@@ -64,7 +68,7 @@ fn badd_words(alloc: Global, bid: &str, jobs: &[JobDraft]) -> Result<Words, Clie
     Ok(Words::new(words))
 }
 
-/// Adds jobs to an open batch, and pushes them (`SK.BADD`).
+/// Adds one or more jobs to an open batch, and pushes each at the left end of its queue (`SK.BADD`; Sidekiq's wiki, "Batches").
 pub fn batch_add<L: Link>(
     alloc: Global,
     link: &mut L,
@@ -74,7 +78,7 @@ pub fn batch_add<L: Link>(
     requires { 0 < length jobs.now }
     ensures ok { OnOk result (Accepted (L.carried link.old link.new) (badd bid.now jobs.now)) }
     ensures err { IfErr result (Fails (L.carried link.old link.new) (badd bid.now jobs.now)) }
-    ensures cause { IfErr result (HasCause (L.faults link.old) (L.faults link.new) (L.has_ended link.old) (L.unread link.new)) }
+    ensures cause { IfErr result (HasLinkCause (L.faults link.old) (L.faults link.new) (L.has_ended link.old) (L.unread link.new)) }
 {
     let words = badd_words(alloc, bid, jobs)?;
     send(alloc, link, &words, Answer::Number)

@@ -1,8 +1,9 @@
-// Many jobs pushed to one queue. All texts are built first, and then they are sent slice by slice.
+// Pushes of many jobs to one queue. All texts are built first, and then they are sent slice by slice, each slice as one request.
 ghost use Rattle.std.specs.Prelude.{◌≡◌, ◌<◌, ◌≤◌, ℕ, IfOk, IfErr, OnOk, All, length, take, drop, false, true};
 ghost use Rattle.sk_client.specs.Drafts.{AreBuilt, texts as texts_of};
-ghost use Rattle.sk_client.specs.Push.{Accepted, Fails, HasCause, IsOfNoDraft};
-ghost use Rattle.sk_client.specs.Requests.{lpush_words, lpush_slice};
+ghost use Rattle.sk_client.specs.Push.{Accepted, Fails, HasLinkCause};
+ghost use Rattle.sk_client.specs.Making.{IsOfNoDraft, lpush_slice};
+ghost use Rattle.sk_client.specs.Requests.{lpush_words};
 ghost use Rattle.sk_client.specs.Bulk.{NameOneQueue, IsSlice, StopsAt, PushesFirst, PushesAll, FailsAt};
 
 use crate::send::send;
@@ -19,8 +20,9 @@ const MOST_BYTES: usize = 16_777_216;
 /// Why not all jobs were pushed.
 #[derive(Drop)]
 pub struct BulkFault {
-    /// How many were pushed, in slices that the store accepted. They are the first ones.
+    /// How many were pushed, in slices that the store accepted: the first ones of the list.
     pub sent: u64,
+    /// Why no more were. After a fault of the link the store may have taken the next slice all the same.
     pub fault: ClientFault,
 }
 
@@ -57,6 +59,7 @@ fn slice_words(alloc: Global, queue: &str, texts: &[Word]) -> Result<Words, Memo
     Ok(Words::new(words))
 }
 
+// Pushes one slice.
 fn push_slice<L: Link>(
     alloc: Global,
     link: &mut L,
@@ -65,7 +68,7 @@ fn push_slice<L: Link>(
 ) -> Result<(), ClientFault>
     ensures ok { OnOk result (Accepted (L.carried link.old link.new) (lpush_slice queue.now texts.now)) }
     ensures err { IfErr result (Fails (L.carried link.old link.new) (lpush_slice queue.now texts.now)) }
-    ensures cause { IfErr result (HasCause (L.faults link.old) (L.faults link.new) (L.has_ended link.old) (L.unread link.new)) }
+    ensures cause { IfErr result (HasLinkCause (L.faults link.old) (L.faults link.new) (L.has_ended link.old) (L.unread link.new)) }
     ensures drafts { IfErr result IsOfNoDraft }
     ensures later { L.faults link.old ≤ L.faults link.new }
     ensures ends { OnOk result (L.has_ended link.new ≡ false) }
@@ -87,7 +90,7 @@ fn push_slices<L: Link>(
     requires short { All (λ text. length text ≤ 1000000) texts.now }
     ensures ok { IfOk result (λ _. PushesFirst (L.carried link.old link.new) queue.now most texts.now (length texts.now)) }
     ensures err { IfErr result (λ e. StopsAt (L.carried link.old link.new) queue.now most texts.now e.sent e.fault) }
-    ensures cause { IfErr result (λ e. HasCause (L.faults link.old) (L.faults link.new) (L.has_ended link.old) (L.unread link.new) e.fault) }
+    ensures cause { IfErr result (λ e. HasLinkCause (L.faults link.old) (L.faults link.new) (L.has_ended link.old) (L.unread link.new) e.fault) }
 {
     let mut sent = 0;
     while sent < texts.len() {
@@ -102,9 +105,9 @@ fn push_slices<L: Link>(
     Ok(())
 }
 
-/// Pushes the jobs to the one queue that they name (`LPUSH`), at most `slice` in a request (Sidekiq takes 1,000), and answers how many they
-/// are. A request has at most 16 MiB: a slice ends early where the next text would bring it above that. All texts are built before the
-/// first request. No jobs are no request.
+/// Pushes the jobs to the one queue that they name (`LPUSH`; Sidekiq's wiki, "Bulk Queueing"), and answers how many they are. At most `slice`
+/// of them, from 1 to 1,000 (Sidekiq's own number), go in a request, and its words have at most 16 MiB together: a slice ends early where the
+/// next text would bring them above that. All texts are built before the first request is sent. For no jobs nothing is sent.
 pub fn push_bulk<L: Link>(
     alloc: Global,
     link: &mut L,
@@ -116,7 +119,7 @@ pub fn push_bulk<L: Link>(
     requires few { slice ≤ 1000 }
     ensures ok { IfOk result (PushesAll (L.carried link.old link.new) drafts.now slice) }
     ensures err { IfErr result (λ e. FailsAt (L.carried link.old link.new) drafts.now slice e.sent e.fault) }
-    ensures cause { IfErr result (λ e. HasCause (L.faults link.old) (L.faults link.new) (L.has_ended link.old) (L.unread link.new) e.fault) }
+    ensures cause { IfErr result (λ e. HasLinkCause (L.faults link.old) (L.faults link.new) (L.has_ended link.old) (L.unread link.new) e.fault) }
 {
     let mut texts = Vec::new(alloc);
     if let Err(fault) = add_drafts(alloc, drafts, &mut texts) {

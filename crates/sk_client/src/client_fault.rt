@@ -1,4 +1,4 @@
-// Why a client's call did not do what it was asked for.
+// Why a call of the client didn't push what it was given.
 ghost use Rattle.std.specs.Prelude.{◌≡◌};
 
 use sk_link::LinkFault;
@@ -9,15 +9,15 @@ use std::alloc::{AllocError, AllocFailed};
 /// Why jobs aren't pushed, or not all of them.
 #[derive(Drop)]
 pub enum ClientFault {
-    /// A draft can't be built, the first of those that can't. Nothing was sent.
+    /// The first of the drafts that can't be built has this fault. Nothing was sent.
     Draft(DraftFault),
     /// The link gave this fault in place of a reply. The store may have taken the request all the same.
     Link(LinkFault),
-    /// The store's reply is an error, or of a kind that this request doesn't have.
+    /// The store's reply is an error, or of a kind that it doesn't give to this request.
     Refused(Reply),
-    /// The store pushed nothing, since the job with this id holds the lock.
+    /// The job with this id holds the lock. Nothing was pushed.
     Held(Text),
-    /// There was no memory for a request.
+    /// There was no memory for the request. It wasn't sent.
     Memory,
 }
 

@@ -19,7 +19,7 @@ fn id_bytes(first: u64, second: u64) -> [u8; 12]
     bytes
 }
 
-/// A new id: 24 lower-case hex digits, 96 bits by chance. It draws two words, with memory or without.
+/// The id of a new job: 24 lower-case hex digits, as Sidekiq's are. It draws two words, whether there is memory or not.
 pub fn fresh_jid<D: Dice>(alloc: Global, dice: &mut D) -> Result<Text, Memory>
     ensures { (first second : ℕ) × YieldsAll (D.words dice.old) (first ∷ second ∷ []) (D.words dice.new)
         × IfOk result (λ jid. jid ≡ jid_of_words first second) }

@@ -1,6 +1,7 @@
-// One job pushed: to its queue, to the schedule, or where no other holds its lock.
+// Pushes of one job: to its queue, into the schedule, or where no other job holds its lock. Each builds the text, and sends one request.
 ghost use Rattle.std.specs.Prelude.{IfErr, OnOk};
-ghost use Rattle.sk_client.specs.Push.{Accepted, Fails, HasCause, Makes};
+ghost use Rattle.sk_client.specs.Push.{Accepted, Fails, HasLinkCause};
+ghost use Rattle.sk_client.specs.Making.{Makes};
 ghost use Rattle.sk_client.specs.Requests.{lpush, zadd, upush};
 
 use crate::ClientFault;
@@ -47,17 +48,17 @@ fn upush_words(alloc: Global, draft: &JobDraft, at: Option<Score>) -> Result<Wor
     Ok(Words::new(words))
 }
 
-/// Pushes the job at the left end of its queue (`LPUSH`).
+/// Pushes the job at the left end of its queue (`LPUSH`), from whose right end workers fetch.
 pub fn push<L: Link>(alloc: Global, link: &mut L, draft: &JobDraft) -> Result<(), ClientFault>
     ensures ok { OnOk result (Accepted (L.carried link.old link.new) (lpush draft.now)) }
     ensures err { IfErr result (Fails (L.carried link.old link.new) (lpush draft.now)) }
-    ensures cause { IfErr result (HasCause (L.faults link.old) (L.faults link.new) (L.has_ended link.old) (L.unread link.new)) }
+    ensures cause { IfErr result (HasLinkCause (L.faults link.old) (L.faults link.new) (L.has_ended link.old) (L.unread link.new)) }
 {
     let words = lpush_words(alloc, draft)?;
     send(alloc, link, &words, Answer::Number)
 }
 
-/// Puts the job into the schedule, due at `at` (`ZADD`).
+/// Puts the job into the schedule, due at `at`, in seconds since 1970 (`ZADD`; Sidekiq's wiki, "Scheduled Jobs").
 pub fn push_at<L: Link>(
     alloc: Global,
     link: &mut L,
@@ -66,13 +67,14 @@ pub fn push_at<L: Link>(
 ) -> Result<(), ClientFault>
     ensures ok { OnOk result (Accepted (L.carried link.old link.new) (zadd draft.now at)) }
     ensures err { IfErr result (Fails (L.carried link.old link.new) (zadd draft.now at)) }
-    ensures cause { IfErr result (HasCause (L.faults link.old) (L.faults link.new) (L.has_ended link.old) (L.unread link.new)) }
+    ensures cause { IfErr result (HasLinkCause (L.faults link.old) (L.faults link.new) (L.has_ended link.old) (L.unread link.new)) }
 {
     let words = zadd_words(alloc, draft, at)?;
     send(alloc, link, &words, Answer::Number)
 }
 
-/// Pushes the job to its queue, or puts it into the schedule, due at `at`, where no other job holds its lock (`SK.UPUSH`).
+/// Takes the lock of a unique job, and pushes the job to its queue, or puts it into the schedule, due at `at` (`SK.UPUSH`; Sidekiq's wiki,
+/// "Ent Unique Jobs"). Where the lock stands already, nothing is pushed, and the error [`ClientFault::Held`] has the id of the job that holds it.
 pub fn push_unique<L: Link>(
     alloc: Global,
     link: &mut L,
@@ -81,7 +83,7 @@ pub fn push_unique<L: Link>(
 ) -> Result<(), ClientFault>
     ensures ok { OnOk result (Accepted (L.carried link.old link.new) (upush draft.now at)) }
     ensures err { IfErr result (Fails (L.carried link.old link.new) (upush draft.now at)) }
-    ensures cause { IfErr result (HasCause (L.faults link.old) (L.faults link.new) (L.has_ended link.old) (L.unread link.new)) }
+    ensures cause { IfErr result (HasLinkCause (L.faults link.old) (L.faults link.new) (L.has_ended link.old) (L.unread link.new)) }
 {
     let words = upush_words(alloc, draft, at)?;
     send(alloc, link, &words, Answer::Unique)

@@ -1,7 +1,8 @@
 // One request and what its reply says.
 ghost use Rattle.std.specs.Prelude.{◌≡◌, ◌≢◌, ◌≤◌, Ok, IfOk, IfErr, OnOk, false};
 ghost use Rattle.std.specs.Str.{IsUtf8};
-ghost use Rattle.sk_client.specs.Push.{Push, Makes, Accepted, AcceptedBy, Fails, HasCause, IsOfNoDraft};
+ghost use Rattle.sk_client.specs.Push.{Push, Accepted, AcceptedBy, Fails, HasLinkCause};
+ghost use Rattle.sk_client.specs.Making.{Makes, IsOfNoDraft};
 
 use crate::ClientFault;
 use sk_link::{Answer, AskFault, Link, ask};
@@ -29,7 +30,7 @@ pub fn request<L: Link>(
     requires { wanted ≢ Answer.Popped }
     ensures ok { (push : Push) → Makes push (Ok words.now) → push.wanted ≡ wanted → IfOk result (AcceptedBy (L.carried link.old link.new) push) }
     ensures err { (push : Push) → Makes push (Ok words.now) → push.wanted ≡ wanted → IfErr result (Fails (L.carried link.old link.new) push) }
-    ensures cause { IfErr result (HasCause (L.faults link.old) (L.faults link.new) (L.has_ended link.old) (L.unread link.new)) }
+    ensures cause { IfErr result (HasLinkCause (L.faults link.old) (L.faults link.new) (L.has_ended link.old) (L.unread link.new)) }
     ensures drafts { IfErr result IsOfNoDraft }
     ensures later { L.faults link.old ≤ L.faults link.new }
     ensures ends { OnOk result (L.has_ended link.new ≡ false) }
@@ -52,7 +53,7 @@ pub fn send<L: Link>(
     requires { wanted ≢ Answer.Popped }
     ensures ok { (push : Push) → Makes push (Ok words.now) → push.wanted ≡ wanted → OnOk result (Accepted (L.carried link.old link.new) push) }
     ensures err { (push : Push) → Makes push (Ok words.now) → push.wanted ≡ wanted → IfErr result (Fails (L.carried link.old link.new) push) }
-    ensures cause { IfErr result (HasCause (L.faults link.old) (L.faults link.new) (L.has_ended link.old) (L.unread link.new)) }
+    ensures cause { IfErr result (HasLinkCause (L.faults link.old) (L.faults link.new) (L.has_ended link.old) (L.unread link.new)) }
     ensures drafts { IfErr result IsOfNoDraft }
     ensures later { L.faults link.old ≤ L.faults link.new }
     ensures ends { OnOk result (L.has_ended link.new ≡ false) }

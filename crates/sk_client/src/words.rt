@@ -3,7 +3,7 @@ ghost use Rattle.std.specs.Prelude.{◌≡◌, ◌++◌, ◌∷◌, [], IfOk, On
 ghost use Rattle.std.specs.Option.{option_to_list};
 ghost use Rattle.sk_payload.specs.Draft.{draft_text};
 ghost use Rattle.sk_client.specs.Drafts.{texts};
-ghost use Rattle.sk_client.specs.Push.{Adds};
+ghost use Rattle.sk_client.specs.Making.{Adds};
 ghost use Rattle.sk_client.specs.Requests.{callback_word};
 
 use crate::{ClientFault, Memory};

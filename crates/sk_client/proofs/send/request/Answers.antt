@@ -1,4 +1,4 @@
-use Rattle.sk_client.proofs.Requests.{IsUtf8-answer}
+use Rattle.sk_client.proofs.Held.{IsUtf8-answer}
 use Rattle.sk_client.proofs.send.request.Goals as goal
 
 pub held-requires : goal.held-requires

@@ -1,5 +1,5 @@
 -- What is known of a bulk string that answers a request.
-use Rattle.std.proofs.Common.{◌≡◌, ◌≢◌, ◌≤◌, ℕ, Bool, true, false, List, [], Option, Result, Ok, Err, refl, arith, ◌&&◌, nat_lt, nat_le, length}
+use Rattle.std.proofs.Common.{◌≡◌, ◌≢◌, Bool, true, false, refl, ◌&&◌, nat_lt, nat_le, length}
 use Rattle.std.proofs.lemmas.Str.{IsUtf8-from_is_utf8}
 use Rattle.std.specs.Str.{is_utf8, IsUtf8}
 use Rattle.std.specs.List.{list_all}
@@ -7,13 +7,8 @@ use Rattle.sk_base.specs.Name.{is_visible}
 use Rattle.sk_resp.specs.Spelling.{Bytes}
 use Rattle.sk_resp.specs.declared.reply.Reply.TheVariants as reply
 use Rattle.sk_link.specs.Asking.{answers}
-use Rattle.sk_link.specs.Call.{Call}
 use Rattle.sk_link.specs.declared.asking.Answer.{Answer}
 use Rattle.sk_link.specs.declared.asking.Answer.TheVariants as answer
-use Rattle.sk_payload.specs.declared.draft.JobDraft.{JobDraft}
-use Rattle.sk_client.specs.Push.{Push, NotBuilt, Fails, HasCause}
-use Rattle.sk_client.specs.declared.client_fault.ClientFault.{ClientFault}
-use Rattle.sk_client.specs.declared.client_fault.ClientFault.TheVariants as fault
 
 third : (a b c d : Bool) → (((a && b) && c) && d) ≡ true → c ≡ true
 third a b true d e = refl
