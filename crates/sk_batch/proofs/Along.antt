@@ -1,10 +1,10 @@
 -- A change along a line, as a walk makes it.
-use Rattle.std.proofs.Common.{◌≡◌, ℕ, zero, suc, ◌+◌, ◌<◌, ◌≤◌, Bool, true, false, cond, not, ◌&&◌, ◌||◌, List, [], ◌∷◌, ◌++◌, Option, Some, None, length, get_or, take, drop, map, refl, sym, ap, ap₂, ◌∙◌, arith, slice_get}
+use Rattle.std.proofs.Common.{◌≡◌, ℕ, zero, suc, ◌+◌, ◌<◌, Bool, true, false, cond, not, ◌||◌, List, [], ◌∷◌, ◌++◌, Option, Some, None, length, get_or, take, drop, refl, sym, ap, ap₂, ◌∙◌, arith, slice_get}
 use Rattle.std.specs.List.{list_any, position_or_len, remove}
 use Rattle.std.specs.Str.{bytes_eq}
 use Rattle.std.proofs.lemmas.Slice.Eq.{bytes_eq-Decides}
 use Rattle.sk_resp.specs.Spelling.{Bytes}
-use Rattle.sk_undo.specs.Moves.{moved, put_down}
+use Rattle.sk_undo.specs.Moves.{moved}
 use Rattle.sk_batch.specs.Along.{along, along_above, along_first, retag}
 use Rattle.sk_batch.specs.Batched.{has_bid}
 use Rattle.sk_batch.specs.Lines.{is_under, line, line_above}
@@ -51,10 +51,6 @@ module _ {K : Type 0} where
 
   pub not_there : (batches : List (K × Batch)) (inner outer : Bytes) → list_any (has_bid outer) batches ≡ false → is_under batches inner outer ≡ false
   not_there batches inner outer h = let there = under_there batches inner outer in grind (arith, there, h)
-
-  pub not_above : (older : List (K × Batch)) (parent : Option Bytes) (b : Bytes) → list_any (has_bid b) older ≡ false → list_any (has_bid b) (line_above parent (line older)) ≡ false
-  not_above older None b h = refl
-  not_above older (Some p) b h = not_there older p b h
 
   -- a batch that was made begins its own line
   pub under_own : (batches : List (K × Batch)) (bid : Bytes) → list_any (has_bid bid) batches ≡ true → is_under batches bid bid ≡ true
@@ -110,8 +106,10 @@ module _ {K : Type 0} (f : K × Batch → K) where
   along_is (b ∷ older) bid once = by (has_bid bid b) refl (λ x. along_is older x rest) where
     rest : each_once older ≡ true
     rest = grind (arith, once)
+
     new : list_any (has_bid b.1.bid) older ≡ false
     new = grind (arith, once)
+
     by : (own : Bool) → has_bid bid b ≡ own → ((x : Bytes) → along f older x ≡ retag (on_line (λ o. is_under older x o)) older) → along f (b ∷ older) bid ≡ retag (on_line (λ o. is_under (b ∷ older) bid o)) (b ∷ older)
     by true own ih =
         let self : bytes_eq b.1.bid b.1.bid ≡ true = (bytes_eq-Decides b.1.bid b.1.bid).1 refl in

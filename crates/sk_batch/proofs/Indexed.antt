@@ -1,11 +1,10 @@
 -- The index of batches by their bids tells the places of the batches.
-use Rattle.std.proofs.Common.{◌≡◌, ℕ, zero, suc, ◌+◌, ◌<◌, ◌≤◌, Bool, true, false, cond, not, ◌&&◌, List, [], ◌∷◌, Option, Some, None, length, drop, refl, sym, ap, ◌∙◌, arith, length-drop}
+use Rattle.std.proofs.Common.{◌≡◌, ℕ, zero, suc, ◌+◌, ◌<◌, ◌≤◌, Bool, true, false, cond, List, [], ◌∷◌, Option, Some, None, length, drop, refl, sym, ap, ◌∙◌, arith}
 use Rattle.std.specs.BTreeMap.{insert_entry, is_at}
 use Rattle.std.specs.Cmp.{IsTotalOrder}
 use Rattle.std.specs.List.{list_any, position_or_len}
 use Rattle.std.specs.Map.{lookup}
 use Rattle.std.specs.Ordering.{is_eq, match_ordering, ordering_reverse}
-use Rattle.std.specs.Str.{bytes_eq}
 use Rattle.std.specs.declared.cmp.Ordering.{Ordering}
 use Rattle.std.specs.declared.cmp.Ordering.TheVariants.{Less, Equal, Greater}
 use Rattle.std.proofs.lemmas.Cmp.{nat_list_cmp_total}
@@ -15,7 +14,6 @@ use Rattle.sk_resp.specs.Spelling.{Bytes}
 use Rattle.sk_resp.specs.WordOrder.{text_cmp}
 use Rattle.sk_batch.specs.Batched.{has_bid}
 use Rattle.sk_batch.specs.Places.{each_once, index_of}
-use Rattle.sk_batch.proofs.Places.{no_position}
 use Rattle.sk_batch.proofs.Repeats.{bytes_eq-sym}
 use Rattle.sk_batch.specs.declared.batch.Batch.{Batch}
 

@@ -1,12 +1,11 @@
 -- The numbers stay those of the members, whatever happens.
-use Rattle.std.proofs.Common.{◌≡◌, ℕ, suc, ◌<◌, ◌≤◌, Bool, true, false, cond, not, ◌&&◌, List, [], ◌∷◌, length, get_or, map, filter, nat_eq, refl, sym, subst, ap, ap₂, ◌∙◌, arith}
-use Rattle.std.specs.List.{count_by, list_all, list_any, position_or_len}
+use Rattle.std.proofs.Common.{◌≡◌, ℕ, suc, ◌<◌, ◌≤◌, Bool, true, false, cond, List, [], ◌∷◌, length, get_or, refl, sym, subst, ap, ap₂, ◌∙◌, arith}
+use Rattle.std.specs.List.{list_all, list_any, position_or_len}
 use Rattle.std.specs.Str.{bytes_eq}
-use Rattle.std.proofs.lemmas.Slice.Eq.{bytes_eq-Decides}
 use Rattle.sk_resp.specs.Spelling.{Bytes}
 use Rattle.sk_undo.specs.Balance.{most}
 use Rattle.sk_batch.specs.Along.{along, retag}
-use Rattle.sk_batch.specs.Batched.{BatchEntry, MemberEntry, has_bid, is_in, is_job, is_there}
+use Rattle.sk_batch.specs.Batched.{BatchEntry, MemberEntry, has_bid, is_job, is_there}
 use Rattle.sk_batch.specs.Events.{members_of}
 use Rattle.sk_batch.specs.Fires.{after_fires, retagged, with_kind}
 use Rattle.sk_batch.specs.Lines.{is_under, line}
@@ -195,15 +194,15 @@ pub kept_came : (batches : List StateEntry) (ms : List MemberEntry) (bid : Bytes
     → AreKept (along (with_change (Came (length jids)) bid) batches bid) (put_all (members_of bid jids) ms)
 kept_came batches ms bid jids kept once there h g =
     kept_changed batches ms (put_all (members_of bid jids) ms) kept once (Came (length jids)) bid (came_comes bid jids ms h g)
-      (home_put_all (λ x. is_there x (seen_of batches)) bid jids ms there kept.homes)
-      (ordered_put_all (members_of bid jids) ms kept.ordered)
+    (home_put_all (λ x. is_there x (seen_of batches)) bid jids ms there kept.homes)
+    (ordered_put_all (members_of bid jids) ms kept.ordered)
 
 pub kept_got : (batches : List StateEntry) (ms : List MemberEntry) (bid jid : Bytes) (mark : Mark) (at : ℕ) (d : MemberEntry) → AreKept batches ms → each_once batches ≡ true → at ≡ position_or_len (is_job bid jid) ms → at < length ms
     → AreKept (along (with_change (Got (gained mark (get_or ms at d).0)) bid) batches bid) (retagged (is_job bid jid) (with_mark mark) ms)
 kept_got batches ms bid jid mark at d kept once place within =
     kept_changed batches ms (retagged (is_job bid jid) (with_mark mark) ms) kept once (Got (gained mark (get_or ms at d).0)) bid (got_comes bid jid ms at d place within mark)
-      (home_marked (λ x. is_there x (seen_of batches)) (is_job bid jid) (with_mark mark) ms ∙ kept.homes)
-      (ordered_retagged (is_job bid jid) (with_mark mark) ms kept.ordered)
+    (home_marked (λ x. is_there x (seen_of batches)) (is_job bid jid) (with_mark mark) ms ∙ kept.homes)
+    (ordered_retagged (is_job bid jid) (with_mark mark) ms kept.ordered)
 
 -- ## A batch that comes
 
@@ -223,9 +222,9 @@ module _ (batches : List StateEntry) (ms : List MemberEntry) (kept : AreKept bat
       let out : (x : Bytes) → is_there x older ≡ true → is_under ((fired, batch) ∷ older) x batch.bid ≡ false = λ x h. line_stays x batch.bid h ∙ not_there older x batch.bid new in
       let apart : (x : Bytes) → is_there x older ≡ true → bytes_eq x batch.bid ≡ false = λ x h. bytes_eq-sym x batch.bid ∙ other x h in
       three _ _ _ _ _ _
-        (none_members (λ x. bytes_eq x batch.bid) (λ x. is_there x older) apart ms kept.homes)
-        (none_left (λ x. bytes_eq x batch.bid) (λ x. is_there x older) apart ms kept.homes)
-        (none_left (λ x. is_under ((fired, batch) ∷ older) x batch.bid) (λ x. is_there x older) out ms kept.homes)
+      (none_members (λ x. bytes_eq x batch.bid) (λ x. is_there x older) apart ms kept.homes)
+      (none_left (λ x. bytes_eq x batch.bid) (λ x. is_there x older) apart ms kept.homes)
+      (none_left (λ x. is_under ((fired, batch) ∷ older) x batch.bid) (λ x. is_there x older) out ms kept.homes)
 
   more_homes : (xs : List MemberEntry) → list_all (λ m. is_there m.1.bid older) xs ≡ true → list_all (λ m. is_there m.1.bid ((fired, batch) ∷ older)) xs ≡ true
   more_homes [] h = refl

@@ -1,7 +1,7 @@
 -- Edits of the list of batches and of its index agree.
-use Rattle.std.proofs.Common.{◌≡◌, ℕ, zero, suc, ◌+◌, ◌<◌, Bool, true, false, not, ◌&&◌, List, [], ◌∷◌, Option, Some, None, length, refl, sym, subst, ap, ap₂, ◌∙◌, arith, slice_get}
+use Rattle.std.proofs.Common.{◌≡◌, ℕ, zero, suc, ◌+◌, ◌<◌, true, not, ◌&&◌, List, [], ◌∷◌, Some, None, length, refl, sym, subst, ap, ap₂, ◌∙◌, arith, slice_get}
 use Rattle.std.specs.BTreeMap.{insert_entry, is_at}
-use Rattle.std.specs.List.{list_any, position_or_len, remove}
+use Rattle.std.specs.List.{position_or_len, remove}
 use Rattle.std.specs.Map.{lookup}
 use Rattle.sk_resp.specs.Spelling.{Bytes}
 use Rattle.sk_resp.specs.WordOrder.{text_cmp}
@@ -53,7 +53,7 @@ module _ {K : Type 0} where
       let index : index_of (moved at at tag es.stands) ≡ index_of es.stands = sym (index_bare (moved at at tag es.stands)) ∙ ap index_of bare ∙ index_bare es.stands in
       let stands : ix.stands ≡ index_of es.stands = ap (λ (s : Steps (List (Bytes × ℕ))). s.stands) l.0 in
       listed_same (edited (moved at at tag es.stands) es) es' (edited (index_of (moved at at tag es.stands)) ix) ix (listed_edited es ix (moved at at tag es.stands) l once) a
-        (ap (λ k. edited k ix) (stands ∙ sym index))
+      (ap (λ k. edited k ix) (stands ∙ sym index))
 
   -- where a batch stands, by the index
   pub listed_there : (es : Steps (List (K × Batch))) (ix : Steps (List (Bytes × ℕ))) → Listed es ix → (bid : Bytes) (n : ℕ) → Some n ≡ lookup (is_at (text_cmp bid)) ix.stands → suc (position_or_len (has_bid bid) es.stands + n) ≡ length es.stands

@@ -1,13 +1,12 @@
 -- What is read of a batch and its numbers.
-use Rattle.std.proofs.Common.{◌≡◌, ℕ, zero, suc, ◌<◌, ◌≤◌, Bool, true, false, cond, not, ◌&&◌, List, [], ◌∷◌, Option, Some, None, length, get_or, drop, drop-cons, nat_eq, refl, sym, ap, ap₂, ◌∙◌, arith}
+use Rattle.std.proofs.Common.{◌≡◌, ℕ, zero, suc, ◌<◌, ◌≤◌, Bool, true, false, not, ◌&&◌, List, [], ◌∷◌, Option, Some, None, length, get_or, drop, drop-cons, nat_eq, refl, sym, ap, ap₂, ◌∙◌, arith}
 use Rattle.std.specs.List.{count_by, list_any, position_or_len}
-use Rattle.std.specs.Str.{bytes_eq}
 use Rattle.std.proofs.lemmas.List.Sums.{count_by-le-length}
 use Rattle.std.proofs.lemmas.Slice.Eq.{bytes_eq-Decides}
 use Rattle.sk_resp.specs.Spelling.{Bytes}
 use Rattle.sk_undo.specs.Balance.{most}
 use Rattle.sk_batch.specs.Along.{retag}
-use Rattle.sk_batch.specs.Batched.{Batched, BatchEntry, MemberEntry, has_bid, is_in, is_there}
+use Rattle.sk_batch.specs.Batched.{BatchEntry, MemberEntry, has_bid, is_in, is_there}
 use Rattle.sk_batch.specs.Lines.{line, line_above, line_of_first}
 use Rattle.sk_batch.specs.Numbers.{numbers_in, one_if}
 use Rattle.sk_batch.specs.Open.{is_settled, lacks}
@@ -19,8 +18,7 @@ use Rattle.sk_batch.proofs.Places.{any_position, no_position, passes_there}
 use Rattle.sk_batch.proofs.Walks.{line_begins}
 use Rattle.sk_batch.specs.declared.batch.Batch.{Batch}
 use Rattle.sk_batch.specs.declared.batch_stat.BatchStat.{BatchStat}
-use Rattle.sk_batch.specs.declared.member.Mark.TheVariants.{Reported, Returned}
-use Rattle.sk_batch.specs.declared.numbers.Left.{Left}
+use Rattle.sk_batch.specs.declared.member.Mark.TheVariants.{Returned}
 use Rattle.sk_batch.specs.declared.numbers.Numbers.{Numbers}
 use Rattle.sk_batch.specs.declared.state.State.{State}
 

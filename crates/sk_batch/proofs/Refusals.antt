@@ -1,8 +1,8 @@
 -- The first rule that is broken, where the rules are looked at one group after another.
-use Rattle.std.proofs.Common.{◌≡◌, ◌∙◌, Bool, true, false, not, List, Option, Some, None, ap, arith}
+use Rattle.std.proofs.Common.{◌≡◌, ◌∙◌, Bool, not, List, Option, Some, None, ap, arith}
 use Rattle.sk_resp.specs.Spelling.{Bytes}
 use Rattle.sk_batch.specs.Batched.{Batched, is_there}
-use Rattle.sk_batch.specs.Faults.{add_fault, batch_fault, bid_fault, breaks, jids_fault, make_fault}
+use Rattle.sk_batch.specs.Faults.{batch_fault, bid_fault, breaks, jids_fault}
 use Rattle.sk_batch.specs.Open.{is_settled}
 use Rattle.sk_batch.specs.declared.batch_fault.BatchFault.TheVariants.{NoBatch, RepeatedBid, Settled}
 use Rattle.sk_batch.specs.declared.batch_fault.BatchFault.{BatchFault}
@@ -27,15 +27,6 @@ module _ (bid : Bytes) (s : Batched) (later : Option BatchFault) where
 
   pub jids_broken : (jids : List Bytes) (f : BatchFault) → jids_fault bid jids s None ≡ Some f → jids_fault bid jids s later ≡ Some f
   jids_broken jids f h = grind (arith, h)
-
--- what is kept where no rule is broken
-module _ (bid : Bytes) (s : Batched) where
-  pub make_new : (parent : Option Bytes) (jids : List Bytes) → make_fault bid parent jids s ≡ None → is_there bid s.batches ≡ false
-  make_new None jids h = grind (arith, h)
-  make_new (Some p) jids h = grind (arith, h)
-
-  pub add_there : (jids : List Bytes) → add_fault bid jids s ≡ None → is_there bid s.batches ≡ true
-  add_there jids h = grind (arith, h)
 
 -- the rules one by one, with what was found
 module _ (bid : Bytes) (s : Batched) (settled : Bool) where

@@ -1,5 +1,5 @@
 -- Jids that come twice, or are members, found by the set of those gone through.
-use Rattle.std.proofs.Common.{◌≡◌, ℕ, Bool, true, false, cond, not, ◌||◌, List, [], ◌∷◌, refl, sym, ap, ◌∙◌, arith, Bor}
+use Rattle.std.proofs.Common.{◌≡◌, Bool, true, false, cond, ◌||◌, List, [], ◌∷◌, refl, sym, ap, ◌∙◌, arith, Bor}
 use Rattle.std.specs.BTreeSet.{BTreeSet, Updates}
 use Rattle.std.specs.List.{list_any}
 use Rattle.std.specs.Ordering.{is_eq}
@@ -38,9 +38,9 @@ module _ (seen after : SeenJids) (key : Bor Bytes) (new : Updates jid_cmp seen a
   seen_now q =
       let same : is_eq (text_cmp key.now q) ≡ bytes_eq q key.now = is_eq-slice_cmp key.now q ∙ bytes_eq-sym key.now q in
       new.0 (record key { now = q }) ∙ ap (λ t. cond t true (has_seen seen q)) same ∙ either (bytes_eq q key.now) (has_seen seen q) where
-    either : (a b : Bool) → cond a true b ≡ a || b
-    either true b = refl
-    either false b = refl
+        either : (a b : Bool) → cond a true b ≡ a || b
+        either true b = refl
+        either false b = refl
 
   any_seen_now : (jids : List Bytes) → any_seen after jids ≡ any_seen seen jids || list_any (λ other. bytes_eq other key.now) jids
   any_seen_now [] = refl
@@ -49,10 +49,6 @@ module _ (seen after : SeenJids) (key : Bor Bytes) (new : Updates jid_cmp seen a
   -- one more is gone through, which is no member and wasn't seen
   pub gone_on : (bid : Bytes) (ms : List MemberEntry) (jids : List Bytes) → is_member bid key.now ms ≡ false → has_seen seen key.now ≡ false → any_seen after jids || has_repeated bid ms jids ≡ any_seen seen (key.now ∷ jids) || has_repeated bid ms (key.now ∷ jids)
   gone_on bid ms jids m s = let e = any_seen_now jids in grind (arith, e, m, s)
-
--- a member, or a jid that was seen, is repeated
-pub is_repeated : (seen : SeenJids) (bid jid : Bytes) (ms : List MemberEntry) (jids : List Bytes) → is_member bid jid ms || has_seen seen jid ≡ true → any_seen seen (jid ∷ jids) || has_repeated bid ms (jid ∷ jids) ≡ true
-is_repeated seen bid jid ms jids h = grind (arith, h)
 
 pub none_seen : (seen : SeenJids) → seen.keys ≡ [] → (jids : List Bytes) → any_seen seen jids ≡ false
 none_seen seen e [] = refl

@@ -1,5 +1,5 @@
 -- What is fired when something comes of a member, as the numbers tell it.
-use Rattle.std.proofs.Common.{◌≡◌, ℕ, ◌<◌, ◌++◌, Bool, true, false, cond, not, ◌&&◌, [], ◌∷◌, List, length, get_or, map, filter, nat_eq, refl, ap, ap₂, sym, ◌∙◌, arith}
+use Rattle.std.proofs.Common.{◌≡◌, ℕ, ◌<◌, ◌++◌, Bool, true, cond, not, ◌&&◌, [], ◌∷◌, List, length, get_or, map, filter, nat_eq, refl, ap, ap₂, sym, ◌∙◌, arith}
 use Rattle.std.specs.List.{list_any, position_or_len}
 use Rattle.std.specs.Str.{bytes_eq}
 use Rattle.std.proofs.lemmas.Slice.Eq.{bytes_eq-Decides}
@@ -13,7 +13,7 @@ use Rattle.sk_batch.specs.Lines.{line, is_under}
 use Rattle.sk_batch.specs.Numbers.{gained, left_after, left_of, numbers_in}
 use Rattle.sk_batch.specs.Open.{is_reported, is_settled, lacks, with_mark}
 use Rattle.sk_batch.specs.Places.{each_once}
-use Rattle.sk_batch.specs.States.{AreKept, StateEntry, all_fired, of_lists, seen_of, with_change, with_numbers}
+use Rattle.sk_batch.specs.States.{AreKept, StateEntry, all_fired, of_lists, seen_of, with_change}
 use Rattle.sk_batch.specs.Told.{fires_of, later_fires, mark_of}
 use Rattle.sk_batch.proofs.Along.{line_retag}
 use Rattle.sk_batch.proofs.Counted.{Comes, count_none, got_comes}

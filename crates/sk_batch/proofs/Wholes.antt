@@ -1,5 +1,5 @@
 -- An edit of the two lists is an edit of the whole.
-use Rattle.std.proofs.Common.{◌≡◌, ℕ, true, false, Bool, List, Option, Some, None, option_map, Result, Ok, Err, OnOk, OnErr, IsSome, refl, sym, subst, ap, ap₂, ◌∙◌}
+use Rattle.std.proofs.Common.{◌≡◌, ℕ, List, Option, Some, None, option_map, Result, Ok, Err, OnOk, OnErr, refl, sym, subst, ap, ap₂, ◌∙◌}
 use Rattle.std.specs.Option.{is_some}
 use Rattle.sk_resp.specs.Spelling.{Bytes}
 use Rattle.sk_undo.specs.Steps.{Steps, begun, both, committed, edited, map_steps, undone}
@@ -32,10 +32,10 @@ pub told_whole : {T E : Type 0} (r : Result T E) (e : Event) (bid jid : Bytes) (
     → OnOk r (whole most bs' ms' ≡ edited (fired (fires_of e bid jid v.stands) (marked (mark_of e) bid jid v.stands)) v)
 told_whole (Ok x) e bid jid most bs bs' ms ms' v is b m =
     whole_edited most bs bs' ms ms' _ _ (whole most bs ms) refl b m ∙ same e ∙ ap (λ (w : Steps Batched). edited (fired (fires_of e bid jid w.stands) (marked (mark_of e) bid jid w.stands)) w) is where
-  same : (e : Event) → edited (record { most = most; batches = after_fires (fires_of e bid jid (of_lists (seen_of bs.stands) ms.stands)) (seen_of bs.stands); members = retagged (is_job bid jid) (with_mark (mark_of e)) ms.stands }) (whole most bs ms) ≡ (let w = whole most bs ms in edited (fired (fires_of e bid jid w.stands) (marked (mark_of e) bid jid w.stands)) w)
-  same event.Reported = refl
-  same event.Returned = refl
-  same event.Died = refl
+      same : (e : Event) → edited (record { most = most; batches = after_fires (fires_of e bid jid (of_lists (seen_of bs.stands) ms.stands)) (seen_of bs.stands); members = retagged (is_job bid jid) (with_mark (mark_of e)) ms.stands }) (whole most bs ms) ≡ (let w = whole most bs ms in edited (fired (fires_of e bid jid w.stands) (marked (mark_of e) bid jid w.stands)) w)
+      same event.Reported = refl
+      same event.Returned = refl
+      same event.Died = refl
 told_whole (Err x) e bid jid most bs bs' ms ms' v is b m = tt
 
 -- ## The lists stay sound
@@ -71,26 +71,3 @@ undone_kept b m (Some c) (Some n) t k w = w
 
 pub sound_undone : (bs bs' : Steps (List StateEntry)) (ms ms' : Steps (List MemberEntry)) → IsSound bs ms → bs' ≡ undone bs → ms' ≡ undone ms → IsSound bs' ms'
 sound_undone bs bs' ms ms' sound b m = sound_same (undone bs) bs' (undone ms) ms' (record { together = refl; stands = undone_kept bs.stands ms.stands bs.stood ms.stood sound.together sound.stands sound.stood; stood = tt }) b m
-
-undone_view : (most : ℕ) (b : List StateEntry) (m : List MemberEntry) (bo : Option (List StateEntry)) (mo : Option (List MemberEntry)) → is_some bo ≡ is_some mo → whole most (undone (record { stands = b; stood = bo })) (undone (record { stands = m; stood = mo })) ≡ undone (whole most (record { stands = b; stood = bo }) (record { stands = m; stood = mo }))
-undone_view most b m None None t = refl
-undone_view most b m None (Some n) t = absurd (cc t)
-undone_view most b m (Some c) None t = absurd (cc t)
-undone_view most b m (Some c) (Some n) t = refl
-
-pub whole_undone : (most : ℕ) (bs bs' : Steps (List StateEntry)) (ms ms' : Steps (List MemberEntry)) (v : Steps Batched) → whole most bs ms ≡ v → IsSound bs ms → bs' ≡ undone bs → ms' ≡ undone ms → whole most bs' ms' ≡ undone v
-whole_undone most bs bs' ms ms' v is sound b m = ap₂ (whole most) b m ∙ undone_view most bs.stands ms.stands bs.stood ms.stood sound.together ∙ ap undone is
-
--- a step is open of both lists or of none
-module _ (most : ℕ) (b : List StateEntry) (m : List MemberEntry) where
-  pub stood_none : (bo : Option (List StateEntry)) (mo : Option (List MemberEntry)) → is_some bo ≡ is_some mo → (whole most (record { stands = b; stood = bo }) (record { stands = m; stood = mo })).stood ≡ None → (bo ≡ None) × (mo ≡ None)
-  stood_none None None t h = (refl, refl)
-  stood_none None (Some n) t h = absurd (cc t)
-  stood_none (Some c) None t h = absurd (cc t)
-  stood_none (Some c) (Some n) t h = absurd (cc h)
-
-  pub stood_some : (bo : Option (List StateEntry)) (mo : Option (List MemberEntry)) → is_some bo ≡ is_some mo → IsSome (whole most (record { stands = b; stood = bo }) (record { stands = m; stood = mo })).stood → IsSome bo × IsSome mo
-  stood_some None None t h = (h, h)
-  stood_some None (Some n) t h = absurd (cc t)
-  stood_some (Some c) None t h = absurd (cc t)
-  stood_some (Some c) (Some n) t h = (h, h)

@@ -71,11 +71,7 @@ fn check_parent(batches: &BatchList, bid: &[u8], parent: &[u8]) -> Result<(), Ba
 }
 
 /// The rules on the bid and the parent of a new batch.
-pub fn check_bid(
-    batches: &BatchList,
-    bid: &[u8],
-    parent: Option<&[u8]>,
-) -> Result<(), BatchFault>
+pub fn check_bid(batches: &BatchList, bid: &[u8], parent: Option<&[u8]>) -> Result<(), BatchFault>
     ensures { (members : List MemberEntry) → AreKept batches.now.list.stands members → result_err result ≡ bid_fault bid.now (option_map (λ p. p.now) parent.entry) (of_lists (seen_of batches.now.list.stands) members) None }
 {
     if let Some(parent) = parent {
@@ -127,12 +123,7 @@ fn find_repeated(
     Ok(false)
 }
 
-fn has_repeated(
-    alloc: Global,
-    members: &UndoList<Marks, Member>,
-    bid: &[u8],
-    jids: &[Word],
-) -> bool
+fn has_repeated(alloc: Global, members: &UndoList<Marks, Member>, bid: &[u8], jids: &[Word]) -> bool
     requires { is_ordered members.now.list.stands ≡ true }
     ensures { result ≡ has_repeated bid.now members.now.list.stands jids.now }
 {

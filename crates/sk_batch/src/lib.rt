@@ -2,8 +2,8 @@
 #![tactic(auto)]
 
 mod batch;
-mod batch_list;
 mod batch_fault;
+mod batch_list;
 mod batch_stat;
 mod batches;
 mod callbacks;

@@ -8,11 +8,7 @@ use crate::{BatchStat, Marks, Member};
 use sk_undo::UndoList;
 
 /// The numbers of a batch, where it was made.
-pub fn stat(
-    batches: &BatchList,
-    members: &UndoList<Marks, Member>,
-    bid: &[u8],
-) -> Option<BatchStat>
+pub fn stat(batches: &BatchList, members: &UndoList<Marks, Member>, bid: &[u8]) -> Option<BatchStat>
     requires { AreKept batches.now.list.stands members.now.list.stands }
     ensures is { result ≡ stat bid.now (of_lists (seen_of batches.now.list.stands) members.now.list.stands) }
     ensures small { IfSome result IsSmall }

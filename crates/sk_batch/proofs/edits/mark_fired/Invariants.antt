@@ -1,4 +1,4 @@
-use Rattle.std.proofs.Common.{◌≡◌, ◌+◌, ◌≤◌, length, drop}
+use Rattle.std.proofs.Common.{◌≡◌, ◌+◌, ◌≤◌, drop}
 use Rattle.sk_batch.specs.States.{all_fired}
 use Rattle.sk_batch.proofs.edits.mark_fired.Given as goal
 

@@ -13,7 +13,7 @@ loop-jid-preserved c =
     let next : c.loop-jid.jid-index + 1 ≡ suc c.loop-jid.jid-index = omega arith in
     let same : c.jid-item.result ≡ key.now = sym c.bytes-bytes.ensures in
     let here : drop c.loop-jid.jid-index all ≡ key.now ∷ drop (c.loop-jid.jid-index + 1) all =
-        drop-cons all c.loop-jid.jid-index c.jid-item.result c.loop-jid-test.true ∙ ap₂ (λ (x : Bytes) (xs : List Bytes). x ∷ xs) (sym c.jid-item.is ∙ same) (ap (λ n. drop n all) (sym next)) in
+    drop-cons all c.loop-jid.jid-index c.jid-item.result c.loop-jid-test.true ∙ ap₂ (λ (x : Bytes) (xs : List Bytes). x ∷ xs) (sym c.jid-item.is ∙ same) (ap (λ n. drop n all) (sym next)) in
     let new_here : not (has_seen c.loop-jid.seen key.now) ≡ true = sym c.in_ok-new.ensures.added ∙ c.if-not-new.false in
     let unseen : has_seen c.loop-jid.seen key.now ≡ false = grind (arith, new_here) in
     let outside : is_member c.args.bid.now key.now members ≡ false = sym c.is_member.ensures ∙ c.if-is_member.false in

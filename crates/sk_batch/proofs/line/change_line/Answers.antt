@@ -37,7 +37,7 @@ outwards-preserved c =
       changed = ap (λ l. take above l ++ along_first turn (drop above l)) (edited_to ∙ ap (λ (s : State). moved c.outwards.at c.outwards.at s old) state) ∙ along_step turn old c.outwards.at above entry less c.climb-above.ensures.above ∙ c.outwards.invariant.changed;
       stood = ap (λ (s : Steps (List StateEntry)). s.stood) c.set_state.ensures.list ∙ c.outwards.invariant.stood;
       room =
-        let line = ap length c.climb-above.ensures.line in
-        let rest = ap (λ (l : List StateEntry). length (line_of_first l)) (ap (drop above) edited_to ∙ moved_behind old c.outwards.at above c.with_change-state.result less c.climb-above.ensures.after) in
-        omega (arith, line, rest, c.outwards.invariant.room, c.set_state.ensures.room);
+          let line = ap length c.climb-above.ensures.line in
+          let rest = ap (λ (l : List StateEntry). length (line_of_first l)) (ap (drop above) edited_to ∙ moved_behind old c.outwards.at above c.with_change-state.result less c.climb-above.ensures.after) in
+          omega (arith, line, rest, c.outwards.invariant.room, c.set_state.ensures.room);
     }

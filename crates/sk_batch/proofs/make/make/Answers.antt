@@ -16,4 +16,4 @@ enter-requires-clause-kept c =
     let made = kept_made old c.args.members.now.list.stands c.requires.kept (record { complete = c.is_empty.result; success = c.is_empty.result; death = false }) c.args.batch c.requires.new in
     let stands = ap (λ (s : Steps (List StateEntry)). s.stands) c.in_ok-add_batch.ensures.batches ∙ ap (λ (s : State). (s, c.args.batch) ∷ old) c.new_state-state.ensures in
     subst (λ (l : List StateEntry). AreKept l c.add_batch.new.members.list.stands) (sym stands)
-      (subst (λ (s : Steps (List MemberEntry)). AreKept ((new_state c.is_empty.result, c.args.batch) ∷ old) s.stands) (sym c.in_ok-add_batch.ensures.same) made)
+    (subst (λ (s : Steps (List MemberEntry)). AreKept ((new_state c.is_empty.result, c.args.batch) ∷ old) s.stands) (sym c.in_ok-add_batch.ensures.same) made)

@@ -1,4 +1,4 @@
-use Rattle.std.proofs.Common.{◌≡◌, ◌<◌, ◌∙◌, List, true, ap, ap₂, arith, length, get_or, subst, sym}
+use Rattle.std.proofs.Common.{◌≡◌, ◌<◌, ◌∙◌, List, ap, ap₂, arith, length, get_or, subst, sym}
 use Rattle.std.specs.List.{position_or_len}
 use Rattle.sk_undo.specs.Steps.{Steps}
 use Rattle.sk_batch.specs.Along.{along}
