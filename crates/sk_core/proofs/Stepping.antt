@@ -1,6 +1,6 @@
 -- What a step comes to, and that it keeps the laws.
 use Rattle.std.proofs.Common.{◌≡◌, ℕ, ℤ, refl, sym, ap, subst, ◌∙◌, arith, pos, ◌&&◌, Bool, true, false}
-use Rattle.std.specs.Prelude.{List, Some, None, Result, IfOk, cond}
+use Rattle.std.specs.Prelude.{List, Some, None, cond}
 use Rattle.std.specs.Ordering.{int_cmp, is_eq}
 use Rattle.std.specs.Str.{bytes_eq}
 use Rattle.std.proofs.lemmas.Slice.Eq.{bytes_eq-Decides}
@@ -11,7 +11,6 @@ use Rattle.sk_cmd.specs.declared.command.Command.{Command}
 use Rattle.sk_cmd.specs.declared.command.PlainCommand.{PlainCommand}
 use Rattle.sk_cmd.specs.declared.command.ScriptCommand.{ScriptCommand}
 use Rattle.sk_payload.specs.Member.{is_name}
-use Rattle.sk_value.specs.Action.{action_of}
 use Rattle.sk_value.specs.declared.action.Action.{Action}
 use Rattle.sk_value.specs.declared.action.Action.TheVariants as action
 use Rattle.sk_value.specs.declared.edit.Edit.TheVariants as edit
@@ -22,16 +21,13 @@ use Rattle.sk_seats.specs.declared.phase.Phase.TheVariants.{Plain, Joined}
 use Rattle.sk_model.specs.Change.{Passes, passed, changed, perform}
 use Rattle.sk_seats.specs.declared.work.Work.{Work}
 use Rattle.sk_key.specs.Class.{class_of, ident_of, is_private, private_key}
-use Rattle.sk_model.specs.Covered.{IsCovered}
 use Rattle.sk_model.specs.declared.limits.Limits.{Limits}
 use Rattle.sk_model.specs.Outcome.{Comes, Outcome, tells}
 use Rattle.sk_model.specs.Seats.{has_done, is_workers, releases, releases_by, works_on}
-use Rattle.sk_model.specs.Step.{Steps, act, at_moment, by_seat, is_script_built, run, script_outcome}
-use Rattle.sk_model.specs.Workers.{work}
+use Rattle.sk_model.specs.Step.{Steps, at_moment, by_seat, is_script_built, run, script_outcome}
 use Rattle.sk_model.specs.World.{World, first, phase_of}
 use Rattle.sk_model.specs.Step.{cut}
 use Rattle.sk_model.proofs.Commands.{cut_covered, cut_sound, step_covered, step_sound}
-use Rattle.sk_model.proofs.Coming.{if_ok}
 use Rattle.sk_model.proofs.Covering.{covered_none}
 use Rattle.sk_model.proofs.Runs.{sound_first}
 use Rattle.sk_core.specs.Whole.{KeepsLaws}

@@ -1,5 +1,5 @@
 -- Batches that are made, or get jobs.
-use Rattle.std.proofs.Common.{◌≡◌, ◌<◌, ◌++◌, ◌∙◌, ℕ, Bool, true, false, List, [], ◌∷◌, ap, ap₂, arith, length, refl, sym}
+use Rattle.std.proofs.Common.{◌≡◌, ◌<◌, ◌∙◌, ℕ, Bool, true, false, List, [], ◌∷◌, ap, ap₂, arith, length, refl, sym}
 use Rattle.std.specs.Prelude.{Option, None, Result, Ok, Err, OnOk, ◌&&◌, cond, not}
 use Rattle.sk_resp.specs.Spelling.{Bytes}
 use Rattle.sk_resp.specs.declared.refusal.Refusal.TheVariants as refusal
@@ -8,7 +8,7 @@ use Rattle.sk_resp.specs.declared.say.Say.{Say}
 use Rattle.sk_payload.specs.Head.{head}
 use Rattle.sk_payload.specs.Member.{is_name}
 use Rattle.sk_batch.specs.Batched.{Batched}
-use Rattle.sk_batch.specs.Events.{fired, joined, made, made_fires}
+use Rattle.sk_batch.specs.Events.{fired, made, made_fires}
 use Rattle.sk_batch.specs.Faults.{add_fault, batch_fault, bid_fault, breaks, is_full as has_most, jids_fault, make_fault}
 use Rattle.sk_batch.specs.declared.batch.Batch.{Batch}
 use Rattle.sk_batch.specs.declared.batch_fault.BatchFault.{BatchFault}

@@ -1,5 +1,5 @@
 -- What batches are told, and what they fire.
-use Rattle.std.proofs.Common.{◌≡◌, List, [], ◌∷◌, ◌++◌, refl, sym, ap, ap₂, ◌∙◌}
+use Rattle.std.proofs.Common.{◌≡◌, List, [], ◌∷◌, refl, sym, ap, ap₂, ◌∙◌}
 use Rattle.std.specs.Prelude.{Bool, Option, Some, None, Result, Ok, Err, IfOk, OnOk}
 use Rattle.sk_undo.specs.Steps.{Steps, edited}
 use Rattle.sk_cmd.specs.declared.argument.Side.{Side}
@@ -21,7 +21,6 @@ use Rattle.sk_model.specs.Change.{Fire, Moves, changed, perform}
 use Rattle.sk_model.specs.Told.{call, fire_all, fired_texts, push_to, tell, tell_in, tell_of}
 use Rattle.sk_model.specs.World.{World}
 use Rattle.sk_model.proofs.Good.{perform-append}
-use Rattle.sk_store.specs.Stored.{world}
 use Rattle.sk_store.specs.declared.store.Store.{Store}
 use Rattle.sk_jobs.specs.Calls.{IsTold, calls, fires_on, marks_on, member_by, member_in, member_of, tell_member}
 use Rattle.sk_jobs.specs.Sending.{Takes, rows_in}

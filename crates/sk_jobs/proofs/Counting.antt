@@ -1,6 +1,6 @@
 -- Numbers of queues, one name after another.
-use Rattle.std.proofs.Common.{◌≡◌, ◌+◌, ◌++◌, ◌∙◌, ℕ, zero, suc, List, [], ◌∷◌, add-one, ap, ap₂, append_assoc, drop, length, map, refl, sym}
-use Rattle.std.specs.Prelude.{Option, Some, slice_get}
+use Rattle.std.proofs.Common.{◌≡◌, ◌+◌, ◌++◌, ◌∙◌, ℕ, zero, suc, List, [], ◌∷◌, add-one, ap, ap₂, append_assoc, drop, length, map, sym}
+use Rattle.std.specs.Prelude.{Some, slice_get}
 use Rattle.sk_resp.specs.Spelling.{Bytes}
 use Rattle.sk_places.specs.Rows.{rows_at}
 use Rattle.sk_places.specs.declared.row.Place.TheVariants.{Queue}

@@ -1,5 +1,5 @@
 -- Identities behind one another, in rows that stand in order.
-use Rattle.std.proofs.Common.{◌≡◌, ◌≤◌, ◌<◌, ◌+◌, Bool, true, false, List, [], ◌∷◌, ◌++◌, refl, sym, ap, ap₂, ◌∙◌, arith, filter, length, not}
+use Rattle.std.proofs.Common.{◌≡◌, ◌≤◌, ◌<◌, Bool, true, false, List, [], ◌∷◌, ◌++◌, refl, sym, ap, ap₂, ◌∙◌, arith, filter, length, not}
 use Rattle.std.specs.Prelude.{Option, Some, None, ◌&&◌}
 use Rattle.std.specs.List.{list_all}
 use Rattle.std.specs.Ordering.{is_eq, is_le, is_lt, nat_cmp}

@@ -1,9 +1,8 @@
 -- What a rescue makes of one row, of the rows of a process, and of all that are left.
-use Rattle.std.proofs.Common.{◌≡◌, ◌≤◌, ◌<◌, ◌+◌, ℕ, Bool, true, false, List, [], ◌∷◌, ◌++◌, refl, sym, ap, ap₂, subst, ◌∙◌, append_assoc, arith, filter, length, length-append, not}
+use Rattle.std.proofs.Common.{◌≡◌, ◌≤◌, ◌+◌, ℕ, Bool, true, false, List, [], ◌∷◌, ◌++◌, refl, sym, ap, ap₂, subst, ◌∙◌, append_assoc, arith, filter, length, length-append, not}
 use Rattle.std.specs.Prelude.{Option, Some, None, cond, nat_le, nat_lt}
 use Rattle.std.specs.List.{list_all}
 use Rattle.std.proofs.lemmas.List.Elements.{filter_agree}
-use Rattle.std.specs.Ordering.{is_eq}
 use Rattle.std.proofs.lemmas.Bool.Decides.{nat_tests}
 use Rattle.sk_resp.specs.Spelling.{Bytes}
 use Rattle.sk_cmd.specs.declared.argument.Side.TheVariants.{Right}
@@ -12,7 +11,7 @@ use Rattle.sk_payload.specs.declared.head.Head.{Head}
 use Rattle.sk_places.specs.declared.row.Place.{Place}
 use Rattle.sk_places.specs.declared.row.Place.TheVariants.{Private, Queue, Set}
 use Rattle.sk_places.specs.declared.row.Row.{Row}
-use Rattle.sk_places.specs.Rows.{ident_at, is_at, is_past, place_cmp, rows_at}
+use Rattle.sk_places.specs.Rows.{ident_at, is_at, is_past, rows_at}
 use Rattle.sk_model.specs.World.{World}
 use Rattle.sk_model.specs.Change.{Change, Forgets, Recovers, changed, perform}
 use Rattle.sk_model.specs.Jobs.{Sent, and_then, bury, each, nothing, to_queue}

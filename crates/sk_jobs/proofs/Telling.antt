@@ -1,5 +1,5 @@
 -- What commands come to that tell a batch of a job.
-use Rattle.std.proofs.Common.{◌≡◌, ◌∙◌, List, ap, refl, subst, sym}
+use Rattle.std.proofs.Common.{◌≡◌, ◌∙◌, List, ap, subst, sym}
 use Rattle.std.specs.Prelude.{Option, Some, None}
 use Rattle.sk_resp.specs.declared.reply.Reply.{Reply}
 use Rattle.sk_places.specs.declared.row.Row.{Row}

@@ -33,7 +33,7 @@ use Rattle.sk_seats.specs.declared.phase.Phase.{Phase}
 use Rattle.sk_seats.specs.declared.work.Stage.{Stage}
 use Rattle.sk_seats.specs.declared.work.Stage.TheVariants.{Put}
 use Rattle.sk_seats.specs.declared.work.Work.{Work}
-use Rattle.sk_model.specs.Change.{Add, Change, Fire, Moves, Tells, Trim, Turns, changed, moved, perform}
+use Rattle.sk_model.specs.Change.{Add, Change, Fire, Tells, Trim, Turns, changed, moved, perform}
 use Rattle.sk_model.specs.Jobs.{moment_score, reports}
 use Rattle.sk_model.specs.Live.{born, count_job, stands}
 use Rattle.sk_model.specs.Outcome.{Comes, Outcome}

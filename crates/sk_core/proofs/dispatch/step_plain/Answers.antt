@@ -1,5 +1,4 @@
 use Rattle.std.proofs.Common.{◌≡◌, ◌∙◌, ap, ap₂, false, inl, inr, not, refl, subst, sym}
-use Rattle.sk_cmd.specs.ReadOnly.{only_reads}
 use Rattle.sk_value.specs.Action.{action_of}
 use Rattle.sk_model.specs.Outcome.{Comes}
 use Rattle.sk_model.specs.Seats.{releases}

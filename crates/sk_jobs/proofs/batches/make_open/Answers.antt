@@ -1,13 +1,13 @@
 use Rattle.std.proofs.Common.{◌≤◌, ◌^◌, length, ◌≡◌, ◌∙◌, ap, arith}
 use Rattle.sk_value.specs.Answer.{texts}
 use Rattle.sk_batch.specs.Events.{made, made_fires}
-use Rattle.sk_model.specs.Batches.{jids_of, make, push_jobs}
+use Rattle.sk_model.specs.Batches.{jids_of, push_jobs}
 use Rattle.sk_model.specs.Change.{perform}
 use Rattle.sk_model.specs.Told.{fired_texts}
 use Rattle.sk_model.proofs.Coming.{if_ok}
 use Rattle.sk_store.specs.Stored.{world}
 use Rattle.sk_jobs.proofs.Batching.{make_is}
-use Rattle.sk_jobs.proofs.Calling.{if_both, with_batched}
+use Rattle.sk_jobs.proofs.Calling.{with_batched}
 use Rattle.sk_jobs.proofs.Covering.{jobs_inner, made_fits}
 use Rattle.sk_jobs.proofs.batches.make_open.Goals as goal
 

@@ -1,4 +1,4 @@
-use Rattle.std.proofs.Common.{IfOk, refl, subst, sym}
+use Rattle.std.proofs.Common.{IfOk, subst, sym}
 use Rattle.std.specs.Prelude.{Option}
 use Rattle.sk_batch.specs.declared.member.Member.{Member}
 use Rattle.sk_store.specs.Stored.{world}

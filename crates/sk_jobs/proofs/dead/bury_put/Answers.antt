@@ -1,4 +1,4 @@
-use Rattle.std.proofs.Common.{◌≡◌, ◌∙◌, List, ap, refl, sym, take}
+use Rattle.std.proofs.Common.{◌∙◌, List, ap, refl, sym, take}
 use Rattle.sk_places.specs.declared.row.Row.{Row}
 use Rattle.sk_model.specs.Change.{perform}
 use Rattle.sk_model.proofs.Sending.{trims_quiet}

@@ -1,6 +1,5 @@
 use Rattle.std.proofs.Common.{◌≡◌, ◌∙◌, ◌<◌, ◌++◌, List, [], ap, arith, length, refl, sym}
 use Rattle.sk_places.specs.Rows.{rows_at}
-use Rattle.sk_places.specs.declared.row.Place.TheVariants.{Private}
 use Rattle.sk_places.specs.declared.row.Row.{Row}
 use Rattle.sk_model.specs.Rescue.{rescue_row}
 use Rattle.sk_store.proofs.Steps.{joined}

@@ -1,4 +1,4 @@
-use Rattle.std.proofs.Common.{◌≡◌, ◌≤◌, ◌-◌, ◌∙◌, ℕ, List, [], ◌∷◌, suc, zero, ap, arith, length, refl, take}
+use Rattle.std.proofs.Common.{◌≡◌, ◌≤◌, ◌-◌, ◌∙◌, ℕ, List, [], suc, zero, ap, arith, length, refl, take}
 use Rattle.sk_places.specs.declared.row.Row.{Row}
 use Rattle.sk_model.specs.Jobs.{send}
 use Rattle.sk_store.proofs.Steps.{joined}

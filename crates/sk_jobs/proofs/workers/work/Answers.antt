@@ -1,7 +1,5 @@
 use Rattle.std.proofs.Common.{◌∙◌, subst, sym}
-use Rattle.std.specs.Prelude.{Some}
 use Rattle.sk_model.specs.Outcome.{Comes}
-use Rattle.sk_model.specs.Workers.{fetch, retry, work}
 use Rattle.sk_model.specs.World.{phase_of}
 use Rattle.sk_model.proofs.Coming.{on_err}
 use Rattle.sk_store.specs.Stored.{Runs, world}
