@@ -23,7 +23,8 @@ const SHOWN: usize = 64;
 
 // Makes room for a read behind the bytes.
 fn grow(buffer: &mut Vec<u8>) -> Result<(), Memory>
-    ensures ok { OnOk result ((length buffer.new.items ≡ length buffer.old.items + CHUNK) × (take (length buffer.old.items) buffer.new.items ≡ buffer.old.items)) }
+    ensures ok { OnOk result ((length buffer.new.items ≡ length buffer.old.items + CHUNK)
+        × (take (length buffer.old.items) buffer.new.items ≡ buffer.old.items)) }
     ensures err { OnErr result (buffer.new.items ≡ buffer.old.items) }
 {
     buffer.resize(buffer.len() + CHUNK, 0)
@@ -229,11 +230,13 @@ pub fn receive<S: Source>(
     source: &mut S,
     buffer: &mut Vec<u8>,
 ) -> Result<Reply, LinkFault>
-    ensures ok { IfOk result (λ reply. Gives (unread_of buffer.old.items (S.left source.old)) (wire reply) (unread_of buffer.new.items (S.left source.new))) }
+    ensures ok { IfOk result (λ reply. Gives (unread_of buffer.old.items (S.left source.old)) (wire reply)
+        (unread_of buffer.new.items (S.left source.new))) }
     ensures err { OnErr result (unread_of buffer.new.items (S.left source.new) ≡ unread_of buffer.old.items (S.left source.old)) }
     ensures beside { S.beside_read source.new ≡ S.beside_read source.old }
     ensures later { S.read_faults source.old ≤ S.read_faults source.new }
-    ensures cause { IfErr result (IsCause (S.read_faults source.old) (S.read_faults source.new) false (unread_of buffer.new.items (S.left source.new))) }
+    ensures cause { IfErr result (IsCause (S.read_faults source.old) (S.read_faults source.new) false
+        (unread_of buffer.new.items (S.left source.new))) }
 {
     no_reply_begins_another();
     let mut feeder = ReplyFeeder::new(alloc);

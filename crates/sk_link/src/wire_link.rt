@@ -15,7 +15,8 @@ use sk_resp::{Reply, Words};
 use std::alloc::Global;
 use std::marker::Model;
 
-/// A link over a connection ([`Conn`](sk_base::Conn)).
+/// A link over a connection ([`Conn`](sk_base::Conn)). Where what comes is no reply, it reads on until it has 64 bytes or the input ends, and tells
+/// these.
 #[derive(Drop)]
 pub struct WireLink<C: Duplex> {
     conn: C,
@@ -51,7 +52,8 @@ fn receive_over<C: Duplex>(
     conn: &mut C,
     buffer: &mut Vec<u8>,
 ) -> Result<Reply, LinkFault>
-    ensures ok { IfOk result (λ reply. Gives (unread_of buffer.old.items (C.left conn.old)) (wire reply) (unread_of buffer.new.items (C.left conn.new))) }
+    ensures ok { IfOk result (λ reply. Gives (unread_of buffer.old.items (C.left conn.old)) (wire reply)
+        (unread_of buffer.new.items (C.left conn.new))) }
     ensures err { OnErr result (unread_of buffer.new.items (C.left conn.new) ≡ unread_of buffer.old.items (C.left conn.old)) }
     ensures taken { C.taken conn.new ≡ C.taken conn.old }
     ensures writes { C.write_faults conn.new ≡ C.write_faults conn.old }
@@ -73,7 +75,7 @@ impl<C: Duplex> WireLink<C> {
         }
     }
 
-    /// The connection. What was read and not asked for is lost.
+    /// The connection. What was read behind the last whole reply is lost.
     pub fn into_conn(self) -> C
         ensures { result ≡ self.conn }
     {

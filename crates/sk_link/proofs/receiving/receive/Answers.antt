@@ -16,7 +16,7 @@ loop-found-init g c =
       given = rest;
       goes_on = ap (λ (h : RepliesHeard). h.fault) c.new-feeder.ensures;
       part = subst (λ t. IsReplyPart t) (sym rest) nothing_part;
-      same = refl;
+      same = refl {a = unread_of c.args.buffer.now.items (g.S.Source.left c.args.source.now)};
       beside = refl;
       later = omega arith;
     }
