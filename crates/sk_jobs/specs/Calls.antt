@@ -7,12 +7,14 @@ use Rattle.sk_batch.specs.Batched.{Batched}
 use Rattle.sk_batch.specs.Events.{fired, marked}
 use Rattle.sk_batch.specs.Told.{fires_of, mark_of}
 use Rattle.sk_batch.specs.declared.event.Event.{Event}
+use Rattle.sk_batch.specs.declared.event.Event.TheVariants.{Reported, Returned}
 use Rattle.sk_batch.specs.declared.firing.Firing.{Firing}
 use Rattle.sk_batch.specs.declared.member.Member.{Member}
 use Rattle.sk_counters.specs.Counters.{failed, processed}
 use Rattle.sk_model.specs.Change.{Change, Counts, perform}
 use Rattle.sk_model.specs.Covered.{IsCovered}
-use Rattle.sk_model.specs.Told.{Told, call, fired_texts, not_told, tell_in}
+use Rattle.sk_model.specs.Told.{Told, and_tell, call, fired_texts, not_told, tell_in}
+use Rattle.sk_model.specs.Outcome.{Outcome}
 use Rattle.sk_model.specs.World.{World}
 use Rattle.sk_store.specs.Stored.{world}
 use Rattle.sk_store.specs.declared.store.Store.{Store}
@@ -52,6 +54,10 @@ pub record IsTold (old new : World) (names : List Bytes) (told : Told) : Type 0 
   pub fired : names ≡ fired_texts told.firings
   pub world : new ≡ perform old told.changes
 
+-- the batch of a member was told, and these texts name what it fired
+abbrev pub Tells : Event → Store → Option Member → List Bytes → Store → Type 0
+Tells event old member names new = IsTold (world old) (world new) names (tell_member event (world old) member)
+
 -- what a run counts that has raised
 abbrev pub counts_failed : List Change
 counts_failed = Counts processed ∷ Counts failed ∷ []
@@ -59,6 +65,13 @@ counts_failed = Counts processed ∷ Counts failed ∷ []
 -- and one that has returned
 abbrev pub counts_processed : List Change
 counts_processed = Counts processed ∷ []
+
+-- what such runs come to
+abbrev pub run_failed : Bytes → World → Outcome
+run_failed text w = and_tell Reported w text counts_failed
+
+abbrev pub run_returned : Bytes → World → Outcome
+run_returned text w = and_tell Returned w text counts_processed
 
 -- the callbacks that were pushed are no more than were fired of the batches
 abbrev pub AreCovered : Store → Type 0

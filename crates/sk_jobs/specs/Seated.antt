@@ -10,6 +10,9 @@ use Rattle.sk_seats.specs.declared.work.Stage.TheVariants.{Held, Put, Settled}
 use Rattle.sk_seats.specs.declared.work.Work.{Work}
 use Rattle.sk_seats.specs.Phases.{works_of}
 use Rattle.sk_model.specs.Change.{ending_of}
+use Rattle.sk_model.specs.Outcome.{Outcome}
+use Rattle.sk_model.specs.Workers.{release_of}
+use Rattle.sk_model.specs.World.{World, phase_of}
 
 -- what is known of the jobs once a work of this text, at this stage, is released
 abbrev pub ended_at : Stage → Bytes → Placed → Placed
@@ -24,6 +27,10 @@ ended_by work p = ended_at work.stage work.payload p
 abbrev pub ident_in : Phase → Bytes
 ident_in Plain = []
 ident_in (Joined ident works) = ident
+
+-- what a seat's release of a job of this text comes to
+abbrev pub released : World → ℕ → Bytes → Bytes → Outcome
+released w seat ident text = release_of w seat (phase_of w seat) ident (Some text)
 
 -- the first work of the seat that passes stands at this index
 pub record IsFound (test : Work → Bool) (phase : Phase) (at : ℕ) : Type 0 where

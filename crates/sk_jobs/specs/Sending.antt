@@ -14,7 +14,7 @@ use Rattle.sk_places.specs.declared.row.Row.{Row}
 use Rattle.sk_places.specs.Rows.{row_of, rows_at}
 use Rattle.sk_model.specs.World.{World}
 use Rattle.sk_model.specs.Change.{Carry, Change, Moves, Trim, changed, perform}
-use Rattle.sk_model.specs.Jobs.{Sent, buried_by, moment_score, put_dead, reports}
+use Rattle.sk_model.specs.Jobs.{Sent, buried_by, each, kill_row, moment_score, put_dead, reports, send}
 use Rattle.sk_model.specs.Outcome.{Outcome}
 use Rattle.sk_model.specs.Sets.{put_back}
 use Rattle.sk_model.specs.Told.{fired_texts}
@@ -55,6 +55,14 @@ set_rows set w = rows_at (Set set) w.rows
 -- those whose moment has come, the first so many
 abbrev pub due_in : Scored → ℕ → World → List Row
 due_in set limit w = take limit (filter (λ row. is_le (int_cmp row.score (moment_score w))) (set_rows set w))
+
+-- these are sent to their queues
+abbrev pub due_sent : Scored → ℕ → World → Outcome
+due_sent set limit w = reports (each send w (due_in set limit w))
+
+-- the first of a text in the set goes to the dead set
+abbrev pub killed_in : Scored → Bytes → World → Outcome
+killed_in set text w = kill_row w (row_of text (set_rows set w))
 
 -- the row went from the left end of its place to an end of a queue
 abbrev pub Carries : Store → Row → Bytes → Side → Store → Type 0

@@ -6,7 +6,7 @@ ghost use Rattle.sk_places.specs.declared.origin.Origin.TheVariants.{Inner};
 ghost use Rattle.sk_model.specs.Change.{perform};
 ghost use Rattle.sk_model.specs.Told.{call, fired_texts, kind_text, push_job};
 ghost use Rattle.sk_store.specs.Stored.{InStep, world};
-ghost use Rattle.sk_jobs.specs.Calls.{AreCovered, IsTold, calls, fires_on, marks_on, member_of, tell_member};
+ghost use Rattle.sk_jobs.specs.Calls.{AreCovered, Tells, calls, fires_on, marks_on, member_of};
 ghost use Rattle.sk_jobs.specs.Sending.{Takes};
 
 use sk_base::Score;
@@ -103,7 +103,7 @@ fn fire(
 // A batch is told what has come of its member, and what it fires is called.
 fn tell_batch(store: &mut Store, event: Event, member: &Member) -> Result<Vec<Word>, Memory>
     requires { AreCovered store.old }
-    ensures ok { IfOk result (λ fired. IsTold (world store.old) (world store.new) fired.items (tell_member event (world store.old) (Some member.now))) }
+    ensures ok { IfOk result (λ fired. Tells event store.old (Some member.now) fired.items store.new) }
     ensures aside { OnOk result (Takes [] store.old store.new) }
     ensures covered { OnOk result (AreCovered store.new) }
     ensures step { InStep store.old store.new }
@@ -117,7 +117,7 @@ fn tell_batch(store: &mut Store, event: Event, member: &Member) -> Result<Vec<Wo
 /// The batch of a member is told what has come of its job, and what it fires is called. Answers the batch and the kind of each firing, in order.
 pub fn tell(store: &mut Store, event: Event, member: Option<Member>) -> Result<Vec<Word>, Memory>
     requires { AreCovered store.old }
-    ensures ok { IfOk result (λ fired. IsTold (world store.old) (world store.new) fired.items (tell_member event (world store.old) member)) }
+    ensures ok { IfOk result (λ fired. Tells event store.old member fired.items store.new) }
     ensures aside { OnOk result (Takes [] store.old store.new) }
     ensures covered { OnOk result (AreCovered store.new) }
     ensures step { InStep store.old store.new }

@@ -1,16 +1,16 @@
 // How a worker lets go of a job: LREM sq:ident 1 payload, and SK.BACK payload. The job has stood in the private list all the while.
-ghost use Rattle.std.specs.Prelude.{◌≡◌, IfOk, List, None, Some, option_map};
+ghost use Rattle.std.specs.Prelude.{◌≡◌, IfOk, List, None, option_map};
 ghost use Rattle.sk_payload.specs.Head.{head};
 ghost use Rattle.sk_seats.specs.Works.{is_held_as};
 ghost use Rattle.sk_model.specs.Outcome.{Comes};
-ghost use Rattle.sk_model.specs.Workers.{back, release_of};
+ghost use Rattle.sk_model.specs.Workers.{back};
 ghost use Rattle.sk_model.specs.World.{phase_of};
 ghost use Rattle.sk_seats.specs.declared.phase.Phase.TheVariants as Phase;
 ghost use Rattle.sk_seats.specs.declared.work.Work.{Work};
 ghost use Rattle.sk_model.specs.Change.{ending_of};
 ghost use Rattle.sk_undo.specs.Steps.{edited};
 ghost use Rattle.sk_store.specs.Stored.{IsReady, Runs, world};
-ghost use Rattle.sk_jobs.specs.Seated.{IsFound, ended_by, ident_in};
+ghost use Rattle.sk_jobs.specs.Seated.{IsFound, ended_by, ident_in, released};
 
 use crate::calls::word_of;
 use crate::hands::find_held;
@@ -49,7 +49,7 @@ fn end_job(places: &mut Places, work: &Work)
 pub fn release(store: &mut Store, seat: u32, ident: Word, text: &Word) -> Reply
     requires ready { IsReady store.old }
     requires joined { (works : List Work) × (phase_of (world store.old) seat ≡ Phase.Joined ident works) }
-    ensures done { Comes (world store.old) (release_of (world store.old) seat (phase_of (world store.old) seat) ident (Some text.now)) result (world store.new) }
+    ensures done { Comes (world store.old) (released (world store.old) seat ident text.now) result (world store.new) }
     ensures ready { IsReady store.new }
 {
     let Phase::Joined(_, works) = store.seats.get(seat) else {

@@ -1,14 +1,12 @@
 // What a worker tells of the run of its job: SK.START payload, SK.FAIL payload, SK.OK payload, SK.DROP payload.
 ghost use Rattle.std.specs.Prelude.{◌≡◌, ◌≤◌, IfOk};
 ghost use Rattle.sk_base.specs.Score.{last_moment};
-ghost use Rattle.sk_batch.specs.declared.event.Event.TheVariants as event;
 ghost use Rattle.sk_model.specs.Outcome.{Comes};
-ghost use Rattle.sk_model.specs.Told.{and_tell};
 ghost use Rattle.sk_model.specs.Workers.{drop, fail, ok, start};
 ghost use Rattle.sk_model.specs.World.{phase_of};
 ghost use Rattle.sk_seats.specs.Works.{is_held_as};
 ghost use Rattle.sk_store.specs.Stored.{InStep, IsReady, Runs, world};
-ghost use Rattle.sk_jobs.specs.Calls.{AreCovered, counts_failed, counts_processed, member_of};
+ghost use Rattle.sk_jobs.specs.Calls.{AreCovered, member_of, run_failed, run_returned};
 ghost use Rattle.sk_jobs.specs.Seated.{IsFound};
 
 use crate::calls::{member_of, tell};
@@ -52,7 +50,7 @@ fn fail_open(store: &mut Store, seat: u32, text: &Word, at: usize) -> Result<Rep
     requires early { store.old.moment ≤ last_moment }
     requires covered { AreCovered store.old }
     requires found { IsFound (is_held_as text.now) (phase_of (world store.old) seat) at }
-    ensures ok { IfOk result (λ reply. Comes (world store.old) (and_tell event.Reported (world store.old) text.now counts_failed) reply (world store.new)) }
+    ensures ok { IfOk result (λ reply. Comes (world store.old) (run_failed text.now (world store.old)) reply (world store.new)) }
     ensures step { InStep store.old store.new }
 {
     let member = member_at(store, seat, text, at)?;
@@ -82,7 +80,7 @@ fn succeed_open(store: &mut Store, seat: u32, text: &Word, at: usize) -> Result<
     requires early { store.old.moment ≤ last_moment }
     requires covered { AreCovered store.old }
     requires found { IsFound (is_held_as text.now) (phase_of (world store.old) seat) at }
-    ensures ok { IfOk result (λ reply. Comes (world store.old) (and_tell event.Returned (world store.old) text.now counts_processed) reply (world store.new)) }
+    ensures ok { IfOk result (λ reply. Comes (world store.old) (run_returned text.now (world store.old)) reply (world store.new)) }
     ensures step { InStep store.old store.new }
 {
     let member = member_at(store, seat, text, at)?;

@@ -4,16 +4,16 @@ ghost use Rattle.std.specs.Prelude.{◌≡◌, ◌≤◌, false, nat_abs, IfOk, 
 ghost use Rattle.std.specs.Ordering.{is_eq};
 ghost use Rattle.sk_base.specs.Score.{last_moment};
 ghost use Rattle.sk_cmd.specs.declared.argument.Scored.TheVariants.{Dead};
-ghost use Rattle.sk_places.specs.Rows.{place_cmp, row_of};
+ghost use Rattle.sk_places.specs.Rows.{place_cmp};
 ghost use Rattle.sk_places.specs.declared.row.Place.TheVariants.{Set};
-ghost use Rattle.sk_model.specs.Jobs.{due, each, kill, kill_row, reports, revive, send};
+ghost use Rattle.sk_model.specs.Jobs.{due, kill, revive};
 ghost use Rattle.sk_model.specs.Outcome.{Comes};
 ghost use Rattle.sk_model.specs.Rescue.{rescue};
 ghost use Rattle.sk_model.specs.Seats.{where_plain};
 ghost use Rattle.sk_model.specs.World.{phase_of};
 ghost use Rattle.sk_store.specs.Stored.{InStep, IsReady, Runs, world};
 ghost use Rattle.sk_jobs.specs.Calls.{AreCovered};
-ghost use Rattle.sk_jobs.specs.Sending.{due_in, set_rows};
+ghost use Rattle.sk_jobs.specs.Sending.{due_in, due_sent, killed_in, set_rows};
 
 use crate::calls::member_of;
 use crate::dead::bury;
@@ -46,7 +46,7 @@ fn send_due(store: &mut Store, set: Scored, limit: i64) -> Result<Reply, Memory>
     requires early { store.old.moment ≤ last_moment }
     requires alive { is_eq (place_cmp (Set Dead) (Set set)) ≡ false }
     requires covered { AreCovered store.old }
-    ensures ok { IfOk result (λ reply. Comes (world store.old) (reports (each send (world store.old) (due_in set (nat_abs limit) (world store.old)))) reply (world store.new)) }
+    ensures ok { IfOk result (λ reply. Comes (world store.old) (due_sent set (nat_abs limit) (world store.old)) reply (world store.new)) }
     ensures step { InStep store.old store.new }
 {
     let _count = store.places.len(&Place::Set(set)); // for what it says of their number
@@ -69,7 +69,7 @@ fn due_open(store: &mut Store, set: Scored, limit: i64) -> Result<Reply, Memory>
     }
 }
 
-/// SK.DUE: the jobs of a set whose moment has come go to the left ends of their queues, at most so many, and those without a head to the dead set. The
+/// SK.DUE: the jobs of a set whose moment has come go to the left ends of their queues, at most so many. Those without a head go to the dead set. The
 /// answer is the report.
 pub fn due(store: &mut Store, seat: u32, set: Scored, limit: i64) -> Result<Reply, Memory>
     requires ready { IsReady store.old }
@@ -93,7 +93,7 @@ fn bury_one(store: &mut Store, set: Scored, text: &Word) -> Result<Reply, Memory
     requires early { store.old.moment ≤ last_moment }
     requires alive { is_eq (place_cmp (Set Dead) (Set set)) ≡ false }
     requires covered { AreCovered store.old }
-    ensures ok { IfOk result (λ reply. Comes (world store.old) (kill_row (world store.old) (row_of text.now (set_rows set (world store.old)))) reply (world store.new)) }
+    ensures ok { IfOk result (λ reply. Comes (world store.old) (killed_in set text.now (world store.old)) reply (world store.new)) }
     ensures step { InStep store.old store.new }
 {
     let place = Place::Set(set);

@@ -44,7 +44,7 @@ fn only(pairs: Scores) -> Option<(Score, Word)>
 
 // LREM sq:ident 1 text, where the identity is that of the seat's process: the identity and the text. Takes no memory.
 fn released_by(ident: &Text, key: Word, edit: Edit) -> Option<(Word, Word)>
-    ensures { MatchOption result (released_by ident.now key edit ≡ None) (λ row. (row.0 ≡ ident.now) × (released_by ident.now key edit ≡ Some row.1)) }
+    ensures { MatchOption result (released_by ident.now key edit ≡ None) (λ r. (r.0 ≡ ident.now) × (released_by ident.now key edit ≡ Some r.1)) }
 {
     let Edit::Lrem(count, text) = edit else {
         return None;

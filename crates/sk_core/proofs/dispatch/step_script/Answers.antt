@@ -15,7 +15,7 @@ pub returns-in-Ok-clause-ready : goal.returns-in-Ok-clause-ready
 returns-in-Ok-clause-ready c = c.in-Ok.ensures.1
 
 pub returns-in-Err-clause-served : goal.returns-in-Err-clause-served
-returns-in-Err-clause-served c = (starves c.args.now, inr refl, record { reply_is = refl; new_is = ap world c.in-Err.ensures ∙ c.pass.ensures.world })
+returns-in-Err-clause-served c = (starves c.args.now, inr (refl, refl), record { reply_is = refl; new_is = ap world c.in-Err.ensures ∙ c.pass.ensures.world })
 
 pub returns-in-Err-clause-ready : goal.returns-in-Err-clause-ready
 returns-in-Err-clause-ready c = subst IsReady (sym c.in-Err.ensures) c.pass.ensures.ready
