@@ -18,11 +18,6 @@ SOURCE = HOME / 'crates/sk_resp/src'
 # What only a run without memory says.
 UNSEEN = {b'-OOM want of memory'}
 
-# What periodic jobs will say, which aren't built yet.
-LATER = {b'-SK not leader', b'-SK slot done', b'-SK slot out of time'}
-
-NOT_BUILT = b'-SK not built'
-
 
 def spellings():
     """The commands' names, in lower case."""
@@ -34,7 +29,7 @@ def fixed_texts():
     """The texts with which a reply can begin; one that quotes a byte or a name ends before it."""
     files = ('say.rt', 'refusal.rt', 'kind.rt')
     text = ''.join((SOURCE / file).read_text() for file in files if (SOURCE / file).exists())
-    return {t.encode() for t in re.findall(r'b"([+-][^"]+)"', text)} - UNSEEN - LATER
+    return {t.encode() for t in re.findall(r'b"([+-][^"]+)"', text)} - UNSEEN
 
 
 def numbered(piece, count):
@@ -138,7 +133,7 @@ def missing(names, texts):
         answers = list(replies(wanted))
         said.update(answers)
         pairs = zip(commands(given), answers)
-        answered.update(name for name, answer in pairs if not is_error(answer) or answer == NOT_BUILT)
+        answered.update(name for name, answer in pairs if not is_error(answer))
     for _, wanted in rows('steps'):
         said.update(line.removesuffix(b'\r') for line in wanted.split(b'\n'))
     for name in names:

@@ -24,7 +24,8 @@ use Rattle.sk_key.specs.Class.{class_of, ident_of, is_private, private_key}
 use Rattle.sk_model.specs.declared.limits.Limits.{Limits}
 use Rattle.sk_model.specs.Outcome.{Comes, Outcome, tells}
 use Rattle.sk_model.specs.Seats.{has_done, is_workers, releases, releases_by, works_on}
-use Rattle.sk_model.specs.Step.{Steps, at_moment, by_seat, is_script_built, run, script_outcome}
+use Rattle.sk_model.specs.Step.{Steps, act, at_moment, by_seat, run, script_outcome}
+use Rattle.sk_model.specs.Workers.{work}
 use Rattle.sk_model.specs.World.{World, first, phase_of}
 use Rattle.sk_model.specs.Step.{cut}
 use Rattle.sk_model.proofs.Commands.{cut_covered, cut_sound, step_covered, step_sound}
@@ -61,17 +62,12 @@ releases_not (Joined ident works) a other = no_release ident works a other
 
 -- ## The step
 
-pub not_built_script : (w : World) (seat now : ℕ) (c : ScriptCommand) → is_script_built c ≡ false → tells say.NotBuilt ≡ script_outcome w seat now c
-not_built_script w seat now c e = ap (λ b. cond b (at_moment now (run (changed w (Passes now)) seat (phase_of w seat) c)) (tells say.NotBuilt)) (sym e)
-
 -- what comes about at the moment comes about where that is still to be handed in
 at_passed : (w new : World) (now : ℕ) (o : Outcome) (reply : Reply) → Comes (passed now w) o reply new → Comes w (at_moment now o) reply new
 at_passed w new now o reply k = record { reply_is = k.reply_is; new_is = k.new_is }
 
-pub script_comes : (w mid new : World) (seat now : ℕ) (c : ScriptCommand) (reply : Reply) → is_script_built c ≡ true → mid ≡ passed now w → Comes mid (run mid seat (phase_of mid seat) c) reply new → Comes w (script_outcome w seat now c) reply new
-script_comes w mid new seat now c reply e f comes =
-    subst (λ b. Comes w (cond b (at_moment now (run (changed w (Passes now)) seat (phase_of w seat) c)) (tells say.NotBuilt)) reply new) (sym e)
-    (at_passed w new now (run (passed now w) seat (phase_of w seat) c) reply (subst (λ m. Comes m (run m seat (phase_of m seat) c) reply new) f comes))
+pub script_comes : (w mid new : World) (seat now : ℕ) (c : ScriptCommand) (reply : Reply) → mid ≡ passed now w → Comes mid (run mid seat (phase_of mid seat) c) reply new → Comes w (script_outcome w seat now c) reply new
+script_comes w mid new seat now c reply f comes = at_passed w new now (run (passed now w) seat (phase_of w seat) c) reply (subst (λ m. Comes m (run m seat (phase_of m seat) c) reply new) f comes)
 
 pub plain_comes : (w mid new : World) (seat now : ℕ) (c : PlainCommand) (reply : Reply) → mid ≡ passed now w → Comes mid (by_seat mid seat (phase_of mid seat) c) reply new → Comes w (at_moment now (by_seat (passed now w) seat (phase_of w seat) c)) reply new
 plain_comes w mid new seat now c reply f comes = at_passed w new now (by_seat (passed now w) seat (phase_of w seat) c) reply (subst (λ m. Comes m (by_seat m seat (phase_of m seat) c) reply new) f comes)

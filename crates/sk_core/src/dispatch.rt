@@ -8,11 +8,10 @@ ghost use Rattle.sk_jobs.specs.Calls.{AreCovered};
 ghost use Rattle.sk_store.specs.Stored.{IsReady, Runs, world};
 ghost use Rattle.sk_core.specs.Whole.{Serves, sent_by};
 
-use crate::built::is_script_built;
 use crate::rights::{adds, is_plain, is_workers};
 use sk_cmd::{Command, PlainCommand, ScriptCommand};
 use sk_jobs::{
-    BatchWords, add_to_batch, back, batch_stat, beat, bury, discard, due, fail, join, kill, locate,
+    BatchWords, add_to_batch, back, batch_stat, beat, bury, cron, discard, due, fail, join, kill, lead, locate,
     push_batch, push_unique, rescue, revive, start, status_page, succeed, work,
 };
 use sk_keyspace::act;
@@ -86,20 +85,18 @@ fn run_script(store: &mut Store, seat: u32, script: ScriptCommand) -> Result<Rep
         ScriptCommand::Bstat(bid) => batch_stat(store, &bid),
         ScriptCommand::Where(jid) => Ok(locate(store, &jid)),
         ScriptCommand::Status => status_page(store),
-        _ => Ok(Reply::Say(Say::NotBuilt)),
+        ScriptCommand::Lead(ident) => lead(store, seat, &ident),
+        ScriptCommand::Cron(ident, name, slot, text) => cron(store, seat, &ident, name, slot, text),
     }
 }
 
-// Does it at a moment, where it is built.
+// Does it at a moment.
 fn step_script(store: &mut Store, seat: u32, now: u64, script: ScriptCommand) -> Reply
     requires ready { IsReady store.old }
     requires covered { AreCovered store.old }
     ensures served { Serves store.old seat now (Command.Script script) result store.new }
     ensures ready { IsReady store.new }
 {
-    if !is_script_built(&script) {
-        return Reply::Say(Say::NotBuilt);
-    }
     store.pass(now);
     match run_script(store, seat, script) {
         Ok(reply) => reply,

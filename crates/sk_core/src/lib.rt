@@ -1,7 +1,6 @@
 //! The store: all that it keeps, and each command handed to what does it.
 #![tactic(auto)]
 
-mod built;
 mod dispatch;
 mod rights;
 mod store;

@@ -24,7 +24,7 @@ use Rattle.sk_seats.specs.declared.work.Stage.TheVariants.{Held, Put, Settled}
 use Rattle.sk_seats.specs.declared.work.Work.{Work}
 use Rattle.sk_seats.specs.Works.{first, is_done_as}
 use Rattle.sk_model.specs.World.{World, phase_of}
-use Rattle.sk_model.specs.Change.{Add, Beats, Carry, Change, Counts, Fire, Forgets, Free, Joins, Keeps, Locks, Makes, Merge, Move, Moves, Names, Passes, PutBack, Recovers, Take, Tells, Trim, Turns, Unlocks, Unnames, changed, freed, freed_at, freed_work, moved, perform}
+use Rattle.sk_model.specs.Change.{Add, Beats, Carry, Change, Counts, Elects, Fire, Forgets, Free, Joins, Keeps, Locks, Makes, Marks, Merge, Move, Moves, Names, Passes, PutBack, Recovers, Take, Tells, Trim, Turns, Unlocks, Unnames, changed, freed, freed_at, freed_work, moved, perform}
 use Rattle.sk_model.specs.Jobs.{Sent, bury, each, merge, put_dead, surplus, to_queue}
 use Rattle.sk_model.specs.Rescue.{bury_poison, is_poison, rescue_row}
 use Rattle.sk_model.specs.Told.{call, fire_all, push_to, tell, tell_in, tell_of}
@@ -43,6 +43,8 @@ is_calm (Recovers jid) = true
 is_calm (Forgets jid) = true
 is_calm (Locks digest jid seconds) = true
 is_calm (Unlocks digest jid) = true
+is_calm (Elects ident) = true
+is_calm (Marks loop slot text) = true
 is_calm (Makes batch jids) = true
 is_calm (Joins bid jids) = true
 is_calm (Tells event bid jid) = true
@@ -86,6 +88,8 @@ changed_beats w (Recovers jid) e = refl
 changed_beats w (Forgets jid) e = refl
 changed_beats w (Locks digest jid seconds) e = refl
 changed_beats w (Unlocks digest jid) e = refl
+changed_beats w (Elects ident) e = refl
+changed_beats w (Marks loop slot text) e = refl
 changed_beats w (Makes batch jids) e = refl
 changed_beats w (Joins bid jids) e = refl
 changed_beats w (Tells event bid jid) e = refl

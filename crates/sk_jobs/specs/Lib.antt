@@ -5,3 +5,4 @@ pub mod Locking
 pub mod Rescuing
 pub mod Seated
 pub mod Sending
+pub mod Slots

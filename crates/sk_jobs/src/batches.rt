@@ -194,8 +194,8 @@ fn may_join(bid: &[u8], payload: &Payload) -> bool
     }
 }
 
-// The job is of no batch, and without a lock.
-fn may_call(payload: &Payload) -> bool
+/// The job is of no batch, and without a lock.
+pub fn may_call(payload: &Payload) -> bool
     ensures { result ≡ may_call (head_of payload.now) }
 {
     match payload.head() {

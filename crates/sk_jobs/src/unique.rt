@@ -1,13 +1,12 @@
 // SK.UPUSH payload [score]: a job is pushed, unless another one with the same digest holds the lock (Sidekiq's wiki, "Ent Unique Jobs"). The lock
 // and the push come in one step.
-ghost use Rattle.std.specs.Prelude.{◌≡◌, ◌≤◌, ◌∷◌, [], false, IfOk, OnOk};
+ghost use Rattle.std.specs.Prelude.{◌≡◌, ◌≤◌, IfOk, OnOk};
 ghost use Rattle.sk_base.specs.Score.{last_moment};
 ghost use Rattle.sk_places.specs.Totals.{IsCountable};
 ghost use Rattle.sk_places.specs.declared.origin.Origin.TheVariants.{Outside};
 ghost use Rattle.sk_cmd.specs.declared.argument.Scored.TheVariants.{Schedule};
 ghost use Rattle.sk_model.specs.Change.{changed, perform};
 ghost use Rattle.sk_model.specs.Outcome.{Comes};
-ghost use Rattle.sk_model.specs.Room.{is_full};
 ghost use Rattle.sk_model.specs.Sets.{add_one};
 ghost use Rattle.sk_model.specs.Unique.{push_or_schedule, unique_push};
 ghost use Rattle.sk_store.specs.Stored.{InStep, IsReady, Runs, world};
@@ -15,6 +14,7 @@ ghost use Rattle.sk_jobs.specs.Locking.{push_wanted};
 
 use crate::calls::{push_job, word_of};
 use crate::locking::{WantedLock, wanted_lock};
+use crate::room::is_too_much;
 use sk_base::Score;
 use sk_cmd::{Scored, Side};
 use sk_payload::Payload;
@@ -77,15 +77,6 @@ fn push_open(
     }
     push_or_schedule(store, payload, score)?;
     Ok(Reply::Say(Say::Ok))
-}
-
-// With the job, counted as new, there would be more than the store takes.
-fn is_too_much(store: &Store, payload: &Payload) -> bool
-    ensures is { result ≡ is_full (world store.now) (payload.now ∷ []) }
-    ensures room { result ≡ false → IsCountable Outside (world store.now).tally }
-{
-    let bytes = payload.text().bytes().len() as u128;
-    store.is_full(1, bytes)
 }
 
 /// SK.UPUSH: the job gets the lock under its digest, for as long as its head says, and is pushed at the left end of its queue, or put into the

@@ -59,9 +59,9 @@ pub fn callbacks_follow()
 /// Whatever takes a row away, puts a text back or is the store's own push has its cause. Rows are taken away by a client's DEL, LREM, ZREM,
 /// ZREMRANGEBYRANK, ZREMRANGEBYSCORE or FLUSHALL alone. The dead set is trimmed only after a text came into it in the same event. A row is
 /// released by the seat alone that put a payload of its text back or is done with it, and a text put back by one that holds a payload which it
-/// follows. The store's own push is the callback of the firing just before it. That a job returned, a batch is told by the SK.OK of a seat that
-/// held a payload of it. A lock is made by an SK.UPUSH of its job alone, and let go before its time by the SK.START or SK.OK of a seat that
-/// held a payload of that job alone.
+/// follows. The store's own push is the callback of the firing just before it, or the job of the slot that a loop got just before it. That a job
+/// returned, a batch is told by the SK.OK of a seat that held a payload of it. A lock is made by an SK.UPUSH of its job alone, and let go before
+/// its time by the SK.START or SK.OK of a seat that held a payload of that job alone.
 pub fn moves_have_causes()
     ensures { MovesHaveCauses }
 {}

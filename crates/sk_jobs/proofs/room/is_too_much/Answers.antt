@@ -4,7 +4,7 @@ use Rattle.sk_model.specs.Room.{bytes_of}
 use Rattle.sk_model.proofs.Fitting.{room_left}
 use Rattle.sk_store.specs.Stored.{world}
 use Rattle.sk_jobs.proofs.UniquePushes.{size_is}
-use Rattle.sk_jobs.proofs.unique.is_too_much.Goals as goal
+use Rattle.sk_jobs.proofs.room.is_too_much.Goals as goal
 
 pub returns-clause-is : goal.returns-clause-is
 returns-clause-is c = c.is_full.ensures (c.args.payload.now ∷ []) refl (size_is c.args.payload.now c.bytes.result.now (c.bytes.ensures ∙ c.text.ensures))
