@@ -1,8 +1,7 @@
 -- A text is one score, or none for one reason.
-use Rattle.std.proofs.Common.{◌≡◌, ◌<◌, ◌≤◌, ℕ, ℤ, List, [], ◌∷◌, ◌++◌, Bool, true, false, refl, sym, ap, subst, ◌∙◌, arith, Result, Ok, Err}
+use Rattle.std.proofs.Common.{◌≡◌, ℕ, ℤ, List, [], ◌∷◌, Bool, true, false, refl, sym, ap, subst, ◌∙◌, arith, Result, Ok, Err}
 use Rattle.std.specs.Prelude.{MatchResult, ◌==◌}
-use Rattle.sk_base.specs.Score.{IsDecimal, IsMagnitude, IsSigned, IsScore, fraction, millionths, greatest, signed}
-use Rattle.sk_base.specs.Digits.{NoDigit}
+use Rattle.sk_base.specs.Score.{IsDecimal, IsMagnitude, IsSigned, IsScore, fraction, millionths, signed}
 use Rattle.sk_base.specs.declared.score.ScoreFault.{ScoreFault}
 use Rattle.sk_base.specs.declared.score.ScoreFault.TheVariants.{NotDecimal, Range}
 use Rattle.sk_base.proofs.Digits.{same_front, fraction_ends}

@@ -12,3 +12,8 @@ pub record Taken : Type 0 where
   pub bytes : List ℕ
   -- how many writes have failed
   pub faults : ℕ
+
+-- a connection in memory: where it reads, and where it writes
+pub record Ends : Type 0 where
+  pub feed : Fed
+  pub tray : Taken

@@ -15,10 +15,11 @@ abbrev pub Gives : Option (List ℕ) → List ℕ → Option (List ℕ) → Type
 Gives None bytes after = after ≡ None
 Gives (Some before) bytes after = (rest : List ℕ) × (before ≡ bytes ++ rest) × (after ≡ Some rest)
 
--- What the sink tells now, if it still does, is what it told before and these bytes.
-abbrev pub Takes : Option (List ℕ) → List ℕ → Option (List ℕ) → Type 0
-Takes before bytes None = Unit {0}
-Takes before bytes (Some after) = (told : List ℕ) × (before ≡ Some told) × (after ≡ told ++ bytes)
+-- What the sink tells now, if it still does, is what it told before and these bytes behind it.
+-- So does what tells a list of anything else, as a job of its runs.
+abbrev pub Takes : {T : Type 0} → Option (List T) → List T → Option (List T) → Type 0
+Takes before more None = Unit {0}
+Takes before more (Some after) = (told : List _) × (before ≡ Some told) × (after ≡ told ++ more)
 
 -- some of the bytes, from their front
 abbrev pub IsFront : List ℕ → List ℕ → Type 0

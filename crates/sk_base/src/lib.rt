@@ -1,9 +1,14 @@
-//! The outside as the rest of the system sees it: where bytes come from and where they go, each with a count of its faults, and what a name and a score are.
+//! The outside as the rest of the system sees it: where bytes come from and where they go, each with a count of its faults; what tells the time, and
+//! where chance comes from; and what a name and a score are.
 #![tactic(auto)]
 
 mod bound;
+mod clock;
+mod conn;
+mod dice;
 mod failed;
 mod feed;
+mod mem_conn;
 mod name;
 mod score;
 mod sink;
@@ -13,8 +18,12 @@ mod std_source;
 mod tray;
 
 pub use bound::Bound;
+pub use clock::{Clock, StepClock};
+pub use conn::{Conn, Duplex};
+pub use dice::{Dice, ListDice};
 pub use failed::Failed;
 pub use feed::{Feed, SteadyFeed};
+pub use mem_conn::MemConn;
 pub use name::is_name;
 pub use score::{Score, ScoreFault};
 pub use sink::{Sink, write_all};

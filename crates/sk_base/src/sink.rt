@@ -1,5 +1,5 @@
 // Where bytes go.
-ghost use Rattle.std.specs.Prelude.{◌<◌, ◌≤◌, ℕ, List, Option, [], length, take, IfOk, OnOk, OnErr};
+ghost use Rattle.std.specs.Prelude.{◌≡◌, ◌<◌, ◌≤◌, ℕ, List, Option, None, [], length, take, IfOk, OnOk, OnErr};
 ghost use Rattle.sk_base.specs.Outside.{HasCause, Takes, TakesFront};
 
 use crate::Failed;
@@ -12,12 +12,16 @@ pub trait Sink {
     /// How often a write has failed. The count never falls.
     ghost write_faults: { Self → ℕ };
 
+    /// What no write changes. A connection names here the bytes that it has left, and how often a read has failed.
+    ghost beside_write: { Self → Option (List ℕ) × ℕ } = { λ _. (None, 0) };
+
     /// Takes some of the bytes, from their front, and answers how many: of a piece that isn't empty, at least one.
     fn write(&mut self, bytes: &[u8]) -> Result<usize, Failed>
         ensures within { IfOk result (λ n. n ≤ length bytes.now) }
         ensures some { 0 < length bytes.now → IfOk result (λ n. 0 < n) }
         ensures told { IfOk result (λ n. Takes (taken self.old) (take n bytes.now) (taken self.new)) }
         ensures err { OnErr result (Takes (taken self.old) [] (taken self.new)) }
+        ensures beside { beside_write self.new ≡ beside_write self.old }
         ensures cause { HasCause (write_faults self.old) (write_faults self.new) result };
 }
 
@@ -25,6 +29,7 @@ pub trait Sink {
 pub fn write_all<K: Sink>(sink: &mut K, bytes: &[u8]) -> Result<(), Failed>
     ensures told { OnOk result (Takes (K.taken sink.old) bytes.now (K.taken sink.new)) }
     ensures err { OnErr result (TakesFront (K.taken sink.old) bytes.now (K.taken sink.new)) }
+    ensures beside { K.beside_write sink.new ≡ K.beside_write sink.old }
     ensures cause { HasCause (K.write_faults sink.old) (K.write_faults sink.new) result }
 {
     let mut rest = bytes;

@@ -1,9 +1,14 @@
+pub mod Along
+pub mod Counted
+pub mod Indexed
+pub mod Kept
+pub mod Listed
+pub mod Looks
 pub mod Making
-pub mod Marking
-pub mod Numbers
 pub mod Order
 pub mod Places
 pub mod Refusals
+pub mod Repeats
 pub mod Telling
 pub mod Walks
 pub mod Worked

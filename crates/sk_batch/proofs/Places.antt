@@ -1,6 +1,5 @@
 -- The first place that passes, and edits there.
-use Rattle.std.proofs.Common.{◌≡◌, ℕ, zero, suc, ◌+◌, ◌<◌, ◌≤◌, Bool, true, false, not, List, [], ◌∷◌, length, drop, take, get_or, refl, arith, ap, ◌∙◌, nat_eq, slice_get, Option, Some, None, length-drop, length-take}
-use Rattle.std.proofs.lemmas.List.{take_all}
+use Rattle.std.proofs.Common.{◌≡◌, ℕ, zero, suc, ◌<◌, ◌≤◌, Bool, true, false, List, [], ◌∷◌, length, get_or, refl, arith, ap, ◌∙◌, slice_get, Option, Some, None}
 use Rattle.std.specs.List.{position_or_len, list_any}
 use Rattle.std.specs.List.{remove}
 use Rattle.sk_undo.specs.Moves.{moved, put_down}
@@ -15,20 +14,8 @@ module _ {X : Type 0} (p : X → Bool) where
   no_position [] at e h = refl
   no_position (x ∷ xs) at e h = grind (arith, no_position xs (position_or_len p xs) refl)
 
--- nothing passes in a part of a list
-pub none_between : {X : Type 0} (p : X → Bool) (xs : List X) (first end at : ℕ) → first ≤ end → end ≤ length xs → at ≤ end → at ≡ first + position_or_len p (drop first (take end xs)) → nat_eq at end ≡ not (list_any p (drop first (take end xs)))
-none_between p xs first end at h k w e =
-    let n = length-drop first (take end xs) in
-    let m = length-take end xs in
-    let some = any_position p (drop first (take end xs)) (position_or_len p (drop first (take end xs))) refl in
-    let none = no_position p (drop first (take end xs)) (position_or_len p (drop first (take end xs))) refl in
-    grind (arith, n, m, some, none, w, e)
-
-pub drop_whole : {X : Type 0} (xs : List X) (at end : ℕ) → end ≡ length xs → drop (at + 1) (take end xs) ≡ drop (suc at) xs
-drop_whole xs at end e = let n : at + 1 ≡ suc at = omega arith in ap (drop (at + 1)) (take_all end xs (omega (arith, e))) ∙ ap (λ m. drop m xs) n
-
 module _ {K T : Type 0} where
-  put_down_behind : (found : Option (K × T)) (n : ℕ) (tag : K) (x : K × T) (rest : List (K × T)) → put_down found (suc n) tag (x ∷ rest) ≡ x ∷ put_down found n tag rest
+  pub put_down_behind : (found : Option (K × T)) (n : ℕ) (tag : K) (x : K × T) (rest : List (K × T)) → put_down found (suc n) tag (x ∷ rest) ≡ x ∷ put_down found n tag rest
   put_down_behind None n tag x rest = refl
   put_down_behind (Some y) n tag x rest = refl
 

@@ -1,8 +1,10 @@
 -- The first rule that is broken, where the rules are looked at one group after another.
-use Rattle.std.proofs.Common.{◌≡◌, List, Option, Some, None, arith}
+use Rattle.std.proofs.Common.{◌≡◌, ◌∙◌, Bool, not, List, Option, Some, None, ap, arith}
 use Rattle.sk_resp.specs.Spelling.{Bytes}
-use Rattle.sk_batch.specs.Batched.{Batched}
-use Rattle.sk_batch.specs.Faults.{batch_fault, bid_fault, jids_fault}
+use Rattle.sk_batch.specs.Batched.{Batched, is_there}
+use Rattle.sk_batch.specs.Faults.{batch_fault, bid_fault, breaks, jids_fault}
+use Rattle.sk_batch.specs.Open.{is_settled}
+use Rattle.sk_batch.specs.declared.batch_fault.BatchFault.TheVariants.{NoBatch, RepeatedBid, Settled}
 use Rattle.sk_batch.specs.declared.batch_fault.BatchFault.{BatchFault}
 
 module _ (bid : Bytes) (s : Batched) (later : Option BatchFault) where
@@ -25,3 +27,14 @@ module _ (bid : Bytes) (s : Batched) (later : Option BatchFault) where
 
   pub jids_broken : (jids : List Bytes) (f : BatchFault) → jids_fault bid jids s None ≡ Some f → jids_fault bid jids s later ≡ Some f
   jids_broken jids f h = grind (arith, h)
+
+-- the rules one by one, with what was found
+module _ (bid : Bytes) (s : Batched) (settled : Bool) where
+  pub batch_rules : (there : Bool) → is_there bid s.batches ≡ there → is_settled s bid ≡ settled → batch_fault bid s None ≡ breaks (not there) NoBatch (breaks settled Settled None)
+  batch_rules there t e = ap (λ x. breaks (not x) NoBatch (breaks (is_settled s bid) Settled None)) t ∙ ap (λ x. breaks (not there) NoBatch (breaks x Settled None)) e
+
+  pub parent_rules : (parent : Bytes) (there new : Bool) → is_there parent s.batches ≡ there → is_there bid s.batches ≡ new → is_settled s parent ≡ settled → bid_fault bid (Some parent) s None ≡ breaks (not there) NoBatch (breaks new RepeatedBid (breaks settled Settled None))
+  parent_rules parent there new t n e =
+      ap (λ x. breaks (not x) NoBatch (breaks (is_there bid s.batches) RepeatedBid (breaks (is_settled s parent) Settled None))) t
+      ∙ ap (λ x. breaks (not there) NoBatch (breaks x RepeatedBid (breaks (is_settled s parent) Settled None))) n
+      ∙ ap (λ x. breaks (not there) NoBatch (breaks new RepeatedBid (breaks x Settled None))) e

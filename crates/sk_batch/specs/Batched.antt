@@ -24,7 +24,8 @@ pub record Batched : Type 0 where
   -- of all batches, in the order of their ids, each once; a jid may be a member of several batches
   pub members : List MemberEntry
 
-abbrev pub has_bid : Bytes → BatchEntry → Bool
+-- the batch of this bid, whatever is kept with it
+abbrev pub has_bid : {K : Type 0} → Bytes → K × Batch → Bool
 has_bid bid b = bytes_eq b.1.bid bid
 
 -- the batch was made

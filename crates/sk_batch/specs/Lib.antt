@@ -1,11 +1,16 @@
+pub mod Along
+pub mod BatchList
 pub mod Batched
+pub mod Due
 pub mod Events
 pub mod Faults
 pub mod Fires
 pub mod Lines
+pub mod Numbers
 pub mod Open
 pub mod Order
-pub mod Others
+pub mod Places
 pub mod Stat
+pub mod States
 pub mod Told
 pub mod Whole

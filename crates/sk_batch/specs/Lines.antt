@@ -2,22 +2,25 @@
 use Rattle.std.specs.Prelude.{Bool, cond, List, [], ◌∷◌, Option, Some, None}
 use Rattle.std.specs.List.{list_any}
 use Rattle.sk_resp.specs.Spelling.{Bytes}
-use Rattle.sk_batch.specs.Batched.{BatchEntry, has_bid}
+use Rattle.sk_batch.specs.Batched.{has_bid}
+use Rattle.sk_batch.specs.declared.batch.Batch.{Batch}
 
-abbrev pub line_above : Option Bytes → (Bytes → List BatchEntry) → List BatchEntry
-line_above None line = []
-line_above (Some parent) line = line parent
+-- whatever is kept with each batch
+module _ {K : Type 0} where
+  abbrev pub line_above : Option Bytes → (Bytes → List (K × Batch)) → List (K × Batch)
+  line_above None line = []
+  line_above (Some parent) line = line parent
 
--- A batch, its parent, the parent's parent and so on, the inner first. Parents are looked for among the batches that were made before.
-abbrev pub line : List BatchEntry → Bytes → List BatchEntry
-line [] bid = []
-line (b ∷ older) bid = cond (has_bid bid b) (b ∷ line_above b.1.parent (line older)) (line older bid)
+  -- A batch, its parent, the parent's parent and so on, the inner first. Parents are looked for among the batches that were made before.
+  abbrev pub line : List (K × Batch) → Bytes → List (K × Batch)
+  line [] bid = []
+  line (b ∷ older) bid = cond (has_bid bid b) (b ∷ line_above b.1.parent (line older)) (line older bid)
 
--- the inner batch is the outer one, or is somewhere within it
-abbrev pub is_under : List BatchEntry → Bytes → Bytes → Bool
-is_under batches inner outer = list_any (has_bid outer) (line batches inner)
+  -- the inner batch is the outer one, or is somewhere within it
+  abbrev pub is_under : List (K × Batch) → Bytes → Bytes → Bool
+  is_under batches inner outer = list_any (has_bid outer) (line batches inner)
 
--- of a list that begins with a batch, this one and those that it is in
-abbrev pub line_of_first : List BatchEntry → List BatchEntry
-line_of_first [] = []
-line_of_first (b ∷ older) = b ∷ line_above b.1.parent (line older)
+  -- of a list that begins with a batch, this one and those that it is in
+  abbrev pub line_of_first : List (K × Batch) → List (K × Batch)
+  line_of_first [] = []
+  line_of_first (b ∷ older) = b ∷ line_above b.1.parent (line older)

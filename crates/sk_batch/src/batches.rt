@@ -1,5 +1,5 @@
-// Nested batches, as two lists whose edits in an open step can be taken back: the batches, the newest first, and the members of all of them. Each
-// call finds first what is to be done and takes all memory for it; only then does it change anything.
+// Nested batches, as two lists whose edits in an open step can be taken back: the batches, the newest first, each with its numbers, and the members of
+// all of them. Each call finds first what is to be done and takes all memory for it; only then does it change anything.
 ghost use Rattle.std.specs.Prelude.{◌≡◌, ◌^◌, ◌≤◌, [], None, Ok, Err, IfErr, IfOk, IfSome, IsSome, MatchOption, OnErr, OnOk, length, option_map};
 ghost use Rattle.std.specs.Result.{result_err};
 ghost use Rattle.sk_batch.specs.Events.{died, died_fires, joined, made, made_fires, reported, reported_fires, returned, returned_fires};
@@ -8,12 +8,13 @@ ghost use Rattle.sk_batch.specs.Stat.{IsSmall, stat};
 ghost use Rattle.sk_batch.specs.declared.batch_fault.BatchFault.TheVariants as fault;
 ghost use Rattle.sk_undo.specs.Steps.{begun, closed, committed, edited, undone};
 
+use crate::batch_list::BatchList;
 use crate::event::Event;
 use crate::faults::{check_batch, check_bid, check_jids};
 use crate::make::{join, make};
 use crate::stats::stat;
 use crate::told::tell;
-use crate::{Batch, BatchFault, BatchStat, Fired, Firing, Marks, Member, Memory};
+use crate::{Batch, BatchFault, BatchStat, Firing, Marks, Member, Memory};
 use sk_resp::Word;
 use sk_undo::UndoList;
 use std::alloc::Global;
@@ -23,8 +24,9 @@ use std::marker::Model;
 /// stood at the begin of an open step.
 #[derive(Drop)]
 pub struct Batches {
+    alloc: Global,
     most: u64,
-    batches: UndoList<Fired, Batch>,
+    batches: BatchList,
     members: UndoList<Marks, Member>,
 }
 
@@ -47,8 +49,9 @@ impl Batches {
         ensures { result ≡ closed (record { most = most; batches = []; members = [] }) }
     {
         Batches {
+            alloc,
             most,
-            batches: UndoList::new(alloc),
+            batches: BatchList::new(alloc),
             members: UndoList::new(alloc),
         }
     }
@@ -81,21 +84,21 @@ impl Batches {
     pub fn check_bid(&self, bid: &[u8], parent: Option<&[u8]>) -> Result<(), BatchFault>
         ensures { result_err result ≡ bid_fault bid.now (option_map (λ p. p.now) parent.entry) self.now.stands None }
     {
-        check_bid(&self.batches, &self.members, bid, parent)
+        check_bid(&self.batches, bid, parent)
     }
 
     /// The rules on a batch that gets jobs: [`BatchFault::NoBatch`] and [`BatchFault::Settled`], in this order. Takes no memory.
     pub fn check_batch(&self, bid: &[u8]) -> Result<(), BatchFault>
         ensures { result_err result ≡ batch_fault bid.now self.now.stands None }
     {
-        check_batch(&self.batches, &self.members, bid)
+        check_batch(&self.batches, bid)
     }
 
     /// The rule on the jids of new members, [`BatchFault::RepeatedJid`]. Takes no memory.
     pub fn check_jids(&self, bid: &[u8], jids: &[Word]) -> Result<(), BatchFault>
         ensures { result_err result ≡ jids_fault bid.now jids.now self.now.stands None }
     {
-        check_jids(&self.batches, &self.members, bid, jids)
+        check_jids(self.alloc, &self.members, bid, jids)
     }
 
     // All rules on a new batch and its first jobs.
@@ -150,7 +153,7 @@ impl Batches {
         ensures err { OnErr result (self.new ≡ self.old) }
     {
         self.check_add(bid, &jids)?;
-        match join(alloc, &mut self.members, bid, jids) {
+        match join(alloc, &mut self.batches, &mut self.members, bid, jids) {
             Ok(()) => Ok(()),
             Err(_) => Err(BatchFault::Memory),
         }

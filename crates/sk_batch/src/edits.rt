@@ -2,14 +2,16 @@
 ghost use Rattle.std.specs.Prelude.{◌≡◌, ◌+◌, ◌<◌, ◌≤◌, Bool, true, length, vec_len};
 ghost use Rattle.std.specs.List.{position_or_len};
 ghost use Rattle.sk_batch.specs.Batched.{MemberEntry, has_bid};
-ghost use Rattle.sk_batch.specs.Fires.{after_fires, retagged, with_kind};
+ghost use Rattle.sk_batch.specs.Fires.{retagged, with_kind};
 ghost use Rattle.sk_batch.specs.Open.{with_mark};
 ghost use Rattle.sk_batch.specs.Order.{is_ordered, put_all};
+ghost use Rattle.sk_batch.specs.States.{all_fired, with_fired};
 ghost use Rattle.sk_undo.specs.Steps.{edited};
 
-use crate::line::first_batch;
+use crate::batch_list::BatchList;
 use crate::members::place_for;
-use crate::{Batch, Fired, Firing, Kind, Mark, Marks, Member};
+use crate::state::State;
+use crate::{Fired, Firing, Kind, Mark, Marks, Member};
 use sk_undo::UndoList;
 
 fn with_mark(mark: Mark, marks: Marks) -> Marks
@@ -58,22 +60,24 @@ fn with_kind(kind: Kind, fired: Fired) -> Fired
 
 // Marks that this was fired of a batch.
 #[tactic(auto, using(crate::proofs::Places::retagged_none, crate::proofs::Places::no_position))]
-fn mark_one(batches: &mut UndoList<Fired, Batch>, bid: &[u8], kind: Kind)
+fn mark_one(batches: &mut BatchList, bid: &[u8], kind: Kind)
     requires { 0 < batches.old.room }
-    ensures list { batches.new.list ≡ edited (retagged (has_bid bid.now) (with_kind kind) batches.old.list.stands) batches.old.list }
+    ensures list { batches.new.list ≡ edited (retagged (has_bid bid.now) (with_fired kind) batches.old.list.stands) batches.old.list }
     ensures room { batches.old.room ≤ batches.new.room + 1 }
 {
-    let at = first_batch(batches, bid);
+    let at = batches.find(bid);
     if at < batches.len() {
-        let fired = batches.get(at).0;
-        batches.shift(at, at, with_kind(kind, fired));
+        let state = batches.get(at).0;
+        let fired = with_kind(kind, state.fired);
+        batches.set_state(at, State { fired, ..state });
     }
 }
 
 /// Marks what was fired.
-pub fn mark_fired(batches: &mut UndoList<Fired, Batch>, firings: &[Firing])
+pub fn mark_fired(batches: &mut BatchList, firings: &[Firing])
     requires { length firings.now ≤ batches.old.room }
-    ensures { batches.new.list ≡ edited (after_fires firings.now batches.old.list.stands) batches.old.list }
+    ensures list { batches.new.list ≡ edited (all_fired firings.now batches.old.list.stands) batches.old.list }
+    ensures room { batches.old.room ≤ batches.new.room + length firings.now }
 {
     for firing in firings {
         mark_one(batches, firing.bid.bytes(), firing.kind);

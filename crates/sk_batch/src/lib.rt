@@ -3,9 +3,11 @@
 
 mod batch;
 mod batch_fault;
+mod batch_list;
 mod batch_stat;
 mod batches;
 mod callbacks;
+mod due;
 mod edits;
 mod event;
 mod faults;
@@ -14,6 +16,8 @@ mod line;
 mod make;
 mod member;
 mod members;
+mod numbers;
+mod state;
 mod stats;
 mod told;
 

@@ -1,12 +1,21 @@
 // Batches and members that come.
-ghost use Rattle.std.specs.Prelude.{◌≡◌, ◌∷◌, true, IfOk, OnErr, OnOk};
+ghost use Rattle.std.specs.Prelude.{◌≡◌, ◌≤◌, ◌∷◌, false, true, IfOk, List, OnErr, OnOk, length, vec_len};
+ghost use Rattle.std.specs.List.{list_any};
+ghost use Rattle.sk_resp.specs.Spelling.{Bytes};
+ghost use Rattle.sk_batch.specs.Batched.{has_bid, is_there};
 ghost use Rattle.sk_batch.specs.Events.{made_fires, members_of, unfired};
 ghost use Rattle.sk_batch.specs.Fires.{after_fires};
-ghost use Rattle.sk_batch.specs.Order.{is_ordered, put_all};
+ghost use Rattle.sk_batch.specs.Lines.{line};
+ghost use Rattle.sk_batch.specs.Order.{put_all};
+ghost use Rattle.sk_batch.specs.States.{AreEdited, AreKept, new_state, seen_of};
+ghost use Rattle.sk_undo.specs.Balance.{most};
 ghost use Rattle.sk_undo.specs.Steps.{edited};
 
+use crate::batch_list::BatchList;
 use crate::edits::add_members;
-use crate::line::firing;
+use crate::line::{change_line, depth, firing};
+use crate::numbers::{Change, Numbers};
+use crate::state::State;
 use crate::{Batch, Fired, Firing, Kind, Marks, Member, Memory};
 use sk_resp::Word;
 use sk_undo::UndoList;
@@ -28,20 +37,47 @@ fn new_members(alloc: Global, bid: &[u8], jids: Vec<Word>) -> Result<Vec<(Marks,
     Ok(news)
 }
 
+// New members come to a batch, and to the numbers of those that it is in.
+fn enter(
+    batches: &mut BatchList,
+    members: &mut UndoList<Marks, Member>,
+    bid: &[u8],
+    news: Vec<(Marks, Member)>,
+)
+    requires batches { length (line batches.old.list.stands bid.now) ≤ batches.old.room }
+    requires members { vec_len news ≤ members.old.room }
+    requires kept { AreKept batches.old.list.stands members.old.list.stands }
+    requires there { is_there bid.now (seen_of batches.old.list.stands) ≡ true }
+    ensures batches { AreEdited batches.old.list batches.new.list (seen_of batches.old.list.stands) }
+    ensures members { members.new.list ≡ edited (put_all news.items members.old.list.stands) members.old.list }
+    ensures kept { (jids : List Bytes) → news.items ≡ members_of bid.now jids → vec_len news ≤ most → AreKept batches.new.list.stands members.new.list.stands }
+{
+    let _len = members.len(); // its contract says that there are no more than 2^60
+    change_line(batches, bid, Change::Came(news.len() as u64));
+    add_members(members, news);
+}
+
 /// Jobs are added to a batch.
 pub fn join(
     alloc: Global,
+    batches: &mut BatchList,
     members: &mut UndoList<Marks, Member>,
     bid: &[u8],
     jids: Vec<Word>,
 ) -> Result<(), Memory>
-    requires { is_ordered members.old.list.stands ≡ true }
-    ensures ok { OnOk result (members.new.list ≡ edited (put_all (members_of bid.now jids.items) members.old.list.stands) members.old.list) }
-    ensures err { OnErr result (members.new.list ≡ members.old.list) }
+    requires kept { AreKept batches.old.list.stands members.old.list.stands }
+    requires there { is_there bid.now (seen_of batches.old.list.stands) ≡ true }
+    ensures batches { OnOk result (AreEdited batches.old.list batches.new.list (seen_of batches.old.list.stands)) }
+    ensures members { OnOk result (members.new.list ≡ edited (put_all (members_of bid.now jids.items) members.old.list.stands) members.old.list) }
+    ensures kept { OnOk result (AreKept batches.new.list.stands members.new.list.stands) }
+    ensures err_batches { OnErr result (batches.new.list ≡ batches.old.list) }
+    ensures err_members { OnErr result (members.new.list ≡ members.old.list) }
 {
     let news = new_members(alloc, bid, jids)?;
+    let depth = depth(batches, bid);
+    batches.reserve(depth)?;
     members.reserve(news.len())?;
-    add_members(members, news);
+    enter(batches, members, bid, news);
     Ok(())
 }
 
@@ -57,33 +93,69 @@ fn made_fires(alloc: Global, batch: &Batch, jids: &[Word]) -> Result<Vec<Firing>
     Ok(firings)
 }
 
+// The state of a new batch, whose complete and success are fired where it has no jobs.
+fn new_state(empty: bool) -> State
+    ensures { result ≡ new_state empty }
+{
+    State {
+        fired: Fired {
+            complete: empty,
+            success: empty,
+            death: false,
+        },
+        numbers: Numbers::none(),
+    }
+}
+
+// Puts in a new batch with its state, and takes all memory for it and for this many members.
+fn add_batch(
+    batches: &mut BatchList,
+    members: &mut UndoList<Marks, Member>,
+    state: State,
+    batch: Batch,
+    count: usize,
+) -> Result<(), Memory>
+    requires { list_any (has_bid batch.bid) batches.old.list.stands ≡ false }
+    ensures batches { OnOk result (batches.new.list ≡ edited ((state, batch) ∷ batches.old.list.stands) batches.old.list) }
+    ensures room { OnOk result (length (line batches.new.list.stands batch.bid) ≤ batches.new.room) }
+    ensures members { OnOk result (count ≤ members.new.room) }
+    ensures same { members.new.list ≡ members.old.list }
+    ensures err { OnErr result (batches.new.list ≡ batches.old.list) }
+{
+    let depth = match &batch.parent {
+        None => 0,
+        Some(parent) => depth(batches, parent.bytes()),
+    };
+    let bid = batch.bid.copy()?;
+    batches.reserve(depth + 2)?;
+    members.reserve(count)?;
+    batches.put_first(bid, state, batch);
+    Ok(())
+}
+
 /// A batch is made, with its first jobs. Answers what is fired.
 #[tactic(auto, using(crate::proofs::Making::made_at_front))]
 pub fn make(
     alloc: Global,
-    batches: &mut UndoList<Fired, Batch>,
+    batches: &mut BatchList,
     members: &mut UndoList<Marks, Member>,
     batch: Batch,
     jids: Vec<Word>,
 ) -> Result<Vec<Firing>, Memory>
-    requires { is_ordered members.old.list.stands ≡ true }
+    requires kept { AreKept batches.old.list.stands members.old.list.stands }
+    requires new { is_there batch.bid (seen_of batches.old.list.stands) ≡ false }
     ensures fires { IfOk result (λ firings. firings.items ≡ made_fires batch jids.items) }
-    ensures batches { OnOk result (batches.new.list ≡ edited (after_fires (made_fires batch jids.items) ((unfired, batch) ∷ batches.old.list.stands)) batches.old.list) }
+    ensures batches { OnOk result (AreEdited batches.old.list batches.new.list (after_fires (made_fires batch jids.items) ((unfired, batch) ∷ seen_of batches.old.list.stands))) }
     ensures members { OnOk result (members.new.list ≡ edited (put_all (members_of batch.bid jids.items) members.old.list.stands) members.old.list) }
+    ensures kept { OnOk result (AreKept batches.new.list.stands members.new.list.stands) }
     ensures err_batches { OnErr result (batches.new.list ≡ batches.old.list) }
     ensures err_members { OnErr result (members.new.list ≡ members.old.list) }
 {
     let firings = made_fires(alloc, &batch, &jids)?;
-    let empty = jids.is_empty();
-    let fired = Fired {
-        complete: empty,
-        success: empty,
-        death: false,
-    };
-    let news = new_members(alloc, batch.bid.bytes(), jids)?;
-    batches.reserve(1)?;
-    members.reserve(news.len())?;
-    batches.insert(0, (fired, batch));
-    add_members(members, news);
+    let state = new_state(jids.is_empty());
+    let bid = batch.bid.copy()?;
+    let news = new_members(alloc, bid.bytes(), jids)?;
+    add_batch(batches, members, state, batch, news.len())?;
+    enter(batches, members, bid.bytes(), news);
     Ok(firings)
 }

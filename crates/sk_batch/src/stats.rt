@@ -1,68 +1,29 @@
-// The numbers of a batch.
-ghost use Rattle.std.specs.Prelude.{◌≡◌, ◌^◌, ◌≤◌, not, ◌&&◌, IfSome, length};
-ghost use Rattle.std.specs.List.{count_by};
-ghost use Rattle.sk_batch.specs.Others.{of_lists};
-ghost use Rattle.sk_batch.specs.Stat.{IsSmall, numbers_of, stat};
+// The numbers of a batch, as they are kept with it.
+ghost use Rattle.std.specs.Prelude.{◌≡◌, IfSome};
+ghost use Rattle.sk_batch.specs.Stat.{IsSmall, stat};
+ghost use Rattle.sk_batch.specs.States.{AreKept, of_lists, seen_of};
 
-use crate::line::{batch_at, first_batch};
-use crate::members::{IsIn, Lacks, Pending, count_where};
-use crate::{Batch, BatchStat, Fired, Mark, Marks, Member};
+use crate::batch_list::BatchList;
+use crate::{BatchStat, Marks, Member};
 use sk_undo::UndoList;
 
-fn numbers(
-    batches: &UndoList<Fired, Batch>,
-    members: &UndoList<Marks, Member>,
-    entry: &(Fired, Batch),
-) -> BatchStat
-    ensures is { result ≡ numbers_of (of_lists batches.now.list.stands members.now.list.stands) entry.now }
-    ensures small { IsSmall result }
-{
-    let bid = entry.1.bid.bytes();
-    let all = count_where(members, &IsIn { bid });
-    let pending = count_where(
-        members,
-        &Pending {
-            bid,
-            mark: Mark::Returned,
-        },
-    );
-    let unreported = count_where(
-        members,
-        &Pending {
-            bid,
-            mark: Mark::Reported,
-        },
-    );
-    let under = count_where(
-        members,
-        &Lacks {
-            batches,
-            bid,
-            mark: Mark::Returned,
-        },
-    );
-    BatchStat {
-        members: all,
-        pending,
-        unreported,
-        died: entry.0.death,
-        pending_under: under,
-    }
-}
-
 /// The numbers of a batch, where it was made.
-pub fn stat(
-    batches: &UndoList<Fired, Batch>,
-    members: &UndoList<Marks, Member>,
-    bid: &[u8],
-) -> Option<BatchStat>
-    ensures is { result ≡ stat bid.now (of_lists batches.now.list.stands members.now.list.stands) }
+pub fn stat(batches: &BatchList, members: &UndoList<Marks, Member>, bid: &[u8]) -> Option<BatchStat>
+    requires { AreKept batches.now.list.stands members.now.list.stands }
+    ensures is { result ≡ stat bid.now (of_lists (seen_of batches.now.list.stands) members.now.list.stands) }
     ensures small { IfSome result IsSmall }
 {
-    let at = first_batch(batches, bid);
+    let _len = members.len(); // its contract says that there are no more than 2^60
+    let at = batches.find(bid);
     if at == batches.len() {
         return None;
     }
-    let (entry, _) = batch_at(batches, at);
-    Some(numbers(batches, members, entry))
+    let state = batches.get(at).0;
+    Some(BatchStat {
+        members: state.numbers.members,
+        pending: state.numbers.own.unreturned,
+        unreported: state.numbers.own.unreported,
+        died: state.fired.death,
+        pending_under: state.numbers.under.unreturned,
+    })
 }

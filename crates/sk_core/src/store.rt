@@ -6,6 +6,7 @@ ghost use Rattle.sk_model.specs.Status.{numbers};
 ghost use Rattle.sk_model.specs.Step.{Steps, cut};
 ghost use Rattle.sk_model.specs.World.{first, phase_of};
 ghost use Rattle.sk_jobs.specs.Counting.{tally_of};
+ghost use Rattle.sk_core.specs.Whole.{KeepsLaws};
 
 use crate::dispatch::step;
 use sk_cmd::Command;
@@ -63,6 +64,14 @@ impl Core {
         ensures { self.new ≡ perform self.old (cut seat).changes }
     {
         self.store.seats.cut(seat);
+    }
+
+    /// What holds of every store: each live job is kept, each pushed row is accounted for, and the callbacks that were pushed are no more than were
+    /// fired. Does nothing.
+    pub fn sound(&self)
+        ensures { KeepsLaws self.now }
+    {
+        let _ = &self.store;
     }
 
     /// What the seat is doing. Logarithmic.

@@ -38,6 +38,7 @@ pub mod Running
 pub mod Readings
 pub mod Fitting
 pub mod Coming
+pub mod Acking
 mod Worked
 mod WorkedBatches
 mod WorkedSeats

@@ -11,7 +11,6 @@ pub mod Told
 pub mod Jobs
 pub mod Batches
 pub mod Seats
-pub mod Digest
 pub mod Unique
 pub mod Periodic
 pub mod Workers
@@ -21,6 +20,7 @@ pub mod Step
 pub mod Reading
 pub mod Event
 pub mod Run
+pub mod Acked
 pub mod Life
 pub mod Once
 pub mod Covered

@@ -1,9 +1,11 @@
 //! The abstract store: what it keeps, what each command does to it, what runs of events are, and what holds of every run.
 #![tactic(auto)]
 
+mod acked;
 mod laws;
 mod limits;
 
+pub use acked::replies_acknowledge_pushes;
 pub use laws::{
     callbacks_follow, complete_fires_once, death_fires_once, events_are_served_or_starve,
     limits_stay, live_jobs_stand, moves_have_causes, nothing_is_lost, own_words_never_starve,

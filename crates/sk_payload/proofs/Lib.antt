@@ -6,3 +6,5 @@ pub mod Worked
 pub mod Chars
 pub mod Failures
 pub mod Heads
+pub mod Depths
+pub mod Drafts

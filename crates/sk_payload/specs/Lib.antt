@@ -4,3 +4,5 @@ pub mod Head
 pub mod Reading
 pub mod Follows
 pub mod Failed
+pub mod Digest
+pub mod Draft

@@ -1,5 +1,5 @@
 // A job's text, kept with its head.
-ghost use Rattle.std.specs.Prelude.{◌≡◌, ◌↔◌, ◌<◌, [], Some, None, Err, true, IfOk, IsSomeAnd, option_map};
+ghost use Rattle.std.specs.Prelude.{◌≡◌, ◌↔◌, ◌<◌, ◌≤◌, [], Some, None, Err, true, IfOk, IfSome, IsSomeAnd, option_map};
 ghost use Rattle.sk_payload.specs.Failed.{failed as failed_in, next_head};
 ghost use Rattle.sk_payload.specs.Follows.{follows as texts_follow};
 ghost use Rattle.sk_payload.specs.Head.{jid_of, head as head_of};
@@ -72,7 +72,8 @@ impl Payload {
     ///
     /// Of members with one name only the last counts. Other members are free.
     pub fn head(&self) -> Option<&Head>
-        ensures { option_map (λ head. head.now) result ≡ head_of self.now }
+        ensures value { option_map (λ head. head.now) result ≡ head_of self.now }
+        ensures generation { IfSome result (λ head. head.now.gen_ ≤ 1000000000) }
     {
         self.head.as_deref()
     }

@@ -2,6 +2,7 @@
 //! memory at hand refuses a body that always gives it.
 #![tactic(auto)]
 
+mod crons;
 mod heads;
 mod outcome;
 mod repeats;
@@ -33,6 +34,7 @@ fn outcomes(alloc: Global, row: &Row<'_>, input: &[u8]) -> io::Result<Vec<Outcom
         Form::Wire => wire::in_all_pieces(alloc, &row.words, input),
         Form::Repeats => wire::in_one_piece(alloc, &row.words, input),
         Form::Heads => Outcome::alone(heads::heads(alloc, input)?),
+        Form::Crons => Outcome::alone(crons::slots(alloc, input)?),
         Form::Replies => Outcome::alone(replies::written_again(alloc, input)?),
         Form::Steps => Outcome::alone(steps::answers(alloc, &row.words, input)?),
     }

@@ -12,6 +12,8 @@ pub enum Form {
     Repeats,
     /// `heads`: texts of jobs, one a line. Their heads are compared.
     Heads,
+    /// `crons`: a moment, an offset and a cron text, one of each a line. The latest slots, or where a text isn't read, are compared.
+    Crons,
     /// `replies`: replies that are read. They are compared as they are written again.
     Replies,
     /// `steps`: commands for a store, one a line. Its replies, its page, its tally and its seats' phases are compared.
@@ -36,6 +38,7 @@ impl Form {
             "wire" => Some(Form::Wire),
             "repeats" => Some(Form::Repeats),
             "heads" => Some(Form::Heads),
+            "crons" => Some(Form::Crons),
             "replies" => Some(Form::Replies),
             "steps" => Some(Form::Steps),
             _ => None,

@@ -2,16 +2,22 @@
 #![tactic(auto)]
 
 #[cfg(test)]
+mod desk;
+#[cfg(test)]
 mod payloads;
 #[cfg(test)]
 mod pipe;
 #[cfg(test)]
 mod replies;
 #[cfg(test)]
+mod policy;
+#[cfg(test)]
 mod requests;
 #[cfg(test)]
 mod streams;
 #[cfg(test)]
 mod undo;
+#[cfg(test)]
+mod worker;
 #[cfg(test)]
 mod zset;

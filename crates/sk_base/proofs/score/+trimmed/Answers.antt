@@ -1,4 +1,4 @@
-use Rattle.std.proofs.Common.{◌≡◌, ◌∙◌}
+use Rattle.std.proofs.Common.{◌∙◌}
 use Rattle.sk_base.proofs.Digits.{ends_in_zero, ends_in_none}
 use Rattle.sk_base.proofs.score.+trimmed.Goals as goal
 

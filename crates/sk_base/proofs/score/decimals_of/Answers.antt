@@ -1,4 +1,4 @@
-use Rattle.std.proofs.Common.{◌≡◌, ◌<◌, length, ap, arith}
+use Rattle.std.proofs.Common.{arith}
 use Rattle.sk_base.proofs.Digits.{decimals_are}
 use Rattle.sk_base.proofs.score.decimals_of.Goals as goal
 

@@ -1,4 +1,4 @@
-use Rattle.std.proofs.Common.{◌≡◌, ◌+◌, ◌<◌, ◌≤◌, length, arith}
+use Rattle.std.proofs.Common.{arith}
 use Rattle.sk_base.proofs.Digits.{digits_more}
 use Rattle.sk_base.proofs.score.front_digits.Goals as goal
 

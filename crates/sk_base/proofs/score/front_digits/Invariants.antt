@@ -1,4 +1,4 @@
-use Rattle.std.proofs.Common.{length, ◌-◌, ◌≡◌, ◌≤◌, take}
+use Rattle.std.proofs.Common.{length, ◌-◌, ◌≤◌, take}
 use Rattle.sk_base.specs.Score.{IsDigits}
 use Rattle.sk_base.proofs.score.front_digits.Given as goal
 

@@ -1,4 +1,4 @@
-use Rattle.std.proofs.Common.{◌≡◌, sym, subst}
+use Rattle.std.proofs.Common.{sym, subst}
 use Rattle.sk_base.specs.Score.{IsDigits}
 use Rattle.sk_base.proofs.Digits.{six_are_digits}
 use Rattle.sk_base.proofs.score.magnitude.Goals as goal

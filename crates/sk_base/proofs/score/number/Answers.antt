@@ -1,4 +1,4 @@
-use Rattle.std.proofs.Common.{◌≡◌, ◌<◌, sym, subst, arith}
+use Rattle.std.proofs.Common.{◌<◌, sym, subst, arith}
 use Rattle.sk_base.specs.Score.{greatest}
 use Rattle.sk_base.proofs.Digits.{over}
 use Rattle.sk_base.proofs.score.number.Goals as goal

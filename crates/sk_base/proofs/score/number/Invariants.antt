@@ -1,4 +1,4 @@
-use Rattle.std.proofs.Common.{◌≡◌, ◌≤◌, ◌^◌, drop}
+use Rattle.std.proofs.Common.{◌≡◌, ◌≤◌, drop}
 use Rattle.std.specs.Str.Parse.{digits_value_after}
 use Rattle.sk_base.specs.Score.{IsDigits, greatest}
 use Rattle.sk_base.proofs.score.number.Given as goal

@@ -1,4 +1,4 @@
-use Rattle.std.proofs.Common.{◌≡◌, ◌<◌, ◌∙◌, length, ap, sym, arith}
+use Rattle.std.proofs.Common.{length, ap, arith}
 use Rattle.sk_base.proofs.Digits.{whole_is}
 use Rattle.sk_base.proofs.score.parts.Goals as goal
 

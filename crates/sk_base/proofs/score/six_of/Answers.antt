@@ -1,4 +1,4 @@
-use Rattle.std.proofs.Common.{◌≡◌, ap, ◌∙◌, ◌++◌, take, drop}
+use Rattle.std.proofs.Common.{ap, ◌∙◌, ◌++◌, take, drop}
 use Rattle.sk_base.proofs.Digits.{six_is, zeros}
 use Rattle.sk_base.proofs.score.six_of.Goals as goal
 

@@ -12,7 +12,7 @@ returns-in_default-head c =
     let text = c.args.text.now in
     let found = found_in c.args.phase.now c.in-Joined.ident c.in-Joined.works (is_held_as text) c.args.at c.in-Joined.is c.requires in
     let same = held_text text c.in-Joined.works c.get.result.now (c.get.ensures (is_held_as text) found) in
-    let none : head text ≡ None = sym (ap head same) ∙ sym c.head.ensures ∙ ap (option_map (λ h. h.now)) c.in_default-head.is in
+    let none : head text ≡ None = sym (ap head same) ∙ sym c.head.ensures.value ∙ ap (option_map (λ h. h.now)) c.in_default-head.is in
     sym (ap (way_of (ident_in c.args.phase.now)) none)
 
 pub returns : goal.returns
@@ -20,5 +20,5 @@ returns c =
     let text = c.args.text.now in
     let found = found_in c.args.phase.now c.in-Joined.ident c.in-Joined.works (is_held_as text) c.args.at c.in-Joined.is c.requires in
     let same = held_text text c.in-Joined.works c.get.result.now (c.get.ensures (is_held_as text) found) in
-    let there : head text ≡ Some c.in-Some.head.now = sym (ap head same) ∙ sym c.head.ensures ∙ ap (option_map (λ h. h.now)) c.in-Some.is in
+    let there : head text ≡ Some c.in-Some.head.now = sym (ap head same) ∙ sym c.head.ensures.value ∙ ap (option_map (λ h. h.now)) c.in-Some.is in
     ap₂ (λ (ident queue : Bytes). Some (ident, queue)) (c.in_ok-word_of.ensures ∙ sym (ap ident_in c.in-Joined.is)) c.in_ok-copy.ensures ∙ sym (ap (way_of (ident_in c.args.phase.now)) there)

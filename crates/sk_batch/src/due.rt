@@ -1,0 +1,101 @@
+// What is due where a member gets marks, told by the numbers of its batch and of those that this one is in.
+ghost use Rattle.std.specs.Prelude.{◌≡◌, ◌++◌, IfOk, OnOk};
+ghost use Rattle.sk_batch.specs.Due.{due, later_due};
+ghost use Rattle.sk_batch.specs.Numbers.{left_after};
+ghost use Rattle.sk_batch.specs.declared.numbers.Change.TheVariants.{Got};
+
+use crate::batch_list::BatchList;
+use crate::event::Event;
+use crate::line::fire_where;
+use crate::numbers::{Change, Left};
+use crate::state::State;
+use crate::{Batch, Firing, Kind, Marks, Memory};
+use sk_undo::Test;
+use std::alloc::Global;
+
+// What is left under a batch once a member under it has got these marks.
+fn left_after(entry: &(State, Batch), gained: Marks) -> Left
+    ensures { result ≡ left_after (Got gained) entry.now.0.numbers.under }
+{
+    entry.0.numbers.under.after(Change::Got(gained))
+}
+
+// Passes the batches that weren't complete and whose members are all reported then.
+#[derive(Drop)]
+struct Completes {
+    gained: Marks,
+}
+
+impl Test<(State, Batch)> for Completes {
+    ghost use Rattle.sk_batch.specs.Due.{completes_by};
+
+    ghost passes = { λ t b. completes_by t.gained b };
+
+    fn test(&self, entry: &(State, Batch)) -> bool {
+        !entry.0.fired.complete && left_after(entry, self.gained).unreported == 0
+    }
+}
+
+// Passes the batches whose last open members return by this.
+#[derive(Drop)]
+struct Settles {
+    gained: Marks,
+}
+
+impl Test<(State, Batch)> for Settles {
+    ghost use Rattle.sk_batch.specs.Due.{settles_by};
+
+    ghost passes = { λ t b. settles_by t.gained b };
+
+    fn test(&self, entry: &(State, Batch)) -> bool {
+        left_after(entry, self.gained).unreturned == 0 && entry.0.numbers.under.unreturned != 0
+    }
+}
+
+// Passes the batches of which no member, and none of a batch within, was buried before.
+#[derive(Drop)]
+struct Dies;
+
+impl Test<(State, Batch)> for Dies {
+    ghost use Rattle.sk_batch.specs.Due.{dies_yet};
+
+    ghost passes = { λ t b. dies_yet b };
+
+    fn test(&self, entry: &(State, Batch)) -> bool {
+        !entry.0.fired.death
+    }
+}
+
+// Adds what is fired behind the completes.
+fn add_later(
+    batches: &BatchList,
+    bid: &[u8],
+    event: Event,
+    gained: Marks,
+    firings: &mut Vec<Firing>,
+) -> Result<(), Memory>
+    ensures { OnOk result (firings.new.items ≡ firings.old.items ++ later_due event gained batches.now.list.stands bid.now) }
+{
+    match event {
+        Event::Reported => Ok(()),
+        Event::Returned => fire_where(batches, bid, Kind::Success, &Settles { gained }, firings),
+        Event::Died => fire_where(batches, bid, Kind::Death, &Dies, firings),
+    }
+}
+
+/// What is fired where a member of this batch gets these marks by an event.
+pub fn due(
+    alloc: Global,
+    batches: &BatchList,
+    bid: &[u8],
+    event: Event,
+    gained: Marks,
+) -> Result<Vec<Firing>, Memory>
+    ensures { IfOk result (λ firings. firings.items ≡ due event gained batches.now.list.stands bid.now) }
+{
+    let mut firings = Vec::new(alloc);
+    let completes = Completes { gained };
+    fire_where(batches, bid, Kind::Complete, &completes, &mut firings)?;
+    add_later(batches, bid, event, gained, &mut firings)?;
+    Ok(firings)
+}

@@ -1,0 +1,7 @@
+pub mod Civil
+pub mod CronText
+pub mod Fault
+pub mod Read
+pub mod Reading
+pub mod Slot
+pub mod Times

@@ -1,0 +1,45 @@
+// The latest slot of a periodic job: the start of a minute that matches.
+ghost use Rattle.std.specs.Prelude.{◌≡◌, ◌≤◌, ◌-◌, ◌%◌, min, negsuc, pos};
+ghost use Rattle.jiff.specs.Words.{IsBetween};
+ghost use Rattle.sk_base.specs.Score.{last_moment};
+ghost use Rattle.sk_cron.specs.Slot.{IsLastSlot};
+
+use crate::Cron;
+use crate::civil::civil_at;
+
+// Milliseconds of a minute.
+const MINUTE: u64 = 60_000;
+// How long ago a slot may be, in milliseconds.
+const RECENT: u64 = 600_000;
+// The end of the year 9998, in milliseconds since 1970: the greatest moment.
+const LAST_MOMENT: u64 = 253_370_764_799_999;
+
+impl Cron {
+    // The latest slot of a moment that the calendar has.
+    fn slot_before(&self, now: u64, offset: i32) -> Option<u64>
+        requires early { now ≤ last_moment }
+        requires offset { IsBetween (negsuc 1438) (pos 1439) offset }
+        ensures { IsLastSlot self.now offset now result }
+    {
+        let mut slot = now - now % MINUTE;
+        'back: while now - slot <= RECENT {
+            if self.matches(&civil_at(slot, offset)) {
+                return Some(slot);
+            }
+            if slot < MINUTE {
+                return None;
+            }
+            slot -= MINUTE;
+        }
+        None
+    }
+
+    /// The latest start of a matching minute that is at most `now`, and at most ten minutes before it, as a clock shows it that is `offset` minutes
+    /// ahead of UTC; None where there is none. Moments are milliseconds since 1970, and one past the year 9998 counts as its end. Takes no memory.
+    pub fn last_slot(&self, now: u64, offset: i32) -> Option<u64>
+        requires { IsBetween (negsuc 1438) (pos 1439) offset }
+        ensures { IsLastSlot self.now offset (min now last_moment) result }
+    {
+        self.slot_before(now.min(LAST_MOMENT), offset)
+    }
+}

@@ -1,0 +1,5 @@
+pub mod Pass
+pub mod Log
+pub mod Journal
+pub mod State
+pub mod Calls

@@ -1,0 +1,137 @@
+// A book that keeps every entry. An entry is made in a list of its own, whose node is then put behind the others: that takes no memory.
+ghost use Rattle.std.specs.Prelude.{◌≡◌, ◌≤◌, ◌^◌, [], ◌∷◌, length, MatchOption, Some};
+ghost use Rattle.sk_desk.specs.Log.{IsText, cut_entry, empty, noted};
+
+use crate::{Ask, Book, Deed, Entry};
+use sk_resp::{Memory, Reply, Word, Words, write_reply};
+use std::alloc::Global;
+use std::collections::LinkedList;
+use std::marker::Model;
+
+/// A journal of all entries. Contracts see its log, which it tells as long as it has fewer than 2^62 entries.
+#[derive(Drop)]
+pub struct FullBook {
+    alloc: Global,
+    entries: LinkedList<Entry>,
+    // the entry that waits for its reply
+    waiting: LinkedList<Entry>,
+    // an entry found no place behind 2^62 others
+    lost: bool,
+}
+
+impl Model for FullBook {
+    ghost use Rattle.std.specs.Prelude.{◌≡◌, ◌≤◌, ◌^◌, Option, length, true};
+    ghost use Rattle.sk_desk.specs.Log.{Log, log_in};
+
+    ghost Value = { Option Log };
+
+    ghost view = { λ book. log_in book.lost book.entries book.waiting };
+
+    ghost invariant = { λ book. book.lost ≡ true → 2 ^ 62 ≤ length book.entries };
+}
+
+/// A place in the book: the memory of one Cut entry.
+#[derive(Drop)]
+pub struct CutPlace {
+    entry: LinkedList<Entry>,
+    ghost one: { entry ≡ cut_entry 0 ∷ [] },
+}
+
+impl FullBook {
+    /// A book without entries. Takes no memory.
+    pub fn new(alloc: Global) -> FullBook
+        ensures { result ≡ Some empty }
+    {
+        FullBook {
+            alloc,
+            entries: LinkedList::new(alloc),
+            waiting: LinkedList::new(alloc),
+            lost: false,
+        }
+    }
+
+    /// The entries, in order. Takes no memory.
+    pub fn entries(&self) -> &LinkedList<Entry>
+        ensures { MatchOption self.now (2 ^ 62 ≤ length result.now) (λ log. result.now ≡ log.entries) }
+    {
+        &self.entries
+    }
+}
+
+impl Entry {
+    // Keeps the text of the reply, where a command was asked.
+    fn note(&mut self, text: Option<Word>)
+        ensures { self.new ≡ noted text self.old }
+    {
+        match &mut self.deed {
+            Deed::Ask(ask) => ask.reply = text,
+            Deed::Cut => {}
+        }
+    }
+
+    // The entry is this seat's.
+    fn sit(&mut self, seat: u32)
+        ensures { self.new ≡ record self.old { seat = seat } }
+    {
+        self.seat = seat;
+    }
+}
+
+// The reply's text, or none for want of memory.
+pub(crate) fn text_of(alloc: Global, reply: &Reply) -> Option<Word>
+    ensures { IsText reply.now result }
+{
+    let mut text = Vec::new(alloc);
+    let Ok(()) = write_reply(alloc, reply, &mut text) else {
+        return None;
+    };
+    Some(Word::new(text))
+}
+
+impl Book for FullBook {
+    type Place = CutPlace;
+
+    ghost log = { λ book. book };
+
+    fn enter(&mut self) -> Result<CutPlace, Memory> {
+        let mut entry = LinkedList::new(self.alloc);
+        entry.push_back(Entry {
+            seat: 0,
+            deed: Deed::Cut,
+        })?;
+        Ok(CutPlace { entry })
+    }
+
+    fn prepare(&mut self, seat: u32, now: u64, words: &Words) -> Result<(), Memory> {
+        let ask = Ask {
+            now,
+            request: words.copy()?,
+            reply: None,
+        };
+        self.waiting.push_back(Entry {
+            seat,
+            deed: Deed::Ask(ask),
+        })?;
+        Ok(())
+    }
+
+    fn note(&mut self, reply: &Reply) {
+        let text = text_of(self.alloc, reply);
+        if let Some(entry) = self.waiting.front_mut() {
+            entry.note(text);
+        }
+        if self.entries.append(&mut self.waiting).is_err() {
+            self.lost = true;
+        }
+    }
+
+    fn quit(&mut self, seat: u32, place: CutPlace) {
+        let CutPlace { mut entry } = place;
+        if let Some(cut) = entry.front_mut() {
+            cut.sit(seat);
+        }
+        if self.entries.append(&mut entry).is_err() {
+            self.lost = true;
+        }
+    }
+}

@@ -1,0 +1,152 @@
+// The lock round the store, and what is left of it once no desk uses it.
+ghost use Rattle.std.specs.Prelude.{◌≡◌, ◌⊎◌, ◌↔◌, ◌<◌, ◌≤◌, ◌+◌, ◌-◌, ◌^◌, length, Ok, Err, IfOk, IfErr, IfSome};
+ghost use Rattle.sk_cmd.specs.Table.{IsRead};
+ghost use Rattle.sk_core.specs.Whole.{KeepsLaws};
+ghost use Rattle.sk_model.specs.Acked.{Acknowledges};
+ghost use Rattle.sk_desk.specs.Journal.{IsJournal};
+ghost use Rattle.sk_desk.specs.Log.{empty};
+ghost use Rattle.sk_desk.specs.Pass.{seated};
+ghost use Rattle.sk_desk.specs.State.{IsConsistent};
+
+use crate::{Book, Entry, FullBook, LockedDesk, Pass, State};
+use sk_cmd::Command;
+use sk_core::Core;
+use sk_model::Limits;
+use sk_resp::{Memory, Reply, Words};
+use std::alloc::Global;
+use std::collections::LinkedList;
+use std::marker::Model;
+use std::sync::ledger::{self, Blank, Ledger, Share};
+use std::sync::{Mutex, Wait};
+
+/// Why there is no seat.
+#[derive(Clone, Copy, Debug, PartialEq, Eq)]
+pub enum HubFault {
+    /// The pass has no number left.
+    Spent,
+    /// There was no memory for the seat's Cut entry.
+    Memory,
+}
+
+/// A store that threads share, behind one lock.
+#[derive(Drop)]
+pub struct Hub<L: Ledger, B: Book> {
+    state: Mutex<State<L, B>>,
+}
+
+impl<L: Ledger, B: Book> Hub<L, B> {
+    /// An empty store with these limits, and the pass to all its seats: the numbers from 1 to 2^32 - 1, and every part of the ledger, of which
+    /// there are 2^34. The book has no entries, where it tells them. Takes no memory.
+    pub fn new(alloc: Global, blank: Blank, limits: Limits, book: B) -> (Hub<L, B>, Pass<L>)
+        requires blank { (blank.name ≡ L.name) × (blank.parts ≡ L.parts) × (blank.parts ≡ 2 ^ 34) }
+        requires book { IfSome (B.log book) (λ log. log ≡ empty) }
+        ensures { result.1 ≡ record { given = 0; count = 2 ^ 32 - 1; parts = L.parts; amount = 0 } }
+    {
+        let (total, share) = blank.open::<L>();
+        let state = Mutex::new(State::new(alloc, limits, book, total));
+        (Hub { state }, Pass::new(0, u32::MAX, share))
+    }
+
+    /// A desk with the pass's next number, and one part of its share. Spent exactly where the pass has no number left. After a fault the pass is
+    /// as before.
+    pub fn seat<'a, R: Wait + Sync>(
+        &'a self,
+        rt: &'a R,
+        pass: &mut Pass<L>,
+    ) -> Result<LockedDesk<'a, R, L, B>, HubFault>
+        ensures seat { IfOk result (λ desk. desk ≡ record { seat = pass.new.given; amount = 0 }) }
+        ensures pass { IfOk result (λ desk. pass.new ≡ seated pass.old) }
+        ensures part { IfOk result (λ desk. pass.new.parts + 1 ≡ pass.old.parts) }
+        ensures fault { IfErr result (λ fault. pass.new ≡ pass.old) }
+        ensures spent { result ≡ Err HubFault.Spent ↔ pass.old.count ≡ 0 }
+    {
+        if pass.left() == 0 {
+            return Err(HubFault::Spent);
+        }
+        let Ok(place) = self.enter(rt) else {
+            return Err(HubFault::Memory);
+        };
+        let (number, share) = pass.take();
+        Ok(LockedDesk::new(rt, self, number, share, place))
+    }
+
+    // Takes the memory of a Cut entry.
+    fn enter<R: Wait>(&self, rt: &R) -> Result<B::Place, Memory> {
+        self.state.lock(rt).enter()
+    }
+
+    // One command of a seat. The lock is held for that alone.
+    pub(crate) fn ask<R: Wait>(
+        &self,
+        rt: &R,
+        share: &mut Share<L>,
+        seat: u32,
+        now: u64,
+        words: &Words,
+        command: Command,
+    ) -> Reply
+        requires part { 0 < share.old.parts }
+        requires read { IsRead words.now (Ok command) }
+        ensures parts { share.new.parts ≡ share.old.parts }
+        ensures acked { Acknowledges command result share.old.amount share.new.amount }
+    {
+        self.state.lock(rt).ask(share, seat, now, words, command)
+    }
+
+    // The cut of a seat.
+    pub(crate) fn quit<R: Wait>(&self, rt: &R, seat: u32, place: B::Place) {
+        self.state.lock(rt).quit(seat, place);
+    }
+
+    /// The store and its book, once no desk is left.
+    pub fn close(self) -> Closed<L, B>
+        ensures laws { KeepsLaws result.world }
+        ensures consistent { IsConsistent result }
+    {
+        let state = self.state.into_inner();
+        state.sound();
+        let State { core, book, total } = state;
+        Closed { core, book, total }
+    }
+}
+
+/// What a hub leaves: the store, the book and the total. Contracts see the same of it as of the state behind the lock.
+#[derive(Drop)]
+pub struct Closed<L: Ledger, B: Book> {
+    pub core: Core,
+    pub book: B,
+    pub total: ledger::Book<L>,
+}
+
+impl<L: Ledger, B: Book> Model for Closed<L, B> {
+    ghost use Rattle.sk_desk.specs.State.{IsConsistent, StateView};
+
+    ghost Value = { StateView };
+
+    ghost view = { λ s. record { world = s.core; log = B.log s.book; total = s.total.total } };
+
+    ghost invariant = { λ s. IsConsistent (record { world = s.core; log = B.log s.book; total = s.total.total }) };
+}
+
+impl<L: Ledger, B: Book> Closed<L, B> {
+    /// How many rows all desks acknowledged. The pass has every part again: then that is its amount, and the number of rows that clients ever pushed.
+    pub fn audit(&mut self, pass: &mut Pass<L>) -> u64
+        requires { pass.old.parts ≡ L.parts }
+        ensures amount { result ≡ pass.old.amount }
+        ensures outside { result ≡ self.old.world.tally.outside }
+        ensures same { (self.new ≡ self.old) × (pass.new ≡ pass.old) }
+    {
+        pass.audit(&mut self.total);
+        self.core.tally().outside
+    }
+}
+
+impl<L: Ledger> Closed<L, FullBook> {
+    /// The journal: its entries are the events of a run from the empty store to this one, each with the text of that run's reply, where there was
+    /// memory for it. All that holds of every run holds of it. Takes no memory.
+    pub fn journal(&self) -> &LinkedList<Entry>
+        ensures { IsJournal result.now self.now.world ⊎ (2 ^ 62 ≤ length result.now) }
+    {
+        self.book.entries()
+    }
+}

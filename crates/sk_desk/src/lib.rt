@@ -1,0 +1,24 @@
+//! One store that threads share: a lock round it, a desk for each seat, the sum of what was acknowledged, and a journal of all that happened.
+#![tactic(auto)]
+
+mod book;
+mod call;
+mod desk;
+mod entry;
+mod full_book;
+mod hub;
+mod locked_desk;
+mod mem_desk;
+mod pass;
+mod state;
+
+pub use book::{Book, NoBook};
+pub use call::Call;
+pub use desk::Desk;
+pub use entry::{Ask, Deed, Entry};
+pub use full_book::{CutPlace, FullBook};
+pub use hub::{Closed, Hub, HubFault};
+pub use locked_desk::LockedDesk;
+pub use mem_desk::MemDesk;
+pub use pass::Pass;
+pub use state::State;

@@ -1,0 +1,66 @@
+-- Which replies are answers of a kind, and what it is to ask for one.
+use Rattle.std.specs.Prelude.{◌≡◌, Bool, true, false, List, [], ◌∷◌, codes, bytes_eq, is_some, Result, Ok, Err}
+use Rattle.sk_base.specs.Name.{is_name}
+use Rattle.sk_resp.specs.Spelling.{Bytes}
+use Rattle.sk_resp.specs.declared.reply.Reply.{Reply}
+use Rattle.sk_resp.specs.declared.reply.Reply.TheVariants as reply
+use Rattle.sk_resp.specs.declared.say.Say.TheVariants as say
+use Rattle.sk_link.specs.Call.{Call}
+use Rattle.sk_link.specs.Report.{report_of}
+use Rattle.sk_link.specs.declared.link.LinkFault.{LinkFault}
+use Rattle.sk_link.specs.declared.asking.Answer.{Answer}
+use Rattle.sk_link.specs.declared.asking.Answer.TheVariants as answer
+use Rattle.sk_link.specs.declared.asking.AskFault.{AskFault}
+use Rattle.sk_link.specs.declared.asking.AskFault.TheVariants as fault
+
+-- ## Kinds of answers
+
+-- `+OK`
+abbrev pub is_okay : Reply → Bool
+is_okay (reply.Say say.Ok) = true
+is_okay (reply.Simple text) = bytes_eq text (codes "OK")
+is_okay r = false
+
+-- an integer
+abbrev pub is_number : Reply → Bool
+is_number (reply.Int n) = true
+is_number r = false
+
+-- an array
+abbrev pub is_list : Reply → Bool
+is_list (reply.Array texts) = true
+is_list r = false
+
+-- an element of a list, or none
+abbrev pub is_popped : Reply → Bool
+is_popped reply.Null = true
+is_popped (reply.Bulk bytes) = true
+is_popped r = false
+
+-- `+OK`, or a name of at most 64 bytes
+abbrev pub is_unique : Reply → Bool
+is_unique (reply.Bulk bytes) = is_name 64 bytes
+is_unique r = is_okay r
+
+-- The reply is of this kind.
+abbrev pub answers : Answer → Reply → Bool
+answers answer.Okay r = is_okay r
+answers answer.Number r = is_number r
+answers answer.List r = is_list r
+answers answer.Popped r = is_popped r
+answers answer.Unique r = is_unique r
+answers answer.Report r = is_some (report_of r)
+
+-- ## Requests
+
+-- The link carried the request and its answer. Refused: and a reply that is no answer. At a fault, which the link gave, it carried nothing.
+abbrev pub Asked : (LinkFault → Type 0) → (List Call → Type 0) → List Bytes → Answer → Result Reply AskFault → Type 0
+Asked Gave Carried request wanted (Ok r) = Carried (record { request = request; reply = r } ∷ []) × (answers wanted r ≡ true)
+Asked Gave Carried request wanted (Err (fault.Refused r)) = Carried (record { request = request; reply = r } ∷ []) × (answers wanted r ≡ false)
+Asked Gave Carried request wanted (Err (fault.Link f)) = Carried [] × Gave f
+
+-- The link had a fault.
+abbrev pub is_lost : Result Reply AskFault → Bool
+is_lost (Ok r) = false
+is_lost (Err (fault.Refused r)) = false
+is_lost (Err (fault.Link f)) = true

@@ -1,0 +1,5 @@
+use Rattle.sk_model.proofs.Acking.{acked}
+use Rattle.sk_model.proofs.acked.replies_acknowledge_pushes.Goals as goal
+
+pub returns : goal.returns
+returns c = acked

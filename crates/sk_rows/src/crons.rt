@@ -1,0 +1,55 @@
+// When cron texts match: the latest slot of a moment at an offset, a line each.
+ghost use Rattle.std.specs.Prelude.{IfOk, negsuc, pos};
+ghost use Rattle.jiff.specs.Words.{IsBetween};
+
+use crate::text::{invalid, text_of};
+use sk_cron::Cron;
+use std::alloc::{AllocError, Global};
+use std::io;
+
+/// The greatest offset, in minutes.
+const MOST: i32 = 1_439;
+
+// The offset, in minutes ahead of UTC.
+fn offset(word: &str) -> io::Result<i32>
+    ensures { IfOk result (λ minutes. IsBetween (negsuc 1438) (pos 1439) minutes) }
+{
+    match word.parse::<i32>() {
+        Ok(minutes) if -MOST <= minutes && minutes <= MOST => Ok(minutes),
+        _ => Err(invalid()),
+    }
+}
+
+fn number(alloc: Global, slot: Option<u64>) -> Result<String, AllocError> {
+    match slot {
+        Some(slot) => format!(in alloc; "{slot}\n"),
+        None => String::from_str(alloc, "none\n"),
+    }
+}
+
+// The line of `MOMENT OFFSET TEXT`.
+fn line(alloc: Global, line: &str) -> io::Result<String> {
+    let Some((moment, rest)) = line.split_once(' ') else {
+        return Err(invalid());
+    };
+    let Some((minutes, text)) = rest.split_once(' ') else {
+        return Err(invalid());
+    };
+    let Ok(moment) = moment.parse::<u64>() else {
+        return Err(invalid());
+    };
+    let offset = offset(minutes)?;
+    match Cron::read(text) {
+        Ok(cron) => Ok(number(alloc, cron.last_slot(moment, offset))?),
+        Err(fault) => { Ok(format!(in alloc; "field {}, byte {}\n", fault.field, fault.place)?) }
+    }
+}
+
+/// The lines of the cron texts, of which each stands on a line behind a moment, in milliseconds since 1970, and an offset, in minutes.
+pub fn slots(alloc: Global, crons: &[u8]) -> io::Result<Vec<u8>> {
+    let mut out = Vec::new(alloc);
+    for text in text_of(crons)?.lines() {
+        out.extend_from_slice(line(alloc, text)?.as_bytes())?;
+    }
+    Ok(out)
+}

@@ -1,0 +1,70 @@
+// Jobs that are pushed in the transcripts.
+use serde_json::{Number, Value};
+use sk_payload::{Args, JobDraft, Lock, Retry, Until};
+use sk_resp::Text;
+use std::alloc::{AllocError, Global};
+
+/// The moment at which the jobs are made, in milliseconds since 1970.
+pub const MADE: u64 = 1_700_000_000_000;
+
+pub fn text(alloc: Global, text: &str) -> Result<Text, AllocError> {
+    Ok(Text::new(String::from_str(alloc, text)?))
+}
+
+// One argument.
+fn args(alloc: Global, value: Value) -> Result<Args, AllocError> {
+    let mut values = Vec::new(alloc);
+    values.push(value)?;
+    Ok(Args::new(values))
+}
+
+/// A job of class Note for the queue default, with the argument 1 and this number as its id, in 24 digits.
+pub fn note(alloc: Global, n: u64) -> Result<JobDraft, AllocError> {
+    Ok(JobDraft {
+        jid: Text::new(format!(in alloc; "{n:024}")?),
+        class: text(alloc, "Note")?,
+        queue: text(alloc, "default")?,
+        args: args(alloc, Value::from(1_u32))?,
+        retry: Retry::Default,
+        retry_for: None,
+        bid: None,
+        lock: None,
+        dead: true,
+        created: MADE,
+    })
+}
+
+/// The same, which has one holder of its lock for ten minutes.
+pub fn unique(alloc: Global, n: u64) -> Result<JobDraft, AllocError> {
+    let mut draft = note(alloc, n)?;
+    draft.lock = Some(Lock {
+        seconds: 600,
+        until: Until::Success,
+    });
+    Ok(draft)
+}
+
+/// The same, in a batch.
+pub fn member(alloc: Global, n: u64, bid: &str) -> Result<JobDraft, AllocError> {
+    let mut draft = note(alloc, n)?;
+    draft.bid = Some(text(alloc, bid)?);
+    Ok(draft)
+}
+
+/// The same with the argument 1.5, which no job may have.
+pub fn fraction(alloc: Global, n: u64) -> Result<JobDraft, AllocError> {
+    let mut draft = note(alloc, n)?;
+    if let Some(half) = Number::from_f64(1.5) {
+        draft.args = args(alloc, Value::Number(half))?;
+    }
+    Ok(draft)
+}
+
+/// So many jobs of class Note, numbered from 1 on.
+pub fn notes(alloc: Global, count: u64) -> Result<Vec<JobDraft>, AllocError> {
+    let mut drafts = Vec::new(alloc);
+    for n in 0..count {
+        drafts.push(note(alloc, n.saturating_add(1))?)?;
+    }
+    Ok(drafts)
+}

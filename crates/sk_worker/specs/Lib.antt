@@ -1,0 +1,10 @@
+pub mod Run
+pub mod Request
+pub mod Event
+pub mod Broken
+pub mod Stage
+pub mod Fetching
+pub mod Turn
+pub mod Leaving
+pub mod Saying
+pub mod Forms

@@ -1,0 +1,23 @@
+//! The worker: jobs by class, and its turns over any link, as super_fetch of Sidekiq Pro takes them (wiki page "Reliability").
+#![tactic(auto)]
+
+mod fetch;
+mod job;
+mod laws;
+mod leave;
+mod registry;
+mod run;
+mod say;
+mod settle;
+mod turn;
+mod worker;
+
+pub use job::{Job, Outcome, Raised};
+pub use laws::{
+    a_turn_has_one_of_four_forms, an_empty_turn_found_each_queue_empty,
+    ok_is_said_after_a_run_that_returned,
+};
+pub use registry::{AddFault, Classes, Registry, Slot};
+pub use std::alloc::AllocError as Memory;
+pub use turn::{Turn, WorkFault};
+pub use worker::Worker;
