@@ -84,7 +84,7 @@ impl Store {
     {
         self.places.row_count() as u64 + count as u64 > self.limits.rows
             || have_no_bytes(self.limits.bytes, self.places.byte_count(), bytes)
-            || self.places.push_count() + count as u64 > MOST_PUSHES
+            || self.places.push_count().saturating_add(count as u64) > MOST_PUSHES
     }
 
     /// Opens a step. Takes no memory.
