@@ -1,5 +1,5 @@
 -- The rows that a step pushes from outside are those that its reply acknowledges.
-use Rattle.std.proofs.Common.{◌≡◌, ◌+◌, ◌∙◌, ℕ, zero, suc, List, [], ◌∷◌, ◌++◌, refl, sym, ap, subst, inl, inr, arith, Bool, true, false, cond, not, ◌||◌, ◌&&◌, length, map}
+use Rattle.std.proofs.Common.{◌≡◌, ◌≤◌, ℤ, ◌+◌, ◌∙◌, ℕ, zero, suc, List, [], ◌∷◌, ◌++◌, refl, sym, ap, subst, inl, inr, arith, Bool, true, false, cond, not, ◌||◌, ◌&&◌, length, map}
 use Rattle.std.specs.Prelude.{nat_abs, nat_lt, filter, Option, Some, None}
 use Rattle.std.specs.List.{list_all, list_any}
 use Rattle.sk_resp.specs.Spelling.{Bytes}
@@ -19,6 +19,9 @@ use Rattle.sk_cmd.specs.declared.command.ScriptCommand.TheVariants as script
 use Rattle.sk_payload.specs.Head.{head, jid_of}
 use Rattle.sk_payload.specs.Member.{is_name}
 use Rattle.sk_payload.specs.declared.head.Head.{Head}
+use Rattle.sk_payload.specs.declared.head.Lock.{Lock}
+use Rattle.sk_payload.specs.declared.head.Until.{Until}
+use Rattle.sk_payload.specs.declared.head.Until.TheVariants as until
 use Rattle.sk_zset.specs.Pair.{Pair}
 use Rattle.sk_zset.specs.Bounds.{is_between}
 use Rattle.sk_resp.specs.WordOrder.{is_member}
@@ -62,23 +65,25 @@ use Rattle.sk_seats.specs.declared.phase.Phase.TheVariants.{Plain, Joined}
 use Rattle.sk_seats.specs.declared.work.Stage.{Stage}
 use Rattle.sk_seats.specs.declared.work.Stage.TheVariants.{Held, Put, Settled}
 use Rattle.sk_seats.specs.declared.work.Work.{Work}
-use Rattle.sk_leases.specs.Leased.{is_alive}
+use Rattle.sk_leases.specs.Leased.{holder_at, is_alive}
 use Rattle.sk_model.specs.World.{World, phase_of}
 use Rattle.sk_model.specs.Live.{count_job, fresh, with_end}
-use Rattle.sk_model.specs.Change.{Add, Carry, Take, Trim, Free, Change, Moves, Passes, Names, Unnames, Turns, Counts, Recovers, ending_of, changed, freed, freed_at, freed_work, perform}
+use Rattle.sk_model.specs.Change.{Add, Carry, Take, Trim, Free, Change, Moves, Passes, Names, Unnames, Turns, Counts, Recovers, Unlocks, ending_of, changed, freed, freed_at, freed_work, perform}
 use Rattle.sk_model.specs.Outcome.{Outcome}
+use Rattle.sk_model.specs.Digest.{digest}
+use Rattle.sk_model.specs.Unique.{is_until, or_holder, push_locked, unique_push, unique_push_by, unique_push_of, unlocks, unlocks_at, unlocks_of}
 use Rattle.sk_model.specs.Room.{is_full as is_store_full, is_too_much}
 use Rattle.sk_model.specs.Queues.{pushes, takes, move_row, length_at}
 use Rattle.sk_model.specs.Deletes.{take_all, delete_as, delete_each, may_go}
 use Rattle.sk_model.specs.Sets.{add_as, add_each, add_one, edit_jobs, put_as, put_back}
 use Rattle.sk_model.specs.Seats.{fetched_from, is_for_all, is_workers, only, released_by, where_plain, where_some, works_on}
-use Rattle.sk_model.specs.Told.{call, fire_all, push_job, push_to, tell, tell_in, tell_of}
+use Rattle.sk_model.specs.Told.{and_tell, call, fire_all, push_job, push_to, tell, tell_in, tell_of}
 use Rattle.sk_model.specs.Jobs.{Sent, bury, buried_by, due_rows, each, kill_row, merge, moment_score, put_dead, revive_as, revive_row, send, surplus}
 use Rattle.sk_model.specs.Rescue.{bury_poison, is_poison, left_rows, rescue_row}
 use Rattle.sk_model.specs.Batches.{all_may_join, are_callbacks, batch_add, batch_of, batch_push, jids_of, make, may_join, push_jobs, tells_stat, unless}
-use Rattle.sk_model.specs.Workers.{bury_text, fetch, fetch_row, give, give_row, listed, release_of, retry, work, work_as, work_edit}
+use Rattle.sk_model.specs.Workers.{and_unlock, bury_text, fetch, fetch_row, give, give_row, listed, release_of, retry, work, work_as, work_edit}
 use Rattle.sk_model.specs.Step.{Steps, act, by_seat, edit_names, edit_queue, edits, is_script_built, moves, on_plain, outcome, run}
-use Rattle.sk_model.specs.Acked.{Acks, AcksScript, RepliesAcknowledge, acked_by, acked_by_edit, number_in, where_array, where_number}
+use Rattle.sk_model.specs.Acked.{Acks, AcksScript, AcksUnique, RepliesAcknowledge, acked_by, acked_by_edit, number_in, where_array, where_number}
 use Rattle.sk_model.specs.Run.{is_ok}
 use Rattle.sk_model.proofs.Sending.{all_filter, all_own, row_there}
 use Rattle.sk_model.proofs.Texts.{same_is}
@@ -455,6 +460,63 @@ bury_text_none w seat phase text =
     let after : Phase = staging (is_buried_as text) Put phase in
     buried_by_none w text (put_back w Dead (moment_score w, text) ∷ Turns seat after ∷ []) (put_none Dead (moment_score w, text) (row_of text (rows_at (Set Dead) w.rows)) seat after)
 
+-- ## Unique jobs
+
+unlocks_at_none : (until : Until) (h : Head) (lock : Option Lock) → pushed_in (unlocks_at until h lock) ≡ 0
+unlocks_at_none until h None = refl
+unlocks_at_none until h (Some lock) = by_until (is_until until lock.until) where
+  by_until : (b : Bool) → pushed_in (cond b (Unlocks (digest h) h.jid ∷ []) []) ≡ 0
+  by_until true = refl
+  by_until false = refl
+
+unlocks_of_none : (until : Until) (found : Option Head) → pushed_in (unlocks_of until found) ≡ 0
+unlocks_of_none until None = refl
+unlocks_of_none until (Some h) = unlocks_at_none until h h.lock
+
+unlocks_none : (until : Until) (text : Bytes) → pushed_in (unlocks until text) ≡ 0
+unlocks_none until text = unlocks_of_none until (head text)
+
+-- a job that has returned
+ok_none : (w : World) (seat : ℕ) (phase : Phase) (text : Bytes)
+    → pushed_in (and_unlock text (and_tell event.Returned w text (Turns seat (staging (is_held_as text) (Settled end.Returned) phase) ∷ Counts processed ∷ []))).changes ≡ 0
+ok_none w seat phase text =
+    let changes : List Change = Turns seat (staging (is_held_as text) (Settled end.Returned) phase) ∷ Counts processed ∷ [] in
+    none_pushed (and_tell event.Returned w text changes).changes (unlocks until.Success text) (and_tell_none event.Returned w text changes refl) (unlocks_none until.Success text)
+
+-- what the reply to SK.UPUSH acknowledges is pushed
+abbrev IsUnique : Option ℤ → Outcome → Type 0
+IsUnique score o = AcksUnique score o.reply (pushed_in o.changes)
+
+turned_away : (score : Option ℤ) (answer : Reply) → is_ok answer ≡ false → AcksUnique score answer 0
+turned_away None answer other = sym (ap one_if other)
+turned_away (Some score) answer other = omega arith
+
+-- a text that is in the schedule already gets the score
+scheduled_once : (pair : Pair) (found : Option Row) → pushed_in (add_as Schedule pair found ∷ []) ≤ 1
+scheduled_once pair None = omega arith
+scheduled_once pair (Some row) = omega arith
+
+push_locked_acked : (w : World) (h : Head) (lock : Lock) (text : Bytes) (score : Option ℤ) → head text ≡ Some h → IsUnique score (push_locked w h lock text score)
+push_locked_acked w h lock text None is = subst (λ found. pushed_in (push_to Outside text found) ≡ 1) (sym is) refl
+push_locked_acked w h lock text (Some score) is = scheduled_once (score, text) (row_of text (rows_at (Set Schedule) w.rows))
+
+or_holder_acked : (score : Option ℤ) (holder : Option Bytes) (o : Outcome) → IsUnique score o → IsUnique score (or_holder holder o)
+or_holder_acked score None o one = one
+or_holder_acked score (Some jid) o one = turned_away score (reply.Bulk jid) refl
+
+unique_push_of_acked : (w : World) (text : Bytes) (score : Option ℤ) (h : Head) (lock : Option Lock) (bid : Option Bytes) → head text ≡ Some h → IsUnique score (unique_push_of w text score h lock bid)
+unique_push_of_acked w text score h None bid is = turned_away score _ refl
+unique_push_of_acked w text score h (Some lock) (Some bid) is = turned_away score _ refl
+unique_push_of_acked w text score h (Some lock) None is = either (IsUnique score) (is_store_full w (text ∷ [])) _ _ (λ y. turned_away score _ refl)
+    (λ n. or_holder_acked score (holder_at (digest h) w.moment w.leases) (push_locked w h lock text score) (push_locked_acked w h lock text score is))
+
+unique_push_by_acked : (w : World) (text : Bytes) (score : Option ℤ) (found : Option Head) → head text ≡ found → IsUnique score (unique_push_by w text score found)
+unique_push_by_acked w text score None is = turned_away score _ refl
+unique_push_by_acked w text score (Some h) is = unique_push_of_acked w text score h h.lock h.bid is
+
+unique_push_acked : (w : World) (text : Bytes) (score : Option ℤ) → IsUnique score (unique_push w text score)
+unique_push_acked w text score = unique_push_by_acked w text score (head text) refl
+
 -- ## Batches
 
 job_counted : (text : Bytes) (bid : Bytes) (found : Option Head) → may_join bid found ≡ true → pushed_in (push_to Outside text found) ≡ 1
@@ -519,8 +581,8 @@ IsAcked c o = AcksScript c o.reply (pushed_in o.changes)
 run_acked : (w : World) (seat : ℕ) (phase : Phase) (c : ScriptCommand) → IsAcked c (run w seat phase c)
 run_acked w seat phase (script.Beat ident) = either Quiet (is_name 255 ident) _ _ (λ y. refl) (λ n. refl)
 run_acked w seat phase (script.Join ident) = in_plain Quiet phase _ (λ s. refl) (either Quiet (is_name 255 ident && is_alive ident w.moment w.leases) _ _ (λ y. refl) (λ n. refl))
-run_acked w seat phase (script.Start text) = in_some Quiet phase (is_held_as text) _ (λ s. refl) (λ ident. refl)
-run_acked w seat phase (script.Ok text) = in_some Quiet phase (is_held_as text) _ (λ s. refl) (λ ident. and_tell_none event.Returned w text (Turns seat (staging (is_held_as text) (Settled end.Returned) phase) ∷ Counts processed ∷ []) refl)
+run_acked w seat phase (script.Start text) = in_some Quiet phase (is_held_as text) _ (λ s. refl) (λ ident. unlocks_none until.Start text)
+run_acked w seat phase (script.Ok text) = in_some Quiet phase (is_held_as text) _ (λ s. refl) (λ ident. ok_none w seat phase text)
 run_acked w seat phase (script.Fail text) = in_some Quiet phase (is_held_as text) _ (λ s. refl) (λ ident. and_tell_none event.Reported w text (Counts processed ∷ Counts failed ∷ []) refl)
 run_acked w seat phase (script.Drop text) = in_some Quiet phase (is_held_as text) _ (λ s. refl) (λ ident. refl)
 run_acked w seat phase (script.Bury text) = in_some Quiet phase (is_buried_as text) _ (λ s. refl) (λ ident. bury_text_none w seat phase text)
@@ -529,8 +591,7 @@ run_acked w seat phase (script.Due set limit) = in_plain Quiet phase _ (λ s. re
 run_acked w seat phase (script.Revive set text) = in_plain Quiet phase _ (λ s. refl) (revive_row_quiet (row_of text (rows_at (Set set) w.rows)))
 run_acked w seat phase (script.Kill set text) = in_plain Quiet phase _ (λ s. refl) (kill_row_quiet w _)
 run_acked w seat phase script.Rescue = in_plain Quiet phase _ (λ s. refl) (each_none rescue_row rescue_row_none w (left_rows w))
-run_acked w seat phase (script.Upush text None) = refl
-run_acked w seat phase (script.Upush text (Some score)) = omega arith
+run_acked w seat phase (script.Upush text score) = unique_push_acked w text score
 run_acked w seat phase (script.Bpush bid parent complete success death texts) = batch_push_counted w (batch_of bid parent complete success death) texts
 run_acked w seat phase (script.Badd bid texts) = batch_add_counted w bid texts
 run_acked w seat phase (script.Bstat bid) = stat_quiet (stat bid w.batches)
@@ -541,8 +602,7 @@ run_acked w seat phase other = refl
 -- a refusal acknowledges nothing
 module _ (s : Say) (refused : is_ok (reply.Say s) ≡ false) where
   script_acks_none : (c : ScriptCommand) → AcksScript c (reply.Say s) 0
-  script_acks_none (script.Upush text None) = sym (ap one_if refused)
-  script_acks_none (script.Upush text (Some score)) = omega arith
+  script_acks_none (script.Upush text score) = turned_away score (reply.Say s) refused
   script_acks_none other = refl
 
   acks_none : (c : Command) → Acks c (reply.Say s) 0
