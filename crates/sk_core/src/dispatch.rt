@@ -11,8 +11,8 @@ ghost use Rattle.sk_core.specs.Whole.{Serves, sent_by};
 use crate::rights::{adds, is_plain, is_workers};
 use sk_cmd::{Command, PlainCommand, ScriptCommand};
 use sk_jobs::{
-    BatchWords, add_to_batch, back, batch_stat, beat, bury, cron, discard, due, fail, join, kill, lead, locate,
-    push_batch, push_unique, rescue, revive, start, status_page, succeed, work,
+    BatchWords, add_to_batch, back, batch_stat, beat, bury, cron, discard, due, fail, join, kill,
+    lead, locate, push_batch, push_unique, rescue, revive, start, status_page, succeed, work,
 };
 use sk_keyspace::act;
 use sk_resp::{Memory, Refusal, Reply, Say};

@@ -69,9 +69,9 @@ pub push_full : (u : World) (text payload : Bytes) (score : Option ℤ) (lock : 
     → reply_ ≡ reply.Say (say.Refused Full) → Comes u (unique_push u text score) reply_ u
 push_full u text payload score lock reply_ same is full said =
     let refused : unique_push u text score ≡ refuses Full =
-        ap (λ (t : Bytes). unique_push u t score) (sym same)
-        ∙ wanted_push u payload score (head payload) lock is
-        ∙ ap (λ b. cond b (refuses Full) (push_wanted u payload score lock)) full in
+    ap (λ (t : Bytes). unique_push u t score) (sym same)
+    ∙ wanted_push u payload score (head payload) lock is
+    ∙ ap (λ b. cond b (refuses Full) (push_wanted u payload score lock)) full in
     subst (λ (o : Outcome). Comes u o reply_ u) (sym refused) (record { reply_is = said; new_is = refl })
 
 -- ## Room

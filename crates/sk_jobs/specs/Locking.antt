@@ -4,7 +4,7 @@ use Rattle.sk_resp.specs.Spelling.{Bytes}
 use Rattle.sk_payload.specs.declared.head.Head.{Head}
 use Rattle.sk_payload.specs.declared.head.Lock.{Lock}
 use Rattle.sk_model.specs.Change.{Change, Locks, Unlocks}
-use Rattle.sk_model.specs.Digest.{digest}
+use Rattle.sk_payload.specs.Digest.{digest}
 use Rattle.sk_resp.specs.declared.reply.Reply.TheVariants as reply
 use Rattle.sk_resp.specs.declared.say.Say.TheVariants as say
 use Rattle.sk_model.specs.Outcome.{Outcome}

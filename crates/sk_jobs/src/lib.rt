@@ -7,7 +7,6 @@ mod calls;
 mod dead;
 mod fetches;
 mod hands;
-mod lock_digest;
 mod locking;
 mod periodic;
 mod processes;

@@ -2,7 +2,7 @@
 ghost use Rattle.std.specs.Prelude.{◌≡◌, IfOk};
 ghost use Rattle.sk_payload.specs.Head.{head as head_of};
 ghost use Rattle.sk_model.specs.Change.{perform};
-ghost use Rattle.sk_model.specs.Digest.{digest as digest_in};
+ghost use Rattle.sk_payload.specs.Digest.{digest as digest_in};
 ghost use Rattle.sk_model.specs.Unique.{is_until, unlocks};
 ghost use Rattle.sk_model.specs.World.{phase_of};
 ghost use Rattle.sk_seats.specs.Works.{is_held_as};
@@ -11,8 +11,7 @@ ghost use Rattle.sk_jobs.specs.Locking.{lets_go, wanted};
 ghost use Rattle.sk_jobs.specs.Seated.{IsFound};
 
 use crate::calls::word_of;
-use crate::lock_digest::digest;
-use sk_payload::{Head, Payload, Until};
+use sk_payload::{Head, Payload, Until, digest};
 use sk_resp::{Memory, Text, Word};
 use sk_seats::Phase;
 use sk_store::Store;

@@ -116,12 +116,7 @@ fn check_slot(
 // ## SK.CRON
 
 // The loop gets the slot, and the job is pushed. After want of memory a part of it is done.
-fn push_open(
-    store: &mut Store,
-    name: Word,
-    slot: u64,
-    payload: Payload,
-) -> Result<Reply, Memory>
+fn push_open(store: &mut Store, name: Word, slot: u64, payload: Payload) -> Result<Reply, Memory>
     requires { IsCountable Outside (world store.old).tally }
     ensures ok { IfOk result (λ reply. Comes (world store.old) (slotted name slot payload) reply (world store.new)) }
     ensures step { InStep store.old store.new }

@@ -32,7 +32,10 @@ fn schedule(store: &mut Store, payload: Payload, score: Score) -> Result<(), Mem
     let place = Place::Set(Scored::Schedule);
     let text = payload.text().bytes();
     let to = Place::Set(Scored::Schedule);
-    if store.places.shift_text(&place, text, to, score, Side::Left)? {
+    if store
+        .places
+        .shift_text(&place, text, to, score, Side::Left)?
+    {
         return Ok(());
     }
     let held = store.seats.have(&payload);
@@ -42,11 +45,7 @@ fn schedule(store: &mut Store, payload: Payload, score: Score) -> Result<(), Mem
 }
 
 // The job goes to its queue, or into the schedule with a score.
-fn push_or_schedule(
-    store: &mut Store,
-    payload: Payload,
-    score: Option<Score>,
-) -> Result<(), Memory>
+fn push_or_schedule(store: &mut Store, payload: Payload, score: Option<Score>) -> Result<(), Memory>
     requires { IsCountable Outside (world store.old).tally }
     ensures ok { OnOk result (world store.new ≡ perform (world store.old) (push_or_schedule (world store.old) payload score)) }
     ensures step { InStep store.old store.new }

@@ -65,12 +65,13 @@ use Rattle.sk_seats.specs.declared.phase.Phase.TheVariants.{Plain, Joined}
 use Rattle.sk_seats.specs.declared.work.Stage.{Stage}
 use Rattle.sk_seats.specs.declared.work.Stage.TheVariants.{Held, Put, Settled}
 use Rattle.sk_seats.specs.declared.work.Work.{Work}
-use Rattle.sk_leases.specs.Leased.{holder_at, is_alive}
+use Rattle.sk_leases.specs.Leased.{holder_at, is_alive, is_led_by_another, last, leads}
 use Rattle.sk_model.specs.World.{World, phase_of}
 use Rattle.sk_model.specs.Live.{count_job, fresh, with_end}
 use Rattle.sk_model.specs.Change.{Add, Carry, Take, Trim, Free, Change, Moves, Passes, Names, Unnames, Turns, Counts, Recovers, Unlocks, ending_of, changed, freed, freed_at, freed_work, perform}
 use Rattle.sk_model.specs.Outcome.{Outcome}
-use Rattle.sk_model.specs.Digest.{digest}
+use Rattle.sk_payload.specs.Digest.{digest}
+use Rattle.sk_model.specs.Periodic.{cron, has_loop, is_above, is_in_time, is_process, lead, push_slot}
 use Rattle.sk_model.specs.Unique.{is_until, or_holder, push_locked, unique_push, unique_push_by, unique_push_of, unlocks, unlocks_at, unlocks_of}
 use Rattle.sk_model.specs.Room.{is_full as is_store_full, is_too_much}
 use Rattle.sk_model.specs.Queues.{pushes, takes, move_row, length_at}
@@ -80,9 +81,9 @@ use Rattle.sk_model.specs.Seats.{fetched_from, is_for_all, is_workers, only, rel
 use Rattle.sk_model.specs.Told.{and_tell, call, fire_all, push_job, push_to, tell, tell_in, tell_of}
 use Rattle.sk_model.specs.Jobs.{Sent, bury, buried_by, due_rows, each, kill_row, merge, moment_score, put_dead, revive_as, revive_row, send, surplus}
 use Rattle.sk_model.specs.Rescue.{bury_poison, is_poison, left_rows, rescue_row}
-use Rattle.sk_model.specs.Batches.{all_may_join, are_callbacks, batch_add, batch_of, batch_push, jids_of, make, may_join, push_jobs, tells_stat, unless}
+use Rattle.sk_model.specs.Batches.{all_may_join, are_callbacks, may_call, batch_add, batch_of, batch_push, jids_of, make, may_join, push_jobs, tells_stat, unless}
 use Rattle.sk_model.specs.Workers.{and_unlock, bury_text, fetch, fetch_row, give, give_row, listed, release_of, retry, work, work_as, work_edit}
-use Rattle.sk_model.specs.Step.{Steps, act, by_seat, edit_names, edit_queue, edits, is_script_built, moves, on_plain, outcome, run}
+use Rattle.sk_model.specs.Step.{Steps, act, by_seat, edit_names, edit_queue, edits, moves, on_plain, outcome, run}
 use Rattle.sk_model.specs.Acked.{Acks, AcksScript, AcksUnique, RepliesAcknowledge, acked_by, acked_by_edit, number_in, where_array, where_number}
 use Rattle.sk_model.specs.Run.{is_ok}
 use Rattle.sk_model.proofs.Sending.{all_filter, all_own, row_there}
@@ -517,6 +518,25 @@ unique_push_by_acked w text score (Some h) is = unique_push_of_acked w text scor
 unique_push_acked : (w : World) (text : Bytes) (score : Option ℤ) → IsUnique score (unique_push w text score)
 unique_push_acked w text score = unique_push_by_acked w text score (head text) refl
 
+-- ## The leader and periodic jobs
+
+lead_quiet : (w : World) (ident : Bytes) → Quiet (lead w ident)
+lead_quiet w ident = either Quiet (is_process w ident) _ _ (λ y. either Quiet (is_led_by_another ident w.moment w.leases) _ _ (λ y. refl) (λ n. refl)) (λ n. refl)
+
+-- a periodic job is the store's own push
+slot_quiet : (w : World) (loop : Bytes) (slot : ℕ) (text : Bytes) → Quiet (push_slot w loop slot text)
+slot_quiet w loop slot text = either Quiet (is_store_full w (text ∷ [])) _ _ (λ y. refl) (λ n. call_none (head text) text)
+
+cron_quiet : (w : World) (ident loop : Bytes) (slot : ℕ) (text : Bytes) → Quiet (cron w ident loop slot text)
+cron_quiet w ident loop slot text =
+    either Quiet (not (is_process w ident)) _ _ (λ y. refl) (λ n.
+    either Quiet (not (may_call (head text) && is_name 255 loop)) _ _ (λ y. refl) (λ n.
+    either Quiet (not (leads ident w.moment w.leases)) _ _ (λ y. refl) (λ n.
+    either Quiet (not (is_above slot (last loop w.leases))) _ _ (λ y. refl) (λ n.
+    either Quiet (not (is_in_time w slot)) _ _ (λ y. refl) (λ n.
+    either Quiet (not (has_loop w loop)) _ _ (λ y. refl) (λ n.
+    slot_quiet w loop slot text))))))
+
 -- ## Batches
 
 job_counted : (text : Bytes) (bid : Bytes) (found : Option Head) → may_join bid found ≡ true → pushed_in (push_to Outside text found) ≡ 1
@@ -592,6 +612,8 @@ run_acked w seat phase (script.Revive set text) = in_plain Quiet phase _ (λ s. 
 run_acked w seat phase (script.Kill set text) = in_plain Quiet phase _ (λ s. refl) (kill_row_quiet w _)
 run_acked w seat phase script.Rescue = in_plain Quiet phase _ (λ s. refl) (each_none rescue_row rescue_row_none w (left_rows w))
 run_acked w seat phase (script.Upush text score) = unique_push_acked w text score
+run_acked w seat phase (script.Lead ident) = in_plain Quiet phase _ (λ s. refl) (lead_quiet w ident)
+run_acked w seat phase (script.Cron ident loop slot text) = in_plain Quiet phase _ (λ s. refl) (cron_quiet w ident loop (nat_abs slot) text)
 run_acked w seat phase (script.Bpush bid parent complete success death texts) = batch_push_counted w (batch_of bid parent complete success death) texts
 run_acked w seat phase (script.Badd bid texts) = batch_add_counted w bid texts
 run_acked w seat phase (script.Bstat bid) = stat_quiet (stat bid w.batches)
@@ -615,7 +637,7 @@ starved_acks_none c = acks_none say.Oom refl c
 
 outcome_acked : (w : World) (seat now : ℕ) (c : Command) → Acks c (outcome w seat now c).reply (pushed_in (outcome w seat now c).changes)
 outcome_acked w seat now (command.Plain c) = by_seat_counted (changed w (Passes now)) seat (phase_of w seat) c
-outcome_acked w seat now (command.Script c) = either (IsAcked c) (is_script_built c) _ _ (λ y. run_acked (changed w (Passes now)) seat (phase_of w seat) c) (λ n. script_acks_none say.NotBuilt refl c)
+outcome_acked w seat now (command.Script c) = run_acked (changed w (Passes now)) seat (phase_of w seat) c
 
 -- Whatever command a seat sends, and wherever memory runs out: the rows from outside that the tally counts rise by what the reply acknowledges.
 pub acked : RepliesAcknowledge

@@ -18,7 +18,7 @@ use Rattle.sk_payload.specs.declared.head.Lock.{Lock}
 use Rattle.sk_leases.specs.Leased.{holder_at}
 use Rattle.sk_model.specs.World.{World, first}
 use Rattle.sk_model.specs.Change.{Passes, changed}
-use Rattle.sk_model.specs.Digest.{digest}
+use Rattle.sk_payload.specs.Digest.{digest}
 use Rattle.sk_model.specs.Event.{Event, Ask, Cut, Gives, Happens, Run, Step, after}
 use Rattle.sk_model.specs.Laws.{IsTurnedAway, KeepsHolder, OneHolder, OneHolderFrom, holder_then}
 use Rattle.sk_model.specs.Outcome.{Outcome, refuses, tells}

@@ -15,7 +15,7 @@ use Rattle.sk_places.specs.declared.row.Row.{Row}
 use Rattle.sk_places.specs.Rows.{row_at, row_of, rows_at}
 use Rattle.sk_model.specs.World.{World}
 use Rattle.sk_model.specs.Change.{Change, Locks, Unlocks, changed}
-use Rattle.sk_model.specs.Digest.{digest}
+use Rattle.sk_payload.specs.Digest.{digest}
 use Rattle.sk_model.specs.Outcome.{Outcome}
 use Rattle.sk_model.specs.Room.{is_full}
 use Rattle.sk_model.specs.Sets.{add_as}

@@ -34,7 +34,7 @@ use Rattle.sk_key.specs.Class.{class_of, private_key}
 use Rattle.sk_model.specs.declared.limits.Limits.{Limits}
 use Rattle.sk_model.specs.World.{World, first}
 use Rattle.sk_model.specs.Change.{Passes, changed, perform}
-use Rattle.sk_model.specs.Digest.{digest}
+use Rattle.sk_payload.specs.Digest.{digest}
 use Rattle.sk_model.specs.Outcome.{Outcome}
 use Rattle.sk_model.specs.Step.{outcome}
 use Rattle.sk_model.specs.Unique.{or_holder, unique_push}

@@ -12,7 +12,7 @@ use Rattle.sk_cmd.specs.declared.command.ScriptCommand.TheVariants as script
 use Rattle.sk_payload.specs.Head.{head}
 use Rattle.sk_payload.specs.declared.head.Head.{Head}
 use Rattle.sk_payload.specs.declared.head.Lock.{Lock}
-use Rattle.sk_model.specs.Digest.{digest}
+use Rattle.sk_payload.specs.Digest.{digest}
 use Rattle.sk_value.specs.Action.{action_of}
 use Rattle.sk_batch.specs.declared.event.Event.TheVariants.{Returned}
 use Rattle.sk_places.specs.declared.origin.Origin.TheVariants.{Inner}

@@ -11,7 +11,6 @@ pub mod Told
 pub mod Jobs
 pub mod Batches
 pub mod Seats
-pub mod Digest
 pub mod Unique
 pub mod Periodic
 pub mod Workers

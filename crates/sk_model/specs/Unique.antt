@@ -14,7 +14,7 @@ use Rattle.sk_leases.specs.Leased.{holder_at}
 use Rattle.sk_places.specs.declared.origin.Origin.TheVariants.{Outside}
 use Rattle.sk_model.specs.World.{World}
 use Rattle.sk_model.specs.Change.{Change, Locks, Unlocks}
-use Rattle.sk_model.specs.Digest.{digest}
+use Rattle.sk_payload.specs.Digest.{digest}
 use Rattle.sk_model.specs.Outcome.{Outcome, says, refuses}
 use Rattle.sk_model.specs.Room.{where_room}
 use Rattle.sk_model.specs.Sets.{add_one}

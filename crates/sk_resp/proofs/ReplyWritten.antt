@@ -168,7 +168,6 @@ say_flat : (s : Say) → IsFlat (line (say_text s))
 say_flat say.Ok = simple_text (codes "OK") (fixed _ refl refl) refl
 say_flat (say.Kind k) = kind_flat k
 say_flat say.Pong = simple_text (codes "PONG") (fixed _ refl refl) refl
-say_flat say.NotBuilt = error_line (codes "SK not built") (fixed _ refl refl)
 say_flat say.Unknown = error_line (codes "ERR unknown command") (fixed _ refl refl)
 say_flat (say.Arity n) = error_line (codes "ERR wrong number of arguments for '" ++ spelling n ++ codes "' command") (name_line n)
 say_flat say.NotInt = error_line (codes "ERR value is not an integer or out of range") (fixed _ refl refl)

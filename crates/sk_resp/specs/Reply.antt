@@ -32,7 +32,6 @@ abbrev pub say_text : Say → Bytes
 say_text say.Ok = codes "+OK"
 say_text say.Pong = codes "+PONG"
 say_text (say.Kind kind) = kind_text kind
-say_text say.NotBuilt = codes "-SK not built"
 say_text say.Unknown = codes "-ERR unknown command"
 say_text (say.Arity name) = codes "-ERR wrong number of arguments for '" ++ spelling name ++ codes "' command"
 say_text say.NotInt = codes "-ERR value is not an integer or out of range"

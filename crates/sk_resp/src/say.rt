@@ -13,8 +13,6 @@ pub enum Say {
     Pong,
     /// What a key holds: `+none`, `+string`, `+list`, `+set`, `+hash` or `+zset`
     Kind(Kind),
-    /// `-SK not built`: the command, or this form of it, is not built yet.
-    NotBuilt,
     /// `-ERR unknown command`
     Unknown,
     /// `-ERR wrong number of arguments for 'ping' command`, with the command's name
@@ -97,7 +95,6 @@ pub fn write_say(say: Say, out: &mut Vec<u8>) -> Result<(), Memory>
         Say::Ok => out.extend_from_slice(b"+OK"),
         Say::Pong => out.extend_from_slice(b"+PONG"),
         Say::Kind(kind) => out.extend_from_slice(kind.text()),
-        Say::NotBuilt => out.extend_from_slice(b"-SK not built"),
         Say::Unknown => out.extend_from_slice(b"-ERR unknown command"),
         Say::Arity(name) => {
             let front = b"-ERR wrong number of arguments for '";

@@ -9,7 +9,7 @@ use Rattle.sk_jobs.proofs.unique.push_unique.Goals as goal
 pub returns-then-is_too_much : goal.returns-then-is_too_much
 returns-then-is_too_much c = (
   push_full (world c.args.store.now) c.args.text c.in_ok-payload.payload c.args.score c.in-Some.lock c.refused-then-is_too_much.result
-  c.in_ok-payload.ensures (sym c.in_ok-lock.ensures ∙ c.in-Some.is) (sym c.is_too_much.ensures.is ∙ c.if-is_too_much.true) c.refused-then-is_too_much.ensures,
+      c.in_ok-payload.ensures (sym c.in_ok-lock.ensures ∙ c.in-Some.is) (sym c.is_too_much.ensures.is ∙ c.if-is_too_much.true) c.refused-then-is_too_much.ensures,
   c.requires,
 )
 
