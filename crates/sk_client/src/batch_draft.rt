@@ -6,8 +6,8 @@ ghost use Rattle.sk_client.specs.Requests.{bpush, badd};
 
 use crate::ClientFault;
 use crate::send::{request, send};
-use crate::words::{add_callback, add_drafts, words_of};
-use sk_link::{Answer, Link};
+use crate::words::{add_callback, add_drafts};
+use sk_link::{Answer, Link, words_of};
 use sk_payload::JobDraft;
 use sk_resp::{Reply, Text, Words};
 use std::alloc::Global;

@@ -7,9 +7,9 @@ ghost use Rattle.sk_client.specs.Requests.{lpush_words};
 ghost use Rattle.sk_client.specs.Bulk.{NameOneQueue, IsSlice, StopsAt, PushesFirst, PushesAll, FailsAt};
 
 use crate::send::send;
-use crate::words::{add_drafts, queue_key, words_of};
+use crate::words::{add_drafts, queue_key};
 use crate::{ClientFault, Memory};
-use sk_link::{Answer, Link};
+use sk_link::{Answer, Link, words_of};
 use sk_payload::JobDraft;
 use sk_resp::{Word, Words};
 use std::alloc::Global;

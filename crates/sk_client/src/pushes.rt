@@ -6,9 +6,9 @@ ghost use Rattle.sk_client.specs.Requests.{lpush, zadd, upush};
 
 use crate::ClientFault;
 use crate::send::send;
-use crate::words::{add_draft, queue_key, words_of};
+use crate::words::{add_draft, queue_key};
 use sk_base::Score;
-use sk_link::{Answer, Link};
+use sk_link::{Answer, Link, words_of};
 use sk_payload::JobDraft;
 use sk_resp::{Word, Words};
 use std::alloc::Global;

@@ -1,5 +1,5 @@
-// The words of a request, put together one after another.
-ghost use Rattle.std.specs.Prelude.{◌≡◌, ◌++◌, ◌∷◌, [], IfOk, OnOk, codes, map};
+// The words that a client adds to a request: the key of a queue, and the texts of drafts.
+ghost use Rattle.std.specs.Prelude.{◌≡◌, ◌++◌, ◌∷◌, [], IfOk, codes};
 ghost use Rattle.std.specs.Option.{option_to_list};
 ghost use Rattle.sk_payload.specs.Draft.{draft_text};
 ghost use Rattle.sk_client.specs.Drafts.{texts};
@@ -10,17 +10,6 @@ use crate::{ClientFault, Memory};
 use sk_payload::JobDraft;
 use sk_resp::Word;
 use std::alloc::Global;
-
-/// The words with these bytes.
-pub fn words_of(alloc: Global, parts: &[&[u8]]) -> Result<Vec<Word>, Memory>
-    ensures { IfOk result (λ words. words.items ≡ map (λ part. part.now) parts.now) }
-{
-    let mut words = Vec::new(alloc);
-    for part in parts {
-        words.push(Word::new(part.to_vec(alloc)?))?;
-    }
-    Ok(words)
-}
 
 /// The key of a queue.
 pub fn queue_key(alloc: Global, queue: &str) -> Result<Vec<u8>, Memory>
