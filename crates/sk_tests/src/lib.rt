@@ -8,9 +8,9 @@ mod payloads;
 #[cfg(test)]
 mod pipe;
 #[cfg(test)]
-mod replies;
-#[cfg(test)]
 mod policy;
+#[cfg(test)]
+mod replies;
 #[cfg(test)]
 mod requests;
 #[cfg(test)]

@@ -17,13 +17,25 @@ fn fault(order: Result<QueueOrder, OrderFault>) -> Option<OrderFault> {
 #[test]
 fn the_first_wrong_place_is_the_fault(rt: HostRuntime) -> Result<(), Fail> {
     let alloc = rt.alloc();
-    assert_eq!(rt; fault(QueueOrder::strict(Vec::new(alloc))), Some(OrderFault::Empty));
+    assert_eq!(rt;
+        fault(QueueOrder::strict(Vec::new(alloc))),
+        Some(OrderFault::Empty)
+    );
     let queues = vec![in alloc; queue(alloc, "a", 1)?, queue(alloc, "", 0)?]?;
-    assert_eq!(rt; fault(QueueOrder::weighted(alloc, queues)), Some(OrderFault::Name(1)));
+    assert_eq!(rt;
+        fault(QueueOrder::weighted(alloc, queues)),
+        Some(OrderFault::Name(1))
+    );
     let queues = vec![in alloc; queue(alloc, "a", 1)?, queue(alloc, "a", 0)?]?;
-    assert_eq!(rt; fault(QueueOrder::weighted(alloc, queues)), Some(OrderFault::Repeated(1)));
+    assert_eq!(rt;
+        fault(QueueOrder::weighted(alloc, queues)),
+        Some(OrderFault::Repeated(1))
+    );
     let queues = vec![in alloc; queue(alloc, "a", 101)?, queue(alloc, "a", 1)?]?;
-    assert_eq!(rt; fault(QueueOrder::weighted(alloc, queues)), Some(OrderFault::Weight(0)));
+    assert_eq!(rt;
+        fault(QueueOrder::weighted(alloc, queues)),
+        Some(OrderFault::Weight(0))
+    );
     Ok(())
 }
 

@@ -138,13 +138,21 @@ fn order(alloc: Global) -> Result<QueueOrder, Fail> {
 #[test]
 fn a_worker_holds_two_jobs(rt: HostRuntime) -> Result<(), Fail> {
     let alloc = rt.alloc();
-    let jobs = vec![in alloc; job(alloc, "Note", 1)?, job(alloc, "Note", 2)?, job(alloc, "Note", 3)?]?;
+    let jobs = vec![in alloc;
+        job(alloc, "Note", 1)?,
+        job(alloc, "Note", 2)?,
+        job(alloc, "Note", 3)?,
+    ]?;
     let mut link = link(alloc, &jobs)?;
     let mut registry = Registry::new(alloc);
     let note: Box<dyn Job + Send> = Box::new(alloc, Note { raises: false })?;
     let seven: Box<dyn Fn(u32) -> u64 + Send> = Box::new(alloc, |_: u32| 7u64)?;
     let plain: Box<dyn Fn(u32) -> u64 + Send> = Box::new(alloc, |count: u32| plain_delay(count))?;
-    assert!(rt; registry.add(text(alloc, "Note")?, note, DelayRule::new(seven)).is_ok());
+    assert!(rt;
+        registry
+            .add(text(alloc, "Note")?, note, DelayRule::new(seven))
+            .is_ok()
+    );
     let plain = DelayRule::new(plain);
     let mut worker = Worker::new(alloc, text(alloc, "w")?, order(alloc)?, plain, 2);
     let mut clock = StepClock { now: NOW, step: 0 };
@@ -177,7 +185,11 @@ fn a_worker_ends_where_its_link_fails(rt: HostRuntime) -> Result<(), Fail> {
         let note: Box<dyn Job + Send> = Box::new(alloc, Note { raises: false })?;
         let seven: Box<dyn Fn(u32) -> u64 + Send> = Box::new(alloc, |_: u32| 7u64)?;
         let plain: Box<dyn Fn(u32) -> u64 + Send> = Box::new(alloc, |_: u32| 7u64)?;
-        assert!(rt; registry.add(text(alloc, "Note")?, note, DelayRule::new(seven)).is_ok());
+        assert!(rt;
+            registry
+                .add(text(alloc, "Note")?, note, DelayRule::new(seven))
+                .is_ok()
+        );
         let plain = DelayRule::new(plain);
         let mut worker = Worker::new(alloc, text(alloc, "w")?, order(alloc)?, plain, 1);
         let mut clock = StepClock { now: NOW, step: 0 };
@@ -205,7 +217,11 @@ fn a_failed_job_waits_for_its_retry(rt: HostRuntime) -> Result<(), Fail> {
     let seven: Box<dyn Fn(u32) -> u64 + Send> = Box::new(alloc, |_: u32| 7u64)?;
     let eight: Box<dyn Fn(u32) -> u64 + Send> = Box::new(alloc, |_: u32| 8u64)?;
     let plain: Box<dyn Fn(u32) -> u64 + Send> = Box::new(alloc, |count: u32| plain_delay(count))?;
-    assert!(rt; registry.add(text(alloc, "Note")?, note, DelayRule::new(seven)).is_ok());
+    assert!(rt;
+        registry
+            .add(text(alloc, "Note")?, note, DelayRule::new(seven))
+            .is_ok()
+    );
     let added = registry.add(text(alloc, "Note")?, again, DelayRule::new(eight));
     assert!(rt; matches!(added, Err(AddFault::Repeated(_))));
     let plain = DelayRule::new(plain);
