@@ -147,6 +147,16 @@ found part line rest added front (Some reply) (one t r) e =
     let alone : map wire added ≡ wire reply ∷ [] = ap (λ xs. map wire xs) (e ∙ ap (λ xs. xs ++ reply ∷ []) first) in
     ap (λ xs. get_or xs 0 []) (sym alone ∙ t)
 
+-- It is a reply's text.
+last_text : (front : List Reply) (reply : Reply) → AllByRecursion IsReplyText (map wire (front ++ reply ∷ [])) → IsReplyText (wire reply)
+last_text [] reply each = each.0
+last_text (r ∷ front) reply each = last_text front reply each.1
+
+pub found_text : (added front : List Reply) (popped : Option Reply) → AllByRecursion IsReplyText (map wire added) → added ≡ front ++ option_to_list popped →
+    IfSome popped (λ reply. IsReplyText (wire reply))
+found_text added front None each e = tt
+found_text added front (Some reply) each e = last_text front reply (subst (λ rs. AllByRecursion IsReplyText (map wire rs)) e each)
+
 -- ## Bytes that can't go on
 
 -- No whole reply stands in front of a first part that nothing follows.

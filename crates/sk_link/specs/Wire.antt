@@ -1,9 +1,11 @@
 -- A link over a connection: what contracts see of it, and what it carries.
 use Rattle.std.specs.Prelude.{◌≡◌, ◌++◌, Bool, true, false, List, [], ◌∷◌, Option, Some, None, refl}
+use Rattle.std.specs.List.{AllByRecursion}
 use Rattle.std.specs.Coded.{Coded, code_by, coded×, coded_ℕ, coded_bool, coded_list}
 use Rattle.sk_base.specs.Outside.{Takes, Gives}
 use Rattle.sk_resp.specs.Spelling.{Bytes}
 use Rattle.sk_resp.specs.Reply.{wire}
+use Rattle.sk_resp.specs.ReplyStream.{IsReplyText}
 use Rattle.sk_resp.specs.Request.{array}
 use Rattle.sk_link.specs.Call.{Call}
 
@@ -41,11 +43,12 @@ pub record WireTells : Type 0 where
   pub taken : Option Bytes
   pub unread : Option Bytes
 
--- Between two states the connection took the requests of these calls, each whole, and gave their replies. Where the link ended it may have taken
--- the front of one more request. Once it has ended it carries nothing.
+-- Between two states the connection took the requests of these calls, each whole, and gave their replies, each the whole text of one. Where the
+-- link ended it may have taken the front of one more request. Once it has ended it carries nothing.
 pub record Carries (before after : WireTells) (calls : List Call) : Type 0 where
   pub front : Bytes
   pub sent : Takes before.taken (requests_text calls ++ front) after.taken
   pub given : Gives before.unread (replies_text calls) after.unread
+  pub texts : AllByRecursion (λ call. IsReplyText (wire call.reply)) calls
   pub whole : after.ended ≡ false → front ≡ []
   pub rests : before.ended ≡ true → (calls ≡ []) × (front ≡ []) × (after.ended ≡ true)

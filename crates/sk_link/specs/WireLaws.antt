@@ -2,9 +2,11 @@
 use Rattle.std.specs.Prelude.{◌≡◌, ◌++◌, Bool, true, false, List, [], ◌∷◌, refl}
 use Rattle.std.proofs.Common.{sym, ap, subst, ◌∙◌, append_assoc, append-nil}
 use Rattle.std.proofs.lemmas.Bool.{true≢false}
+use Rattle.std.specs.List.{AllByRecursion}
 use Rattle.sk_base.specs.Outside.{Takes, Gives}
 use Rattle.sk_base.proofs.OutsideLaws.{takes_more, takes_nothing, gives_more, gives_nothing}
 use Rattle.sk_resp.specs.Reply.{wire}
+use Rattle.sk_resp.specs.ReplyStream.{IsReplyText}
 use Rattle.sk_resp.specs.Request.{array}
 use Rattle.sk_link.specs.Call.{Call}
 use Rattle.sk_link.specs.Wire.{Carries, WireTells, requests_text, replies_text}
@@ -22,12 +24,18 @@ never b is_true is_false = absurd (true≢false (sym is_true ∙ is_false))
 
 pub carries_none : (a : WireTells) → Carries a a []
 carries_none a = record {
+  texts = tt;
   front = [];
   sent = takes_nothing a.taken;
   given = gives_nothing a.unread;
   whole = λ h. refl;
   rests = λ h. (refl, refl, h);
 }
+
+all_texts : (xs ys : List Call) → AllByRecursion (λ call. IsReplyText (wire call.reply)) xs → AllByRecursion (λ call. IsReplyText (wire call.reply)) ys →
+    AllByRecursion (λ call. IsReplyText (wire call.reply)) (xs ++ ys)
+all_texts [] ys p q = q
+all_texts (x ∷ xs) ys p q = (p.0, all_texts xs ys p.1 q)
 
 all_given : (a b c : WireTells) (xs ys : List Call) → Carries a b xs → Carries b c ys → Gives a.unread (replies_text (xs ++ ys)) c.unread
 all_given a b c xs ys p q = subst (λ t. Gives a.unread t c.unread) (sym (replies-append xs ys)) (gives_more a.unread (replies_text xs) b.unread (replies_text ys) c.unread p.given q.given)
@@ -41,6 +49,7 @@ more_by : (a b c : WireTells) (xs ys : List Call) → Carries a b xs → Carries
 more_by a b c xs ys p q true is =
     let r = q.rests is in
     record {
+      texts = all_texts xs ys p.texts q.texts;
       front = p.front;
       sent = subst (λ s. Takes a.taken s c.taken)
           (append_assoc (requests_text xs) p.front (requests_text ys ++ q.front)
@@ -55,6 +64,7 @@ more_by a b c xs ys p q true is =
 more_by a b c xs ys p q false is =
     let none : p.front ≡ [] = p.whole is in
     record {
+      texts = all_texts xs ys p.texts q.texts;
       front = q.front;
       sent = subst (λ s. Takes a.taken s c.taken)
           (ap (λ s. (requests_text xs ++ s) ++ (requests_text ys ++ q.front)) none

@@ -4,7 +4,7 @@ ghost use Rattle.std.specs.Prelude.{◌≡◌, ◌≢◌, ◌<◌, ◌≤◌, �
 ghost use Rattle.sk_base.specs.Outside.{Gives};
 ghost use Rattle.sk_resp.specs.Spelling.{Bytes, IsPart};
 ghost use Rattle.sk_resp.specs.Reply.{wire};
-ghost use Rattle.sk_resp.specs.ReplyStream.{IsReplyPart};
+ghost use Rattle.sk_resp.specs.ReplyStream.{IsReplyPart, IsReplyText};
 ghost use Rattle.sk_link.specs.Fault.{IsCause, IsIoCause, IsNoReply};
 ghost use Rattle.sk_link.specs.Line.{IsLine, IsStuck};
 ghost use Rattle.sk_link.specs.Wire.{unread_of};
@@ -89,6 +89,7 @@ fn feed_line(
     ensures part { OnOk result (IsReplyPart feeder.new.rest) }
     ensures more { IfOk result (λ found. IfNone found (feeder.new.rest ≡ feeder.old.rest ++ line.now)) }
     ensures whole { IfOk result (λ found. IfSome found (λ reply. wire reply ≡ feeder.old.rest ++ line.now)) }
+    ensures text { IfOk result (λ found. IfSome found (λ reply. IsReplyText (wire reply))) }
     ensures fault { IfErr result (λ fault. fault ≢ ReplyFault.Memory → IsStuck (feeder.old.rest ++ line.now)) }
 {
     no_reply_begins_another();
@@ -111,6 +112,7 @@ fn parse(
     ensures part { OnOk result (IsReplyPart feeder.new.rest) }
     ensures more { IfOk result (λ found. IfNone found (feeder.new.rest ≡ feeder.old.rest ++ bytes.now)) }
     ensures whole { IfOk result (λ found. IfSome found (λ f. (f.1 ≤ length bytes.now) × (wire f.0 ≡ feeder.old.rest ++ take f.1 bytes.now))) }
+    ensures text { IfOk result (λ found. IfSome found (λ f. IsReplyText (wire f.0))) }
     ensures fault { IfErr result (λ fault. fault ≢ ReplyFault.Memory → IsStuck (feeder.old.rest ++ bytes.now)) }
 {
     let mut at = 0;
@@ -144,6 +146,7 @@ fn take_reply(
     ensures part { OnOk result (IsReplyPart feeder.new.rest) }
     ensures more { IfOk result (λ found. IfNone found ((feeder.new.rest ≡ buffer.old.items) × (buffer.new.items ≡ buffer.old.items))) }
     ensures whole { IfOk result (λ found. IfSome found (λ reply. buffer.old.items ≡ wire reply ++ buffer.new.items)) }
+    ensures text { IfOk result (λ found. IfSome found (λ reply. IsReplyText (wire reply))) }
     ensures err { OnErr result (buffer.new.items ≡ buffer.old.items) }
     ensures fault { IfErr result (λ fault. fault ≢ ReplyFault.Memory → IsStuck buffer.old.items) }
 {
@@ -232,6 +235,7 @@ pub fn receive<S: Source>(
 ) -> Result<Reply, LinkFault>
     ensures ok { IfOk result (λ reply. Gives (unread_of buffer.old.items (S.left source.old)) (wire reply)
         (unread_of buffer.new.items (S.left source.new))) }
+    ensures text { IfOk result (λ reply. IsReplyText (wire reply)) }
     ensures err { OnErr result (unread_of buffer.new.items (S.left source.new) ≡ unread_of buffer.old.items (S.left source.old)) }
     ensures beside { S.beside_read source.new ≡ S.beside_read source.old }
     ensures later { S.read_faults source.old ≤ S.read_faults source.new }

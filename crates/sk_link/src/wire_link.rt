@@ -2,6 +2,7 @@
 ghost use Rattle.std.specs.Prelude.{◌≡◌, ◌≤◌, ◌+◌, [], false, refl, IfOk, IfErr, OnOk, OnErr};
 ghost use Rattle.sk_base.specs.Outside.{Gives, Takes, TakesFront};
 ghost use Rattle.sk_resp.specs.Reply.{wire};
+ghost use Rattle.sk_resp.specs.ReplyStream.{IsReplyText};
 ghost use Rattle.sk_resp.specs.Request.{array};
 ghost use Rattle.sk_link.specs.Fault.{IsCause, IsIoCause};
 ghost use Rattle.sk_link.specs.Wire.{Carries, unread_of};
@@ -54,6 +55,7 @@ fn receive_over<C: Duplex>(
 ) -> Result<Reply, LinkFault>
     ensures ok { IfOk result (λ reply. Gives (unread_of buffer.old.items (C.left conn.old)) (wire reply)
         (unread_of buffer.new.items (C.left conn.new))) }
+    ensures text { IfOk result (λ reply. IsReplyText (wire reply)) }
     ensures err { OnErr result (unread_of buffer.new.items (C.left conn.new) ≡ unread_of buffer.old.items (C.left conn.old)) }
     ensures taken { C.taken conn.new ≡ C.taken conn.old }
     ensures writes { C.write_faults conn.new ≡ C.write_faults conn.old }
@@ -92,6 +94,7 @@ impl<C: Duplex> WireLink<C> {
         ensures sent { OnOk result (Takes (C.taken self.old.conn) (array words.now) (C.taken self.new.conn)) }
         ensures given { IfOk result (λ reply. Gives (unread_of self.old.pending (C.left self.old.conn)) (wire reply)
             (unread_of self.new.pending (C.left self.new.conn))) }
+        ensures text { IfOk result (λ reply. IsReplyText (wire reply)) }
         ensures front { OnErr result (TakesFront (C.taken self.old.conn) (array words.now) (C.taken self.new.conn)) }
         ensures kept { OnErr result (unread_of self.new.pending (C.left self.new.conn) ≡ unread_of self.old.pending (C.left self.old.conn)) }
         ensures later { C.read_faults self.old.conn + C.write_faults self.old.conn ≤ C.read_faults self.new.conn + C.write_faults self.new.conn }

@@ -1,6 +1,7 @@
 use Rattle.std.proofs.Common.{◌≡◌, ◌-◌, ◌+◌, ◌++◌, length, take, drop, ◌∙◌, arith, length-drop}
 use Rattle.std.proofs.lemmas.List.{length-take}
 use Rattle.sk_resp.specs.Reply.{wire}
+use Rattle.sk_resp.specs.ReplyStream.{IsReplyText}
 use Rattle.sk_link.proofs.Unread.{lines_add, stuck_in, none_gives, some_gives}
 use Rattle.sk_link.proofs.receiving.parse.Goals as goal
 
@@ -16,6 +17,9 @@ returns-in-Some-clause-whole c =
     let d = length-drop c.loop-at.at c.args.bytes.now in
     let w = c.loop-at.invariant.within in
     (omega (arith, part.1, t, d, w), text ∙ lines_add c.args.feeder.now.rest c.args.bytes.now c.loop-at.feeder.rest c.loop-at.at c.line_end.result c.loop-at.invariant.kept)
+
+pub returns-in-Some-clause-text : goal.returns-in-Some-clause-text
+returns-in-Some-clause-text c = some_gives _ c.in-Some.reply (λ reply. IsReplyText (wire reply)) c.in-Ok.ensures.text c.in-Some.is
 
 pub loop-at-preserved : goal.loop-at-preserved
 loop-at-preserved c =

@@ -1,7 +1,7 @@
 use Rattle.std.proofs.Common.{◌≡◌, ◌++◌, ℕ, Ok, refl, subst, sym, ap, ◌∙◌, arith}
 use Rattle.sk_base.specs.Outside.{Gives}
 use Rattle.sk_resp.specs.Reply.{wire}
-use Rattle.sk_resp.specs.ReplyStream.{IsReplyPart, RepliesHeard}
+use Rattle.sk_resp.specs.ReplyStream.{IsReplyPart, IsReplyText, RepliesHeard}
 use Rattle.sk_link.specs.Line.{IsStuck}
 use Rattle.sk_link.specs.Wire.{unread_of}
 use Rattle.sk_link.proofs.Lines.{part_alone}
@@ -31,6 +31,9 @@ returns-in-Some-clause-ok g c =
     let whole = some_gives _ c.in-Some.reply (λ reply. c.loop-found.buffer.items ≡ wire reply ++ c.take_reply.new.buffer.items) c.in-Ok.ensures.whole c.in-Some.is in
     subst (λ o. Gives o (wire c.in-Some.reply) (unread_of c.take_reply.new.buffer.items left)) c.loop-found.invariant.same
     (reply_leaves c.loop-found.buffer.items (wire c.in-Some.reply) c.take_reply.new.buffer.items left whole)
+
+pub returns-in-Some-clause-text : goal.returns-in-Some-clause-text
+returns-in-Some-clause-text g c = some_gives _ c.in-Some.reply (λ reply. IsReplyText (wire reply)) c.in-Ok.ensures.text c.in-Some.is
 
 pub unreadable-requires : goal.unreadable-requires
 unreadable-requires g c =

@@ -1,5 +1,6 @@
 use Rattle.std.proofs.Common.{◌≡◌, ◌≤◌, ◌-◌, ◌++◌, ℕ, length, take, drop, subst, ap, ◌∙◌, sym}
 use Rattle.sk_resp.specs.Reply.{wire}
+use Rattle.sk_resp.specs.ReplyStream.{IsReplyText}
 use Rattle.sk_resp.specs.declared.reply.Reply.{Reply}
 use Rattle.sk_link.specs.Line.{IsStuck}
 use Rattle.sk_link.proofs.Unread.{whole_buffer, reply_off, some_gives}
@@ -15,3 +16,7 @@ returns-in-Some-clause-whole c =
     let w = some_gives c.in-Ok.found (c.in-Some.reply, c.in-Some.used) (λ (f : Reply × ℕ). (f.1 ≤ length bytes) × (wire f.0 ≡ c.args.feeder.now.rest ++ take f.1 bytes)) c.in-Ok.ensures.whole c.in-Some.is in
     reply_off c.args.feeder.now.rest c.args.buffer.now.items c.deref.result.now (wire c.in-Some.reply) c.args.at c.in-Some.used c.requires.given c.deref.ensures.value w.1
     ∙ ap (λ t. wire c.in-Some.reply ++ t) (sym c.drop_front.ensures)
+
+pub returns-in-Some-clause-text : goal.returns-in-Some-clause-text
+returns-in-Some-clause-text c =
+    some_gives c.in-Ok.found (c.in-Some.reply, c.in-Some.used) (λ (f : Reply × ℕ). IsReplyText (wire f.0)) c.in-Ok.ensures.text c.in-Some.is

@@ -5,4 +5,4 @@ use Rattle.sk_link.proofs.wire_link.WireLinkLink.call.Goals as goal
 
 pub returns-in-Ok-clause-ok : goal.returns-in-Ok-clause-ok
 returns-in-Ok-clause-ok g c =
-    carries_call _ _ c.args.words.now c.in-Ok.reply c.in-Ok.ensures.sent c.in-Ok.ensures.given (sym (ap (λ (s : WireState _). s.ended) c.self.view_is) ∙ c.if-self.false)
+    carries_call _ _ c.args.words.now c.in-Ok.reply c.in-Ok.ensures.sent c.in-Ok.ensures.given c.in-Ok.ensures.text (sym (ap (λ (s : WireState _). s.ended) c.self.view_is) ∙ c.if-self.false)
