@@ -1,4 +1,7 @@
 // Jobs that are pushed in the transcripts.
+ghost use Rattle.std.specs.Prelude.{◌≡◌, IfOk, codes};
+ghost use Rattle.sk_client.specs.Bulk.{NameOneQueue};
+
 use serde_json::{Number, Value};
 use sk_payload::{Args, JobDraft, Lock, Retry, Until};
 use sk_resp::Text;
@@ -7,7 +10,9 @@ use std::alloc::{AllocError, Global};
 /// The moment at which the jobs are made, in milliseconds since 1970.
 pub const MADE: u64 = 1_700_000_000_000;
 
-pub fn text(alloc: Global, text: &str) -> Result<Text, AllocError> {
+pub fn text(alloc: Global, text: &str) -> Result<Text, AllocError>
+    ensures { IfOk result (λ copy. copy ≡ text.now) }
+{
     Ok(Text::new(String::from_str(alloc, text)?))
 }
 
@@ -19,7 +24,9 @@ fn args(alloc: Global, value: Value) -> Result<Args, AllocError> {
 }
 
 /// A job of class Note for the queue default, with the argument 1 and this number as its id, in 24 digits.
-pub fn note(alloc: Global, n: u64) -> Result<JobDraft, AllocError> {
+pub fn note(alloc: Global, n: u64) -> Result<JobDraft, AllocError>
+    ensures { IfOk result (λ draft. draft.queue ≡ codes "default") }
+{
     Ok(JobDraft {
         jid: Text::new(format!(in alloc; "{n:024}")?),
         class: text(alloc, "Note")?,
@@ -61,7 +68,10 @@ pub fn fraction(alloc: Global, n: u64) -> Result<JobDraft, AllocError> {
 }
 
 /// So many jobs of class Note, numbered from 1 on.
-pub fn notes(alloc: Global, count: u64) -> Result<Vec<JobDraft>, AllocError> {
+#[tactic(auto, using(crate::proofs::OneQueue::one_queue))]
+pub fn notes(alloc: Global, count: u64) -> Result<Vec<JobDraft>, AllocError>
+    ensures { IfOk result (λ drafts. NameOneQueue drafts.items) }
+{
     let mut drafts = Vec::new(alloc);
     for n in 0..count {
         drafts.push(note(alloc, n.saturating_add(1))?)?;
