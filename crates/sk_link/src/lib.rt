@@ -8,7 +8,7 @@ mod request;
 mod sending;
 mod wire_link;
 
-pub use asking::{Answer, AskFault, ask};
+pub use asking::{Answer, AskFault, ask, is_answer};
 pub use link::{Link, LinkFault};
 pub use request::words_of;
 pub use std::alloc::AllocError as Memory;
