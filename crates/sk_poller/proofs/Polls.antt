@@ -1,5 +1,5 @@
 -- How the turn of a poller goes on, and how a fault ends it.
-use Rattle.std.proofs.Common.{◌≡◌, ◌∙◌, ◌≤◌, ◌-◌, ℕ, Bool, true, false, List, [], ◌∷◌, ◌++◌, map, take, drop, length, get_or, refl, sym, subst, ap, Option, Some, None, Result, Ok, Err, append_assoc, arith}
+use Rattle.std.proofs.Common.{◌&&◌, ◌≡◌, ◌∙◌, ◌≤◌, ◌-◌, ℕ, Bool, true, false, List, [], ◌∷◌, ◌++◌, map, take, drop, length, get_or, refl, sym, subst, ap, Option, Some, None, Result, Ok, Err, append_assoc, arith}
 use Rattle.sk_base.specs.Yields.{YieldsAll}
 use Rattle.sk_resp.specs.Spelling.{Bytes}
 use Rattle.sk_resp.specs.declared.reply.Reply.{Reply}
@@ -16,6 +16,7 @@ use Rattle.sk_poller.specs.declared.poller.Loop.{Loop}
 use Rattle.sk_poller.specs.declared.report.PollFault.{PollFault}
 use Rattle.sk_poller.specs.declared.report.PollFault.TheVariants as fault
 use Rattle.sk_poller.specs.declared.report.PollReport.{PollReport}
+use Rattle.std.specs.List.{list_all}
 use Rattle.std.proofs.lemmas.Grind.{common_steps}
 use Rattle.std.proofs.lemmas.Bool.{true≢false}
 
@@ -157,3 +158,22 @@ first_loop now_ (m ∷ loops) n l h e = ap (λ k. looking now_ k loops n) (sym e
 
 pub rest_is : {X : Type 0} (xs : List X) → take (length xs - 1) (drop 1 xs) ≡ drop 1 xs
 rest_is xs = grind (arith, common_steps)
+
+and_left : (a b : Bool) → (a && b) ≡ true → a ≡ true
+and_left true b h = refl
+and_left false b h = h
+
+and_right : (a b : Bool) → (a && b) ≡ true → b ≡ true
+and_right true b h = h
+and_right false b h = absurd (true≢false (sym h))
+
+pub first_passes : {X : Type 0} (p : X → Bool) (xs : List X) (x : X) → list_all p xs ≡ true → 1 ≤ length xs → x ≡ get_or xs 0 x → p x ≡ true
+first_passes p [] x all some is = let no : ⊥ = omega (arith, some) in absurd no
+first_passes p (y ∷ ys) x all some is = subst (λ z. p z ≡ true) (sym is) (and_left (p y) (list_all p ys) all)
+
+others_pass : {X : Type 0} (p : X → Bool) (xs : List X) → list_all p xs ≡ true → list_all p (drop 1 xs) ≡ true
+others_pass p [] all = refl
+others_pass p (y ∷ ys) all = and_right (p y) (list_all p ys) all
+
+pub rest_passes : {X : Type 0} (p : X → Bool) (xs : List X) → list_all p xs ≡ true → list_all p (take (length xs - 1) (drop 1 xs)) ≡ true
+rest_passes p xs all = subst (λ ys. list_all p ys ≡ true) (sym (rest_is xs)) (others_pass p xs all)

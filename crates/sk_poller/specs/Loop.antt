@@ -7,9 +7,20 @@ use Rattle.sk_payload.specs.declared.head.Retry.TheVariants.{Default}
 use Rattle.sk_poller.specs.declared.poller.Loop.{Loop}
 
 -- Its name, its class and its queue are names.
-abbrev pub is_loop : Loop → Bool
+unfoldable pub is_loop : Loop → Bool
 is_loop l = is_name 255 l.name && is_name 255 l.class && is_name 255 l.queue
 
 -- the job that is pushed for a slot: without arguments, made now
 abbrev pub draft_of : Loop → Bytes → ℕ → JobDraft
-draft_of l jid now_ = record { jid = jid; class = l.class; queue = l.queue; args = []; retry = Default; retry_for = None; bid = None; lock = None; dead = true; created = now_ }
+draft_of l jid now_ = record {
+  jid = jid;
+  class = l.class;
+  queue = l.queue;
+  args = [];
+  retry = Default;
+  retry_for = None;
+  bid = None;
+  lock = None;
+  dead = true;
+  created = now_;
+}

@@ -27,7 +27,8 @@ abbrev pub is_passed : Reply → Bool
 is_passed (reply.Say (say.Refused refusal.NotLeader)) = true
 is_passed (reply.Say (say.Refused refusal.SlotDone)) = true
 is_passed (reply.Say (say.Refused refusal.SlotTime)) = true
-is_passed (reply.Error text) = bytes_eq text (codes "SK not leader") || bytes_eq text (codes "SK slot done") || bytes_eq text (codes "SK slot out of time")
+is_passed (reply.Error text) =
+    bytes_eq text (codes "SK not leader") || bytes_eq text (codes "SK slot done") || bytes_eq text (codes "SK slot out of time")
 is_passed r = false
 
 -- The reply to SK.LEAD: `:1`, it leads; another number, it doesn't.

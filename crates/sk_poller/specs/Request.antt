@@ -23,4 +23,5 @@ lead_words ident = codes "SK.LEAD" ∷ ident ∷ []
 
 -- a periodic job for a slot, with the id that two words of the dice make
 abbrev pub cron_words : Bytes → Loop → ℕ → ℕ → ℕ → ℕ → List Bytes
-cron_words ident l slot first second now_ = codes "SK.CRON" ∷ ident ∷ l.name ∷ decimal slot ∷ draft_text (draft_of l (jid_of_words first second) now_) ∷ []
+cron_words ident l slot first second now_ =
+    codes "SK.CRON" ∷ ident ∷ l.name ∷ decimal slot ∷ draft_text (draft_of l (jid_of_words first second) now_) ∷ []

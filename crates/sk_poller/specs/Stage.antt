@@ -79,7 +79,8 @@ pub data Step (w : Watch) : Stage → Event → Stage → Type 0 where
       Step w from (asked (record { request = request; reply = r })) next
   skips : (now_ : ℕ) (l : Loop) (loops : List Loop) (n : PollReport) → IsLastSlot l.cron w.offset (min now_ last_moment) None →
       Step w (looking now_ l loops n) (slot None) (next_loop now_ loops n)
-  finds : (now_ : ℕ) (l : Loop) (loops : List Loop) (n : PollReport) (last : ℕ) → IsLastSlot l.cron w.offset (min now_ last_moment) (Some last) →
+  finds : (now_ : ℕ) (l : Loop) (loops : List Loop) (n : PollReport) (last : ℕ) →
+      IsLastSlot l.cron w.offset (min now_ last_moment) (Some last) →
       Step w (looking now_ l loops n) (slot (Some last)) (due now_ l last loops n)
   draws : (now_ : ℕ) (l : Loop) (last : ℕ) (loops : List Loop) (n : PollReport) (first second : ℕ) →
       Step w (due now_ l last loops n) (drew first second) (pushing now_ (cron_words w.ident l last first second now_) loops n)
@@ -105,7 +106,8 @@ PollTranscript Gave w from events (Err fault.Memory) = (stage : Stage) × Walk (
 
 -- The events are those of one periodic job, from its last slot on: to the next loop, with so many more pushed, or as far as they came.
 abbrev pub PushTranscript : (LinkFault → Type 0) → Watch → ℕ → Loop → ℕ → List Loop → PollReport → List Event → Result ℕ PollFault → Type 0
-PushTranscript Gave w now_ l last rest n events (Ok pushed) = Walk (Step w) (due now_ l last rest n) events (next_loop now_ rest (record n { pushed = n.pushed + pushed }))
+PushTranscript Gave w now_ l last rest n events (Ok pushed) =
+    Walk (Step w) (due now_ l last rest n) events (next_loop now_ rest (record n { pushed = n.pushed + pushed }))
 PushTranscript Gave w now_ l last rest n events (Err f) = PollTranscript Gave w (due now_ l last rest n) events (Err f)
 
 -- Each of the objects that a turn meets has its part in the events: the link, the clock and the dice.

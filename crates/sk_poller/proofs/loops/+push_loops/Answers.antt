@@ -1,4 +1,4 @@
-use Rattle.std.proofs.Common.{w32, ◌≡◌, ◌∙◌, ◌+◌, [], ◌∷◌, ◌++◌, drop, min, refl, sym, subst, Some, None, Err}
+use Rattle.std.proofs.Common.{◌-◌, length, rules, arith, length-take-le, length-drop, w32, ◌≡◌, ◌∙◌, ◌+◌, [], ◌∷◌, ◌++◌, drop, min, refl, sym, subst, Some, None, Err}
 use Rattle.std.proofs.lemmas.Int.{to_z-of_z}
 use Rattle.sk_base.specs.Score.{last_moment}
 use Rattle.sk_cron.specs.Slot.{IsLastSlot}
@@ -6,8 +6,9 @@ use Rattle.sk_link.proofs.Walks.{stays_on}
 use Rattle.sk_link.specs.Fault.{IsCause}
 use Rattle.sk_link.specs.declared.link.LinkFault.{LinkFault}
 use Rattle.sk_poller.specs.Event.{slot}
+use Rattle.sk_poller.specs.Loop.{is_loop}
 use Rattle.sk_poller.specs.Stage.{PollTranscript, due, looking, next_loop, skips, finds}
-use Rattle.sk_poller.proofs.Polls.{first_loop, parts_slot, parts_then, poll_after, rest_is, yields-append}
+use Rattle.sk_poller.proofs.Polls.{first_passes, rest_passes, first_loop, parts_slot, parts_then, poll_after, rest_is, yields-append}
 use Rattle.sk_poller.proofs.loops.+push_loops.Goals as goal
 
 pub returns-in_default-last_slot : goal.returns-in_default-last_slot
@@ -78,3 +79,24 @@ returns-in-Err g t c = λ w e o.
           (poll_after w (looking now l others n) (due now l last others n) (slot (Some last) ∷ []) one.0 (Err c.in-Err.fault)
           _ _ (g.L.Link.faults after) _ _ (g.L.Link.unread after) (stays_on (g.L.Link.faults before) (g.L.Link.has_ended before)) (due now l last others n, finds now l others n last some, refl) one.2),
     )
+
+pub push_slot-requires : goal.push_slot-requires
+push_slot-requires g t c = first_passes is_loop c.args.loops.now c.job-item.result c.requires.named c.in-len1-up.len_at_least c.job-item.is
+
+pub push_loops-requires-in-Ok : goal.push_loops-requires-in-Ok
+push_loops-requires-in-Ok g t c = λ κs b. (
+  search rules,
+  (
+    search rules,
+    (
+      search rules,
+      (
+        rest_passes is_loop c.args.loops.now c.requires.named,
+        (
+          search rules,
+          omega (arith, c.in-Ok.ensures.most, c.requires.room, c.in-len1-up.len_at_least, length-take-le (length c.args.loops.now - 1) (drop 1 c.args.loops.now), length-drop 1 c.args.loops.now),
+        ),
+      ),
+    ),
+  ),
+)
