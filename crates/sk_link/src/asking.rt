@@ -52,8 +52,8 @@ fn is_jid(bytes: &[u8]) -> bool
     is_name(bytes, 64)
 }
 
-// The reply is of this kind.
-fn is_answer(wanted: Answer, reply: &Reply) -> bool
+/// The reply is of this kind.
+pub fn is_answer(wanted: Answer, reply: &Reply) -> bool
     ensures { result ≡ answers wanted reply.now }
 {
     match wanted {

@@ -9,7 +9,7 @@ mod request;
 mod sending;
 mod wire_link;
 
-pub use asking::{Answer, AskFault, ask};
+pub use asking::{Answer, AskFault, ask, is_answer};
 pub use link::{Link, LinkFault};
 pub use report::Report;
 pub use request::words_of;

@@ -1,0 +1,27 @@
+-- The words of a poller's requests.
+use Rattle.std.specs.Prelude.{ℕ, List, [], ◌∷◌, codes}
+use Rattle.std.specs.Fmt.{decimal}
+use Rattle.sk_resp.specs.Spelling.{Bytes}
+use Rattle.sk_client.specs.Jid.{jid_of_words}
+use Rattle.sk_payload.specs.Draft.{draft_text}
+use Rattle.sk_poller.specs.Loop.{draft_of}
+use Rattle.sk_poller.specs.declared.poller.Loop.{Loop}
+
+-- a heartbeat
+abbrev pub beat_words : Bytes → List Bytes
+beat_words ident = codes "SK.BEAT" ∷ ident ∷ []
+
+-- at most 100 due jobs of this set
+abbrev pub due_words : Bytes → List Bytes
+due_words set = codes "SK.DUE" ∷ set ∷ codes "100" ∷ []
+
+abbrev pub rescue_words : List Bytes
+rescue_words = codes "SK.RESCUE" ∷ []
+
+abbrev pub lead_words : Bytes → List Bytes
+lead_words ident = codes "SK.LEAD" ∷ ident ∷ []
+
+-- a periodic job for a slot, with the id that two words of the dice make
+abbrev pub cron_words : Bytes → Loop → ℕ → ℕ → ℕ → ℕ → List Bytes
+cron_words ident l slot first second now_ =
+    codes "SK.CRON" ∷ ident ∷ l.name ∷ decimal slot ∷ draft_text (draft_of l (jid_of_words first second) now_) ∷ []

@@ -1,0 +1,96 @@
+// The words of a poller's requests.
+ghost use Rattle.std.specs.Prelude.{◌≡◌, ◌∷◌, [], IfOk, codes, map, true};
+ghost use Rattle.std.specs.Fmt.{decimal};
+ghost use Rattle.sk_payload.specs.Draft.{draft_text};
+ghost use Rattle.sk_poller.specs.Loop.{draft_of, is_loop};
+ghost use Rattle.sk_poller.specs.Request.{beat_words, due_words, lead_words, rescue_words};
+
+use crate::{Loop, Memory};
+use sk_link::words_of;
+use sk_payload::{Args, JobDraft, Payload, Retry};
+use sk_resp::{Text, Words};
+use std::alloc::Global;
+
+fn request(alloc: Global, parts: &[&[u8]]) -> Result<Words, Memory>
+    ensures { IfOk result (λ words. words ≡ map (λ part. part.now) parts.now) }
+{
+    Ok(Words::new(words_of(alloc, parts)?))
+}
+
+/// `SK.BEAT ident`
+pub(crate) fn beat_request(alloc: Global, ident: &Text) -> Result<Words, Memory>
+    ensures { IfOk result (λ words. words ≡ beat_words ident.now) }
+{
+    request(alloc, &[b"SK.BEAT", ident.text().as_bytes()])
+}
+
+/// `SK.DUE set 100`
+pub(crate) fn due_request(alloc: Global, set: &[u8]) -> Result<Words, Memory>
+    ensures { IfOk result (λ words. words ≡ due_words set.now) }
+{
+    request(alloc, &[b"SK.DUE", set, b"100"])
+}
+
+/// `SK.RESCUE`
+pub(crate) fn rescue_request(alloc: Global) -> Result<Words, Memory>
+    ensures { IfOk result (λ words. words ≡ rescue_words) }
+{
+    request(alloc, &[b"SK.RESCUE"])
+}
+
+/// `SK.LEAD ident`
+pub(crate) fn lead_request(alloc: Global, ident: &Text) -> Result<Words, Memory>
+    ensures { IfOk result (λ words. words ≡ lead_words ident.now) }
+{
+    request(alloc, &[b"SK.LEAD", ident.text().as_bytes()])
+}
+
+// The job of a loop, as it is pushed.
+fn job_of(alloc: Global, job: &Loop, jid: Text, now: u64) -> Result<Payload, Memory>
+    requires { is_loop job.now ≡ true }
+    ensures { IfOk result (λ payload. payload ≡ draft_text (draft_of job.now jid now)) }
+{
+    let draft = JobDraft {
+        jid,
+        class: job.class.copy()?,
+        queue: job.queue.copy()?,
+        args: Args::new(Vec::new(alloc)),
+        retry: Retry::Default,
+        retry_for: None,
+        bid: None,
+        lock: None,
+        dead: true,
+        created: now,
+    };
+    match draft.build(alloc) {
+        Ok(payload) => Ok(payload),
+        Err(_) => Err(Memory),
+    }
+}
+
+/// `SK.CRON ident loop slot payload`
+pub(crate) fn cron_request(
+    alloc: Global,
+    ident: &Text,
+    job: &Loop,
+    slot: u64,
+    jid: Text,
+    now: u64,
+) -> Result<Words, Memory>
+    requires { is_loop job.now ≡ true }
+    ensures { IfOk result (λ words.
+        words ≡ codes "SK.CRON" ∷ ident.now ∷ job.now.name ∷ decimal slot ∷ draft_text (draft_of job.now jid now) ∷ []) }
+{
+    let payload = job_of(alloc, job, jid, now)?;
+    let slot = slot.to_string(alloc)?;
+    request(
+        alloc,
+        &[
+            b"SK.CRON",
+            ident.text().as_bytes(),
+            job.name.text().as_bytes(),
+            slot.as_bytes(),
+            payload.text().bytes(),
+        ],
+    )
+}
