@@ -21,6 +21,7 @@ pub IsUtf8-answer : (wanted : Answer) (jid : Bytes) → wanted ≢ answer.Popped
 IsUtf8-answer answer.Okay jid bytes e = cc
 IsUtf8-answer answer.Number jid bytes e = cc
 IsUtf8-answer answer.List jid bytes e = cc
+IsUtf8-answer answer.Report jid bytes e = cc
 IsUtf8-answer answer.Popped jid bytes e = absurd (bytes refl)
 IsUtf8-answer answer.Unique jid bytes e =
     IsUtf8-from_is_utf8 jid (third (nat_lt 0 (length jid)) (nat_le (length jid) 64) (is_utf8 jid) (list_all is_visible jid) e)
