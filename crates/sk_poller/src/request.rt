@@ -1,13 +1,14 @@
 // The words of a poller's requests.
 ghost use Rattle.std.specs.Prelude.{◌≡◌, ◌∷◌, [], IfOk, codes, map, true};
 ghost use Rattle.std.specs.Fmt.{decimal};
+ghost use Rattle.sk_base.specs.Name.{is_name};
 ghost use Rattle.sk_payload.specs.Draft.{draft_text};
 ghost use Rattle.sk_poller.specs.Loop.{draft_of, is_loop};
 ghost use Rattle.sk_poller.specs.Request.{beat_words, due_words, lead_words, rescue_words};
 
 use crate::{Loop, Memory};
 use sk_link::words_of;
-use sk_payload::{Args, JobDraft, Payload, Retry};
+use sk_payload::{Args, DraftFault, JobDraft, Payload, Retry};
 use sk_resp::{Text, Words};
 use std::alloc::Global;
 
@@ -47,7 +48,8 @@ pub(crate) fn lead_request(alloc: Global, ident: &Text) -> Result<Words, Memory>
 
 // The job of a loop, as it is pushed.
 fn job_of(alloc: Global, job: &Loop, jid: Text, now: u64) -> Result<Payload, Memory>
-    requires { is_loop job.now ≡ true }
+    requires names { is_loop job.now ≡ true }
+    requires id { is_name 64 jid ≡ true }
     ensures { IfOk result (λ payload. payload ≡ draft_text (draft_of job.now jid now)) }
 {
     let draft = JobDraft {
@@ -64,7 +66,13 @@ fn job_of(alloc: Global, job: &Loop, jid: Text, now: u64) -> Result<Payload, Mem
     };
     match draft.build(alloc) {
         Ok(payload) => Ok(payload),
-        Err(_) => Err(Memory),
+        Err(fault) => {
+            // Its names are names, and its text is short.
+            if fault != DraftFault::Memory {
+                unreachable!();
+            }
+            Err(Memory)
+        }
     }
 }
 
@@ -77,7 +85,8 @@ pub(crate) fn cron_request(
     jid: Text,
     now: u64,
 ) -> Result<Words, Memory>
-    requires { is_loop job.now ≡ true }
+    requires names { is_loop job.now ≡ true }
+    requires id { is_name 64 jid ≡ true }
     ensures { IfOk result (λ words.
         words ≡ codes "SK.CRON" ∷ ident.now ∷ job.now.name ∷ decimal slot ∷ draft_text (draft_of job.now jid now) ∷ []) }
 {

@@ -1,5 +1,6 @@
-use Rattle.std.proofs.Common.{add-zero, ◌≡◌, ◌∙◌, ◌+◌, [], ◌∷◌, map, Err, refl, sym, subst, ap, Some, codes}
+use Rattle.std.proofs.Common.{true, add-zero, ◌≡◌, ◌∙◌, ◌+◌, [], ◌∷◌, map, Err, refl, sym, subst, ap, Some, codes}
 use Rattle.std.specs.Fmt.{decimal}
+use Rattle.sk_base.specs.Name.{is_name}
 use Rattle.sk_link.proofs.Walks.{walk-append, stays_on}
 use Rattle.sk_link.specs.Call.{Call}
 use Rattle.sk_link.specs.Fault.{IsCause}
@@ -11,6 +12,7 @@ use Rattle.sk_poller.specs.Loop.{draft_of}
 use Rattle.sk_poller.specs.Request.{cron_words}
 use Rattle.sk_poller.specs.Stage.{Stage, Step, request_of, due, pushing, next_loop, draws, push, pass}
 use Rattle.sk_poller.specs.declared.report.PollFault.TheVariants as fault
+use Rattle.sk_poller.proofs.Drafts.{jid_named}
 use Rattle.sk_poller.proofs.Polls.{answered, unsent, refused, poll_after, parts_calls, parts_drew, yields-append, no_push}
 use Rattle.sk_poller.proofs.loops.push_slot.Goals as goal
 
@@ -104,3 +106,6 @@ returns-clause-told g c = λ w rest n e.
           (refused w sending request c.in-Ok-send.reply asks_it
           (no_push w now _ rest n c.in-Ok-send.reply (sym c.is_answer.ensures ∙ c.if-is_answer.false) (sym c.is_passed.ensures ∙ c.if-is_passed.false))),
     )
+
+pub cron_request-words-requires-clause-id : goal.cron_request-words-requires-clause-id
+cron_request-words-requires-clause-id g c = subst (λ jid. is_name 64 jid ≡ true) (sym c.in-Ok.ensures.3) (jid_named c.in-Ok.ensures.0 c.in-Ok.ensures.1)
