@@ -7,10 +7,11 @@ use Rattle.sk_link.proofs.Walks.{walk-append, cause_before}
 use Rattle.sk_link.specs.Asking.{is_okay}
 use Rattle.sk_link.specs.Call.{Call}
 use Rattle.sk_link.specs.Fault.{IsCause}
+use Rattle.sk_link.specs.Report.{report_of}
 use Rattle.sk_link.specs.Walk.{GoesOn, Walk}
 use Rattle.sk_link.specs.declared.link.LinkFault.{LinkFault}
 use Rattle.sk_poller.specs.Event.{Event, asked, read, slot, drew, calls, moments, words}
-use Rattle.sk_poller.specs.Report.{IsReport, is_passed, lead_of}
+use Rattle.sk_poller.specs.Passed.{is_passed, lead_of}
 use Rattle.sk_poller.specs.Stage.{Watch, Stage, Step, Leads, asks, request_of, Refuses, PollTranscript, Parts, Sends, over, beating, scheduled, retries, rescuing, leading, pushing, looking, next_loop, beat, promote, retry, rescue, lead, follow, push, pass}
 use Rattle.sk_poller.specs.declared.poller.Loop.{Loop}
 use Rattle.sk_poller.specs.declared.report.PollFault.{PollFault}
@@ -60,14 +61,14 @@ poll_after w from mid xs ys (Err fault.Memory) before between now_ ended mid_end
 pub no_beat : (w : Watch) (now_ : ℕ) (r : Reply) → is_okay r ≡ false → (next : Stage) → Leads w (beating now_) r next → ⊥
 no_beat w now_ r never next (beat now0 r0 ok) = true≢false (sym ok ∙ never)
 
-pub no_promote : (w : Watch) (now_ : ℕ) (n : PollReport) (r : Reply) → ((moved buried : ℕ) → IsReport r moved buried → ⊥) → (next : Stage) → Leads w (scheduled now_ n) r next → ⊥
-no_promote w now_ n r never next (promote now0 n0 r0 moved buried is) = never moved buried is
+pub no_promote : (w : Watch) (now_ : ℕ) (n : PollReport) (r : Reply) → report_of r ≡ None → (next : Stage) → Leads w (scheduled now_ n) r next → ⊥
+no_promote w now_ n r never next (promote now0 n0 r0 report is) = let bad : Some report ≡ None = sym is ∙ never in cc
 
-pub no_retry : (w : Watch) (now_ : ℕ) (n : PollReport) (r : Reply) → ((moved buried : ℕ) → IsReport r moved buried → ⊥) → (next : Stage) → Leads w (retries now_ n) r next → ⊥
-no_retry w now_ n r never next (retry now0 n0 r0 moved buried is) = never moved buried is
+pub no_retry : (w : Watch) (now_ : ℕ) (n : PollReport) (r : Reply) → report_of r ≡ None → (next : Stage) → Leads w (retries now_ n) r next → ⊥
+no_retry w now_ n r never next (retry now0 n0 r0 report is) = let bad : Some report ≡ None = sym is ∙ never in cc
 
-pub no_rescue : (w : Watch) (now_ : ℕ) (n : PollReport) (r : Reply) → ((moved buried : ℕ) → IsReport r moved buried → ⊥) → (next : Stage) → Leads w (rescuing now_ n) r next → ⊥
-no_rescue w now_ n r never next (rescue now0 n0 r0 moved buried is) = never moved buried is
+pub no_rescue : (w : Watch) (now_ : ℕ) (n : PollReport) (r : Reply) → report_of r ≡ None → (next : Stage) → Leads w (rescuing now_ n) r next → ⊥
+no_rescue w now_ n r never next (rescue now0 n0 r0 report is) = let bad : Some report ≡ None = sym is ∙ never in cc
 
 pub no_lead : (w : Watch) (now_ : ℕ) (n : PollReport) (r : Reply) → lead_of r ≡ None → (next : Stage) → Leads w (leading now_ n) r next → ⊥
 no_lead w now_ n r never next (lead now0 n0 r0 is) = let bad : Some true ≡ None = sym is ∙ never in cc

@@ -1,5 +1,5 @@
 pub mod Loop
 pub mod Request
-pub mod Report
+pub mod Passed
 pub mod Event
 pub mod Stage

@@ -5,11 +5,13 @@ use Rattle.sk_resp.specs.Spelling.{Bytes}
 use Rattle.sk_resp.specs.declared.reply.Reply.{Reply}
 use Rattle.sk_link.specs.Asking.{is_okay}
 use Rattle.sk_link.specs.Call.{Call}
+use Rattle.sk_link.specs.Report.{report_of}
 use Rattle.sk_link.specs.Walk.{Walk}
 use Rattle.sk_link.specs.declared.link.LinkFault.{LinkFault}
+use Rattle.sk_link.specs.declared.report.Report.{Report}
 use Rattle.sk_cron.specs.Slot.{IsLastSlot}
 use Rattle.sk_poller.specs.Event.{Event, asked, calls, drew, moments, read, slot, words}
-use Rattle.sk_poller.specs.Report.{IsReport, is_passed, lead_of}
+use Rattle.sk_poller.specs.Passed.{is_passed, lead_of}
 use Rattle.sk_poller.specs.Request.{beat_words, cron_words, due_words, lead_words, rescue_words}
 use Rattle.sk_poller.specs.declared.poller.Loop.{Loop}
 use Rattle.sk_poller.specs.declared.report.PollFault.{PollFault}
@@ -60,12 +62,12 @@ request_of w stage = None
 
 pub data Leads (w : Watch) : Stage → Reply → Stage → Type 0 where
   beat : (now_ : ℕ) (r : Reply) → is_okay r ≡ true → Leads w (beating now_) r (scheduled now_ nothing)
-  promote : (now_ : ℕ) (n : PollReport) (r : Reply) (moved buried : ℕ) → IsReport r moved buried →
-      Leads w (scheduled now_ n) r (retries now_ (record n { promoted = n.promoted + moved; buried = n.buried + buried }))
-  retry : (now_ : ℕ) (n : PollReport) (r : Reply) (moved buried : ℕ) → IsReport r moved buried →
-      Leads w (retries now_ n) r (rescuing now_ (record n { promoted = n.promoted + moved; buried = n.buried + buried }))
-  rescue : (now_ : ℕ) (n : PollReport) (r : Reply) (moved buried : ℕ) → IsReport r moved buried →
-      Leads w (rescuing now_ n) r (leading now_ (record n { rescued = n.rescued + moved; buried = n.buried + buried }))
+  promote : (now_ : ℕ) (n : PollReport) (r : Reply) (report : Report) → report_of r ≡ Some report →
+      Leads w (scheduled now_ n) r (retries now_ (record n { promoted = n.promoted + report.moved; buried = n.buried + report.buried }))
+  retry : (now_ : ℕ) (n : PollReport) (r : Reply) (report : Report) → report_of r ≡ Some report →
+      Leads w (retries now_ n) r (rescuing now_ (record n { promoted = n.promoted + report.moved; buried = n.buried + report.buried }))
+  rescue : (now_ : ℕ) (n : PollReport) (r : Reply) (report : Report) → report_of r ≡ Some report →
+      Leads w (rescuing now_ n) r (leading now_ (record n { rescued = n.rescued + report.moved; buried = n.buried + report.buried }))
   lead : (now_ : ℕ) (n : PollReport) (r : Reply) → lead_of r ≡ Some true → Leads w (leading now_ n) r (next_loop now_ w.loops n)
   follow : (now_ : ℕ) (n : PollReport) (r : Reply) → lead_of r ≡ Some false → Leads w (leading now_ n) r (over n)
   push : (now_ : ℕ) (request : List Bytes) (loops : List Loop) (n : PollReport) (r : Reply) → is_okay r ≡ true →

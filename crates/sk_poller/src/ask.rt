@@ -6,16 +6,13 @@ ghost use Rattle.sk_resp.specs.Spelling.{Bytes};
 ghost use Rattle.sk_resp.specs.declared.reply.Reply.TheVariants as reply_;
 ghost use Rattle.sk_link.specs.Fault.{IsCause};
 ghost use Rattle.sk_link.specs.Walk.{GoesOn};
-ghost use Rattle.sk_poller.specs.Report.{IsList, IsReport, is_passed as passed, lead_of as lead_in};
+ghost use Rattle.sk_poller.specs.Passed.{is_passed as passed, lead_of as lead_in};
 ghost use Rattle.sk_poller.specs.Stage.{Sends};
 
 use crate::{Memory, PollFault};
 use sk_link::Link;
 use sk_resp::{Refusal, Reply, Say, Words};
 use std::alloc::Global;
-
-/// The greatest number in a report.
-const MOST: i64 = 4_611_686_018_427_387_904;
 
 /// Sends the request, where there was memory for its words, and answers the reply, whatever it is.
 pub(crate) fn send<L: Link>(
@@ -35,61 +32,6 @@ pub(crate) fn send<L: Link>(
         Ok(reply) => Ok(reply),
         Err(fault) => Err(PollFault::Link(fault)),
     }
-}
-
-// The number, where a report may hold it.
-fn in_range(n: &i64) -> Option<u64>
-    ensures { MatchOption result ((k : ℕ) → k ≤ 2 ^ 62 → wire (reply_.Int n.now) ≡ wire (reply_.Int (pos k)) → ⊥)
-        (λ k. (n.now ≡ pos k) × (k ≤ 2 ^ 62)) }
-{
-    let n = *n;
-    if n < 0 {
-        return None;
-    }
-    if n > MOST {
-        return None;
-    }
-    Some(n as u64)
-}
-
-// A number of a report.
-fn count_of(reply: &Reply) -> Option<u64>
-    ensures { MatchOption result ((k : ℕ) → k ≤ 2 ^ 62 → wire reply.now ≡ wire (reply_.Int (pos k)) → ⊥)
-        (λ k. (reply.now ≡ reply_.Int (pos k)) × (k ≤ 2 ^ 62)) }
-{
-    let Reply::Int(n) = reply else {
-        return None;
-    };
-    in_range(n)
-}
-
-// It is an array.
-fn is_list(reply: &Reply) -> bool
-    ensures { MatchBool result (IsList (wire reply.now)) (IsList (wire reply.now) → ⊥) }
-{
-    matches!(reply, Reply::Array(_) | Reply::NullArray)
-}
-
-/// The two numbers of a report, or none where the reply is no report.
-pub(crate) fn report_of(reply: &Reply) -> Option<(u64, u64)>
-    ensures { MatchOption result ((moved buried : ℕ) → IsReport reply.now moved buried → ⊥) (λ p. IsReport reply.now p.0 p.1) }
-{
-    let Reply::Array(replies) = reply else {
-        return None;
-    };
-    let [first, second, fired, trimmed] = replies.list() else {
-        return None;
-    };
-    if !is_list(fired) || !is_list(trimmed) {
-        return None;
-    }
-    let Some(moved) = count_of(first) else {
-        return None;
-    };
-    let Some(buried) = count_of(second) else {
-        return None;
-    };
-    Some((moved, buried))
 }
 
 /// The reply to SK.CRON is no fault.

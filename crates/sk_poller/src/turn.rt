@@ -8,12 +8,12 @@ ghost use Rattle.sk_poller.specs.Event.{Event};
 ghost use Rattle.sk_poller.specs.Loop.{is_loop};
 ghost use Rattle.sk_poller.specs.Stage.{Parts, PollTranscript, Watch, beating, leading, nothing, rescuing, resting, retries as retry_stage, scheduled as schedule_stage};
 
-use crate::ask::{lead_of, report_of, send};
+use crate::ask::{lead_of, send};
 use crate::loops::push_loops;
 use crate::request::{beat_request, due_request, lead_request, rescue_request};
 use crate::{Loop, PollFault, PollReport};
 use sk_base::{Clock, Dice};
-use sk_link::{Answer, Link, is_answer};
+use sk_link::{Answer, Link, Report, is_answer};
 use sk_resp::Text;
 use std::alloc::Global;
 
@@ -76,12 +76,12 @@ fn rescue<L: Link, D: Dice>(
         Ok(reply) => reply,
         Err(fault) => return Err(fault),
     };
-    let Some((moved, buried)) = report_of(&reply) else {
+    let Some(report) = Report::read(&reply) else {
         return Err(PollFault::Refused(reply));
     };
     let n = PollReport {
-        rescued: n.rescued + moved,
-        buried: n.buried + buried,
+        rescued: n.rescued + report.moved,
+        buried: n.buried + report.buried,
         ..n
     };
     lead(alloc, link, dice, ident, loops, offset, now, n)
@@ -113,12 +113,12 @@ fn retries<L: Link, D: Dice>(
         Ok(reply) => reply,
         Err(fault) => return Err(fault),
     };
-    let Some((moved, buried)) = report_of(&reply) else {
+    let Some(report) = Report::read(&reply) else {
         return Err(PollFault::Refused(reply));
     };
     let n = PollReport {
-        promoted: n.promoted + moved,
-        buried: n.buried + buried,
+        promoted: n.promoted + report.moved,
+        buried: n.buried + report.buried,
         ..n
     };
     rescue(alloc, link, dice, ident, loops, offset, now, n)
@@ -148,12 +148,12 @@ fn scheduled<L: Link, D: Dice>(
         Ok(reply) => reply,
         Err(fault) => return Err(fault),
     };
-    let Some((moved, buried)) = report_of(&reply) else {
+    let Some(report) = Report::read(&reply) else {
         return Err(PollFault::Refused(reply));
     };
     let n = PollReport {
-        promoted: n.promoted + moved,
-        buried: n.buried + buried,
+        promoted: n.promoted + report.moved,
+        buried: n.buried + report.buried,
         ..n
     };
     retries(alloc, link, dice, ident, loops, offset, now, n)

@@ -23,7 +23,7 @@ returns-in_default g c = λ w e ls o.
     let request = rescue_words in
     let call : Call = record { request = request; reply = c.in-Ok.reply } in
     let s = c.in-Ok.ensures.sends request c.rescue_request-words.ensures in
-    (asked call ∷ [], parts_calls (call ∷ []) s refl, refused w (rescuing c.args.now c.args.n) request c.in-Ok.reply refl (no_rescue w c.args.now c.args.n c.in-Ok.reply c.in_default.ensures))
+    (asked call ∷ [], parts_calls (call ∷ []) s refl, refused w (rescuing c.args.now c.args.n) request c.in-Ok.reply refl (no_rescue w c.args.now c.args.n c.in-Ok.reply (sym c.in_default.ensures)))
 
 pub returns : goal.returns
 returns g c = λ w e ls o.
@@ -33,7 +33,7 @@ returns g c = λ w e ls o.
     let t = c.lead.ensures w e ls (o ∙ sym (to_z-of_z w32 c.args.offset c.ranges.offset)) in (
       asked call ∷ t.0,
       parts_call call t.0 (λ cs more. g.met.L.Link.carried_more _ _ _ (call ∷ []) cs s more) t.1,
-      poll_after w (rescuing c.args.now c.args.n) (leading c.args.now (record c.args.n { rescued = c.args.n.rescued + c.in-Some.moved; buried = c.args.n.buried + c.in-Some.buried })) (asked call ∷ []) t.0 c.lead.result
+      poll_after w (rescuing c.args.now c.args.n) (leading c.args.now (record c.args.n { rescued = c.args.n.rescued + c.in-Some.report.moved; buried = c.args.n.buried + c.in-Some.report.buried })) (asked call ∷ []) t.0 c.lead.result
           _ _ (g.L.Link.faults c.lead.new.link) _ _ (g.L.Link.unread c.lead.new.link) c.in-Ok.ensures.on
-          (answered w (rescuing c.args.now c.args.n) request c.in-Ok.reply (leading c.args.now (record c.args.n { rescued = c.args.n.rescued + c.in-Some.moved; buried = c.args.n.buried + c.in-Some.buried })) refl (rescue c.args.now c.args.n c.in-Ok.reply c.in-Some.moved c.in-Some.buried c.in-Some.ensures)) t.2,
+          (answered w (rescuing c.args.now c.args.n) request c.in-Ok.reply (leading c.args.now (record c.args.n { rescued = c.args.n.rescued + c.in-Some.report.moved; buried = c.args.n.buried + c.in-Some.report.buried })) refl (rescue c.args.now c.args.n c.in-Ok.reply c.in-Some.report (sym c.in-Some.ensures))) t.2,
     )
