@@ -34,8 +34,7 @@ fn greeting(alloc: Global, number: u32) -> Result<Vec<Words>, Memory> {
 fn cycle(alloc: Global, number: u32) -> Result<Vec<Words>, Memory> {
     let queue = format!(in alloc; "queue:q{number}")?;
     let own = format!(in alloc; "sq:w{number}")?;
-    let job = format!(
-        in alloc;
+    let job = format!(in alloc;
         "{{\"jid\":\"{number:024}\",\"class\":\"Note\",\"queue\":\"q{number}\",\"args\":[1]}}"
     )?;
     let (queue, own, job) = (queue.as_str(), own.as_str(), job.as_str());

@@ -38,7 +38,12 @@ fn all<R: Threads + Wait + Sync, L: Ledger + Send + Sync>(
 ) {
     let threads = passes.len();
     if threads > 0 {
-        thread::for_each_mut(rt, passes, threads, &|_, pass| work(rt, alloc, hub, pass, count));
+        thread::for_each_mut(
+            rt,
+            passes,
+            threads,
+            &|_, pass| work(rt, alloc, hub, pass, count),
+        );
     }
 }
 

@@ -17,6 +17,6 @@ names = refl
 pub one_loop : (l : Loop) → l.name ≡ codes "tick" → l.class ≡ codes "Note" → l.queue ≡ codes "default" → list_all is_loop (l ∷ []) ≡ true
 unfolding is_loop
 one_loop l name class queue =
-  let with_queue = subst (AreNames (codes "tick") (codes "Note")) (sym queue) names in
-  let with_class = subst (λ c. AreNames (codes "tick") c l.queue) (sym class) with_queue in
-  subst (λ n. AreNames n l.class l.queue) (sym name) with_class
+    let with_queue = subst (AreNames (codes "tick") (codes "Note")) (sym queue) names in
+    let with_class = subst (λ c. AreNames (codes "tick") c l.queue) (sym class) with_queue in
+    subst (λ n. AreNames n l.class l.queue) (sym name) with_class

@@ -11,7 +11,8 @@ use std::alloc::Global;
 use std::test::Fail;
 
 // The queue's one job.
-const PUSHED: &str = "*1\r\n$117\r\n{\"args\":[],\"class\":\"Note\",\"created_at\":1700000000000,\"jid\":\"000000000000000100000000\",\"queue\":\"default\",\"retry\":true}\r\n";
+const PUSHED: &str =
+    "*1\r\n$117\r\n{\"args\":[],\"class\":\"Note\",\"created_at\":1700000000000,\"jid\":\"000000000000000100000000\",\"queue\":\"default\",\"retry\":true}\r\n";
 
 fn text(alloc: Global, text: &str) -> Result<Text, Memory>
     ensures { IfOk result (λ copy. copy ≡ text.now) }
@@ -55,9 +56,20 @@ fn a_periodic_job_is_pushed_once_a_slot(rt: HostRuntime) -> Result<(), Fail> {
     let poller = poller(alloc, cron)?;
     let mut link = link(alloc, &[])?;
     let first = turn(alloc, &poller, &mut link)?;
-    assert_eq!(rt; (first.promoted, first.rescued, first.buried, first.pushed), (0, 0, 0, 1));
+    assert_eq!(rt;
+        (first.promoted, first.rescued, first.buried, first.pushed),
+        (0, 0, 0, 1)
+    );
     let second = turn(alloc, &poller, &mut link)?;
-    assert_eq!(rt; (second.promoted, second.rescued, second.buried, second.pushed), (0, 0, 0, 0));
+    assert_eq!(rt;
+        (
+            second.promoted,
+            second.rescued,
+            second.buried,
+            second.pushed
+        ),
+        (0, 0, 0, 0)
+    );
     let jobs = words(alloc, &["LRANGE", "queue:default", "0", "-1"])?;
     let reply = link.call(alloc, &jobs).ok().ok_or("it was answered")?;
     let mut wire = Vec::new(alloc);
