@@ -10,6 +10,8 @@ mod pipe;
 #[cfg(test)]
 mod policy;
 #[cfg(test)]
+mod poller;
+#[cfg(test)]
 mod replies;
 #[cfg(test)]
 mod requests;

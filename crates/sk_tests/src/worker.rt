@@ -13,12 +13,12 @@ use sk_worker::{AddFault, Job, Memory, Outcome, Raised, Registry, Turn, WorkFaul
 use std::alloc::Global;
 use std::test::Fail;
 
-const NOW: u64 = 1_700_000_000_000;
+pub const NOW: u64 = 1_700_000_000_000;
 
 /// A link to a store in memory that fails after so many calls.
 #[derive(Drop)]
-struct CoreLink {
-    core: Core,
+pub struct CoreLink {
+    pub core: Core,
     left: u64,
     faults: u64,
     ended: bool,
@@ -96,7 +96,7 @@ fn text(alloc: Global, s: &str) -> Result<Text, Memory> {
     Ok(Text::new(String::from_str(alloc, s)?))
 }
 
-fn words(alloc: Global, parts: &[&str]) -> Result<Words, Memory> {
+pub fn words(alloc: Global, parts: &[&str]) -> Result<Words, Memory> {
     let mut words = Vec::new(alloc);
     for part in parts {
         words.push(Word::new(part.as_bytes().to_vec(alloc)?))?;
@@ -109,7 +109,7 @@ fn job(alloc: Global, class: &str, jid: u32) -> Result<String, Memory> {
 }
 
 // A store with these jobs in `queue:default`, the first at the right end, and a heartbeat of the process `w`.
-fn link(alloc: Global, jobs: &[String]) -> Result<CoreLink, Fail> {
+pub fn link(alloc: Global, jobs: &[String]) -> Result<CoreLink, Fail> {
     let limits = Limits {
         rows: 100,
         bytes: 100_000,

@@ -12,5 +12,5 @@ IsFor queue draft = draft.queue ≡ queue
 pub one_queue : (drafts : List JobDraft) → All (IsFor (codes "default")) drafts → NameOneQueue drafts
 one_queue [] all = All-nil (IsFor [])
 one_queue (d ∷ ds) all =
-  let head = All-head (IsFor (codes "default")) d ds all in
-  All-weaker (IsFor (codes "default")) (IsFor d.queue) (λ draft e. e ∙ sym head) (d ∷ ds) all
+    let head = All-head (IsFor (codes "default")) d ds all in
+    All-weaker (IsFor (codes "default")) (IsFor d.queue) (λ draft e. e ∙ sym head) (d ∷ ds) all
