@@ -1,7 +1,7 @@
 -- The periodic job of the poller's test has names that are names.
 use Rattle.std.proofs.Common.{◌≡◌, refl, sym, subst, Bool, true, ◌&&◌, List, [], ◌∷◌, codes}
 use Rattle.std.specs.List.{list_all}
-use Rattle.std.specs.Str.{is_utf8}
+use Rattle.std.specs.Str.{is_utf8, chars}
 use Rattle.sk_base.specs.Name.{is_name}
 use Rattle.sk_resp.specs.Spelling.{Bytes}
 use Rattle.sk_poller.specs.Loop.{is_loop}
@@ -11,7 +11,7 @@ abbrev AreNames : Bytes → Bytes → Bytes → Type 0
 AreNames name class queue = ((is_name 255 name && is_name 255 class && is_name 255 queue) && true) ≡ true
 
 names : AreNames (codes "tick") (codes "Note") (codes "default")
-unfolding is_utf8
+unfolding is_utf8 chars lib.Utf8.encode
 names = refl
 
 pub one_loop : (l : Loop) → l.name ≡ codes "tick" → l.class ≡ codes "Note" → l.queue ≡ codes "default" → list_all is_loop (l ∷ []) ≡ true
