@@ -17,6 +17,7 @@ pub trait Seat {
 }
 
 /// Seat 1 of a store of its own.
+#[derive(Drop)]
 pub struct Alone(pub Core);
 
 impl Seat for Alone {
@@ -26,6 +27,7 @@ impl Seat for Alone {
 }
 
 /// A seat of a store that threads share.
+#[derive(Drop)]
 pub struct Shared<'a, R: Wait + Sync, L: Ledger, B: Book>(pub LockedDesk<'a, R, L, B>);
 
 impl<'a, R: Wait + Sync, L: Ledger, B: Book> Seat for Shared<'a, R, L, B> {
