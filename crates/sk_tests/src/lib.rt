@@ -2,15 +2,11 @@
 #![tactic(auto)]
 
 #[cfg(test)]
-mod desk;
-#[cfg(test)]
 mod payloads;
 #[cfg(test)]
 mod pipe;
 #[cfg(test)]
 mod policy;
-#[cfg(test)]
-mod poller;
 #[cfg(test)]
 mod replies;
 #[cfg(test)]
@@ -19,7 +15,5 @@ mod requests;
 mod streams;
 #[cfg(test)]
 mod undo;
-#[cfg(test)]
-mod worker;
 #[cfg(test)]
 mod zset;
