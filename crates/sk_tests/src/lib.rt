@@ -6,8 +6,6 @@ mod payloads;
 #[cfg(test)]
 mod pipe;
 #[cfg(test)]
-mod policy;
-#[cfg(test)]
 mod replies;
 #[cfg(test)]
 mod requests;
