@@ -7,11 +7,12 @@
 
 The checks, in order:
 - map         docs/CODE.md names every file of each crate's src/ and specs/, and no other.
-- statement   The list in docs/PROVED.md of the files that the headline's meaning needs, with their lines, is what is counted.
-- edits       So is its table of must-fail edits.
+- volumes     What docs/PROVED.md says of how much there is to read, volume by volume and law by law, is what .ci/statement.py counts.
+- reading     So is its list of what to read to know that no job is lost.
+- edits       So is its list of must-fail edits.
 - contracts   Each row `definition` | `file` of a document's table names a file that has the word.
 - links       Each relative link of a document leads somewhere.
-- toolchain   docs/PROVED.md names the toolchain by what `rt version` prints, where there is one.
+- toolchain   docs/PROVED.md names the sum of the logic that `rt version` prints, where there is one: kits of other names share it.
 - citations   No file of the repository cites a numbered paper.
 - lines       No line of a document is longer than 150 characters.
 - clauses     How many clauses in src/ are longer than 150 characters. (It is told, and fails nothing.)
@@ -21,15 +22,14 @@ import subprocess
 import sys
 from pathlib import Path
 
+sys.dont_write_bytecode = True
+import statement                                # (beside this file)
+
 TOP = Path(__file__).resolve().parent.parent
 CRATES = TOP / 'crates'
 LONGEST = 150
 DOCUMENTS = [TOP / 'README.md', *sorted((TOP / 'docs').glob('*.md'))]
 PROVED, CODE = TOP / 'docs' / 'PROVED.md', TOP / 'docs' / 'CODE.md'
-
-# The top call, whose contract is the headline.
-HEADLINE = CRATES / 'sk_pipe' / 'src' / 'command_line.rt'
-
 
 def text_of(path):
     return path.read_text(encoding='utf-8') if path.is_file() else ''
@@ -103,51 +103,43 @@ def check_map():
 BLOCK = r'(?s)(<!-- counted: %s -->\n)(.*?)(<!-- end -->)'
 
 
-def imports(text):
-    """What the use lines of a file name: (crate, module of specs/), and (crate, path of a file of src/, name of a type)."""
-    specs, types = set(), set()
-    for crate, path in re.findall(r'\buse Rattle\.(\w+)\.specs\.([\w.]+)', text):
-        words = path.rstrip('.').split('.')
-        if words[0] != 'declared':
-            specs.add((crate, words[0]))
-        else:
-            at = next((i for i, it in enumerate(words) if it[0].isupper()), None)
-            if at:
-                types.add((crate, '/'.join(words[1:at]), words[at]))
-    return specs, types
+def number(lines):
+    return format(lines, ',')
 
 
-def statement():
-    """The specs that the contract of the top call names, and those that these name, with the types: two sets of paths and names."""
-    specs, types, left = set(), set(), [HEADLINE]
-    while left:
-        more, declared = imports(text_of(left.pop()))
-        types |= {it for it in declared if (CRATES / it[0]).is_dir()}
-        for crate, module in more:
-            path = CRATES / crate / 'specs' / (module + '.antt')
-            if path.is_file() and path not in specs:
-                specs.add(path)
-                left.append(path)
-    return specs, types
+def counted_volumes():
+    """The statement in volumes, and each law with its own number of lines."""
+    volumes = statement.volumes()
+    lines = [statement.lines_of(it) for _, it in volumes]
+    rows = ['%d definitions with %s lines, some %d pages of 60 lines:'
+            % (sum(len(it) for _, it in volumes), number(sum(lines)), -(-sum(lines) // 60)), '',
+            '| Volume | What | Definitions | Lines |', '|---|---|---|---|']
+    rows += ['| %s | %s | %d | %s |' % ('I' * at, title, len(found), number(count))
+             for at, ((title, found), count) in enumerate(zip(volumes, lines), 1)]
+    laws = list(statement.laws())
+    shared = set.intersection(*(found for _, _, found in laws))
+    rows += ['', 'Of the first volume all laws need the world and its changes, %s lines; and each law its own:' % number(statement.lines_of(shared)), '',
+             '| Law | Begins at | Lines of its own |', '|---|---|---|']
+    rows += ['| `%s` | `%s` in `%s/specs/%s.antt` | %s |' % (law, word, crate, name, number(statement.lines_of(found - shared)))
+             for law, (crate, name, word), found in laws]
+    return '\n'.join([*rows, '']), '%s lines in volumes' % number(sum(lines))
 
 
-def lines_of(path):
-    """How many lines of a spec define something: no blank ones, and none that import."""
-    text = re.sub(r'(?m)^(?:pub )?use [^\n{]*(?:\{[^}]*\})?[^\n]*\n', '', text_of(path))
-    return sum(1 for it in text.splitlines() if it.strip())
+# What a reader of the law of live jobs begins with, in this order; the rest is what these name.
+FIRST = ['Laws', 'Life', 'Live', 'Event', 'Change', 'World']
 
 
-def counted_statement():
-    specs, types = statement()
-    rows = []
-    for crate in crate_names():
-        files = sorted(it for it in specs if it.parts[-3] == crate)
-        if files:
-            rows.append('| `%s` | %s | %d |' % (crate, ', '.join(it.stem for it in files), sum(map(lines_of, files))))
-    total = sum(map(lines_of, specs))
-    head = ['%d files with %s lines (imports and blank lines left out), some %d pages of 60 lines, and %d types of `src/`:'
-            % (len(specs), format(total, ','), -(-total // 60), len(types)), '', '| Crate | Files of `specs/` | Lines |', '|---|---|---|']
-    return '\n'.join([*head, *rows, '']), '%d files, %s lines' % (len(specs), format(total, ','))
+def counted_reading():
+    """What to read to know that no job is lost: the files that define what the law needs, with their definitions."""
+    found = next(it for law, _, it in statement.laws() if law == 'live_jobs_stand')
+    files = statement.by_file(found)
+    order = sorted(files, key=lambda it: (FIRST.index(it[1]) if it[0] == 'sk_model' and it[1] in FIRST else len(FIRST), crate_names().index(it[0]), it[1]))
+    rows = ['| File | Definitions | Lines |', '|---|---|---|']
+    for crate, name in order:
+        words = sorted(word for c, n, word in found if (c, n) == (crate, name))
+        told = ', '.join('`%s`' % it for it in words[:4]) + (', ..' if len(words) > 4 else '')
+        rows.append('| `%s/specs/%s.antt` | %s | %d |' % (crate, name, told, files[crate, name]))
+    return '\n'.join([*rows, '']), '%s lines for the law of live jobs' % number(statement.lines_of(found))
 
 
 def edits_of(crate):
@@ -165,7 +157,7 @@ def counted_edits():
     return '\n'.join([*lines, line, '']), '%d edits' % sum(counts.values())
 
 
-COUNTED = {'statement': counted_statement, 'edits': counted_edits}
+COUNTED = {'volumes': counted_volumes, 'reading': counted_reading, 'edits': counted_edits}
 
 
 def wrapped(text):
@@ -242,7 +234,10 @@ def check_toolchain():
         version = subprocess.run(['rt', 'version'], capture_output=True, text=True, check=True).stdout.strip()
     except (OSError, subprocess.CalledProcessError):
         return [], 'no rt here'
-    return ['docs/PROVED.md names another toolchain than %s' % version] * (version not in text_of(PROVED)), version
+    logic = re.search(r'\blogic \w+', version)
+    if not logic:
+        return ['rt version names no logic: %s' % version], version
+    return ['docs/PROVED.md names another logic than that of %s' % version] * (logic[0] not in text_of(PROVED)), version
 
 
 CITATION = re.compile(r'\b(?:D\d{1,2}|T\d\.\d|[RSW]\d{1,2})\b|\bdocument 0\d\b', re.ASCII)
@@ -292,7 +287,8 @@ def check_clauses():
 
 CHECKS = {
     'map': check_map,
-    'statement': lambda: check_counted('statement'),
+    'volumes': lambda: check_counted('volumes'),
+    'reading': lambda: check_counted('reading'),
     'edits': lambda: check_counted('edits'),
     'contracts': check_contracts,
     'links': check_links,

@@ -3,6 +3,8 @@
 # which comes only after 2^40 bytes.
 #
 #     statuses.sh PROGRAM
+#
+# Those of a connection want python3, which plays the servers: one that isn't there, one that ends, one that answers an error.
 
 program=$1
 failed=0
@@ -32,6 +34,37 @@ expect 'a read that fails' 3 $?
 if [ -w /dev/full ]; then
     printf 'PING\r\n' | "$program" pipe >/dev/full
     expect 'a write that fails' 4 $?
+fi
+"$program" serve --port 0 </dev/null 2>/dev/null
+expect 'a port of 0' 2 $?
+"$program" serve --loops 65 </dev/null 2>/dev/null
+expect 'more loops than there may be' 2 $?
+"$program" push Note '{}' </dev/null 2>/dev/null
+expect 'arguments that are no array' 2 $?
+if command -v python3 >/dev/null; then
+    # A server for one connection, which answers this to whatever comes; its port is printed first.
+    peer() {
+        python3 -c '
+import socket, sys
+it = socket.socket(); it.bind(("127.0.0.1", 0)); it.listen(1); print(it.getsockname()[1], flush=True)
+conn, _ = it.accept(); conn.recv(65536); conn.sendall(sys.argv[1].encode()); conn.close()' "$1"
+    }
+    free=$(python3 -c 'import socket; it = socket.socket(); it.bind(("127.0.0.1", 0)); print(it.getsockname()[1])')
+    "$program" status --port "$free" >/dev/null 2>&1
+    expect 'no server' 6 $?
+    try() {
+        room=$(mktemp -d)
+        peer "$3" >"$room/port" &
+        until [ -s "$room/port" ]; do sleep 0.05; done
+        said=$("$program" push Note '[1]' --port "$(cat "$room/port")" 2>/dev/null)
+        expect "$1" "$2" $?
+        [ "$said" = "$4" ] || { echo "statuses: $1: '$said' in place of '$4'"; failed=1; }
+        wait
+        rm -rf "$room"
+    }
+    try 'a server that ends' 6 '' 'unreadable '
+    try 'a server that speaks otherwise' 6 '?' 'unreadable 3f'
+    try 'a store that is full' 7 "-SK full$(printf '\r\n_')" 'SK full'
 fi
 [ "$failed" -eq 0 ] && echo 'statuses: each as it should be'
 exit "$failed"

@@ -6,6 +6,7 @@ use Rattle.std.specs.Str.{all_ascii_digits}
 use Rattle.std.specs.Str.Parse.{digits_value}
 use Rattle.sk_base.specs.declared.score.ScoreFault.{ScoreFault}
 use Rattle.sk_base.specs.declared.score.ScoreFault.TheVariants.{NotDecimal, Range}
+use Rattle.sk_base.specs.declared.limits.TheConstants.{GREATEST_SCORE, LAST_MOMENT}
 
 -- ## Reading
 
@@ -34,7 +35,7 @@ millionths whole decimals = digits_value 10 whole * 10 ^ 6 + digits_value 10 (si
 
 -- the greatest magnitude: 9,223,372,036,854,775,807 millionths
 abbrev pub greatest : ℕ
-greatest = 2 ^ 63 - 1
+greatest = GREATEST_SCORE
 
 -- how many millionths a text without a sign is
 abbrev pub IsMagnitude : List ℕ → Result ℕ ScoreFault → Type 0
@@ -80,4 +81,4 @@ score_text z = cond (int_lt z (pos 0)) (45 ∷ []) [] ++ magnitude_text (unsigne
 
 -- the last moment that a score can be of: the last millisecond of the year 9998
 abbrev pub last_moment : ℕ
-last_moment = 253370764799999
+last_moment = LAST_MOMENT

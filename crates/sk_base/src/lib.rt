@@ -1,5 +1,5 @@
 //! The outside as the rest of the system sees it: where bytes come from and where they go, each with a count of its faults; what tells the time, and
-//! where chance comes from; and what a name and a score are.
+//! where chance comes from; and what a name and a score are. All limits and defaults of the system stand in `limits`.
 #![tactic(auto)]
 
 mod bound;
@@ -8,6 +8,7 @@ mod conn;
 mod dice;
 mod failed;
 mod feed;
+pub mod limits;
 mod mem_conn;
 mod name;
 mod score;

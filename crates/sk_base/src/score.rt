@@ -5,13 +5,11 @@ ghost use Rattle.std.specs.Fmt.{decimal};
 ghost use Rattle.sk_base.specs.Score.{IsDecimal, IsDigits, IsMagnitude, IsScore, fraction, greatest, last_moment, score_text, six, six_digits, without_zeros};
 ghost use Rattle.sk_base.specs.Digits.{IsFrontDigits};
 
+use crate::limits::{GREATEST_SCORE, LAST_MOMENT};
 use std::alloc::{AllocError as Memory, Global};
 use std::marker::Model;
 
 const MILLION: u64 = 1_000_000;
-
-// The greatest magnitude, in millionths.
-const GREATEST: u64 = 9_223_372_036_854_775_807;
 
 /// A score in millionths, from -9,223,372,036,854,775,807 to 9,223,372,036,854,775,807. Contracts see the number.
 #[derive(Clone, Copy, Debug, PartialEq, Eq)]
@@ -94,7 +92,7 @@ fn number(n: u64, digits: &[u8]) -> Option<u64>
     let mut n = n;
     for digit in digits {
         let digit = (*digit - b'0') as u64;
-        if n > (GREATEST - digit) / 10 {
+        if n > (GREATEST_SCORE - digit) / 10 {
             return None;
         }
         n = 10 * n + digit;
@@ -189,7 +187,7 @@ impl Score {
     pub fn of_moment(now: u64) -> Score
         ensures { result ≡ pos (min now last_moment * 1000) }
     {
-        Score(now.min(253_370_764_799_999) as i64 * 1000)
+        Score(now.min(LAST_MOMENT) as i64 * 1000)
     }
 
     /// The score of so many millionths.

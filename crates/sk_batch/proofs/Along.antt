@@ -7,7 +7,7 @@ use Rattle.sk_resp.specs.Spelling.{Bytes}
 use Rattle.sk_undo.specs.Moves.{moved}
 use Rattle.sk_batch.specs.Along.{along, along_above, along_first, retag}
 use Rattle.sk_batch.specs.Batched.{has_bid}
-use Rattle.sk_batch.specs.Lines.{is_under, line, line_above}
+use Rattle.sk_batch.specs.Ancestors.{is_under, ancestors, ancestors_above}
 use Rattle.sk_batch.specs.Places.{each_once, parent_place, way_up}
 use Rattle.sk_batch.proofs.Places.{put_down_behind}
 use Rattle.sk_batch.proofs.Walks.{drop_one, take_one}
@@ -16,15 +16,15 @@ use Rattle.sk_batch.specs.declared.batch.Batch.{Batch}
 -- ## What is kept beside the batches makes no line
 
 module _ {K L : Type 0} (f : K × Batch → L) where
-  above_retag : (older : List (K × Batch)) → ((x : Bytes) → line (retag f older) x ≡ retag f (line older x)) → (parent : Option Bytes) → line_above parent (line (retag f older)) ≡ retag f (line_above parent (line older))
+  above_retag : (older : List (K × Batch)) → ((x : Bytes) → ancestors (retag f older) x ≡ retag f (ancestors older x)) → (parent : Option Bytes) → ancestors_above parent (ancestors (retag f older)) ≡ retag f (ancestors_above parent (ancestors older))
   above_retag older ih None = refl
   above_retag older ih (Some p) = ih p
 
-  pub line_retag : (batches : List (K × Batch)) (bid : Bytes) → line (retag f batches) bid ≡ retag f (line batches bid)
-  line_retag [] bid = refl
-  line_retag (b ∷ older) bid =
-      let up = above_retag older (λ x. line_retag older x) b.1.parent in
-      let on = line_retag older bid in
+  pub ancestors_retag : (batches : List (K × Batch)) (bid : Bytes) → ancestors (retag f batches) bid ≡ retag f (ancestors batches bid)
+  ancestors_retag [] bid = refl
+  ancestors_retag (b ∷ older) bid =
+      let up = above_retag older (λ x. ancestors_retag older x) b.1.parent in
+      let on = ancestors_retag older bid in
       grind (arith, up, on)
 
   pub any_retag : (batches : List (K × Batch)) (bid : Bytes) → list_any (has_bid bid) (retag f batches) ≡ list_any (has_bid bid) batches
@@ -32,12 +32,12 @@ module _ {K L : Type 0} (f : K × Batch → L) where
   any_retag (b ∷ older) bid = let ih = any_retag older bid in grind (arith, ih)
 
   pub under_retag : (batches : List (K × Batch)) (inner outer : Bytes) → is_under (retag f batches) inner outer ≡ is_under batches inner outer
-  under_retag batches inner outer = ap (list_any (has_bid outer)) (line_retag batches inner) ∙ any_retag (line batches inner) outer
+  under_retag batches inner outer = ap (list_any (has_bid outer)) (ancestors_retag batches inner) ∙ any_retag (ancestors batches inner) outer
 
 -- ## Who is on a line
 
 module _ {K : Type 0} where
-  above_there : (older : List (K × Batch)) (b : Bytes) → ((x : Bytes) → list_any (has_bid b) (line older x) ≡ true → list_any (has_bid b) older ≡ true) → (parent : Option Bytes) → list_any (has_bid b) (line_above parent (line older)) ≡ true → list_any (has_bid b) older ≡ true
+  above_there : (older : List (K × Batch)) (b : Bytes) → ((x : Bytes) → list_any (has_bid b) (ancestors older x) ≡ true → list_any (has_bid b) older ≡ true) → (parent : Option Bytes) → list_any (has_bid b) (ancestors_above parent (ancestors older)) ≡ true → list_any (has_bid b) older ≡ true
   above_there older b ih None h = absurd (cc h)
   above_there older b ih (Some p) h = ih p h
 
@@ -65,8 +65,8 @@ module _ {K : Type 0} where
     differs true e = let c : true ≡ false = sym h ∙ ap (λ (x : Bytes). list_any (has_bid x) batches) (sym ((bytes_eq-Decides b o).0 e)) ∙ new in absurd (cc c)
 
   -- above the first batch of a line
-  above_first : (b : K × Batch) (older : List (K × Batch)) (bid o : Bytes) → has_bid bid b ≡ true → bytes_eq b.1.bid o ≡ false → list_any (has_bid o) (line_above b.1.parent (line older)) ≡ is_under (b ∷ older) bid o
-  above_first b older bid o own d = sym (ap (λ t. list_any (has_bid o) (cond t (b ∷ line_above b.1.parent (line older)) (line older bid))) own ∙ ap (λ t. t || list_any (has_bid o) (line_above b.1.parent (line older))) d)
+  above_first : (b : K × Batch) (older : List (K × Batch)) (bid o : Bytes) → has_bid bid b ≡ true → bytes_eq b.1.bid o ≡ false → list_any (has_bid o) (ancestors_above b.1.parent (ancestors older)) ≡ is_under (b ∷ older) bid o
+  above_first b older bid o own d = sym (ap (λ t. list_any (has_bid o) (cond t (b ∷ ancestors_above b.1.parent (ancestors older)) (ancestors older bid))) own ∙ ap (λ t. t || list_any (has_bid o) (ancestors_above b.1.parent (ancestors older))) d)
 
 -- ## Maps that agree on the batches of a list
 
@@ -94,14 +94,14 @@ retag_none g xs same = retag_within g (λ b. b.0) xs same ∙ retag_own xs
 
 module _ {K : Type 0} (f : K × Batch → K) where
   -- on the line from a batch outwards, or as it was
-  abbrev pub on_line : (Bytes → Bool) → K × Batch → K
-  on_line test b = cond (test b.1.bid) (f b) b.0
+  abbrev pub on_ancestors : (Bytes → Bool) → K × Batch → K
+  on_ancestors test b = cond (test b.1.bid) (f b) b.0
 
-  along_parent : (older : List (K × Batch)) → ((x : Bytes) → along f older x ≡ retag (on_line (λ o. is_under older x o)) older) → (parent : Option Bytes) → along_above f parent older (along f older) ≡ retag (on_line (λ o. list_any (has_bid o) (line_above parent (line older)))) older
-  along_parent older ih None = sym (retag_none (on_line (λ o. false)) older (λ b h. refl))
+  along_parent : (older : List (K × Batch)) → ((x : Bytes) → along f older x ≡ retag (on_ancestors (λ o. is_under older x o)) older) → (parent : Option Bytes) → along_above f parent older (along f older) ≡ retag (on_ancestors (λ o. list_any (has_bid o) (ancestors_above parent (ancestors older)))) older
+  along_parent older ih None = sym (retag_none (on_ancestors (λ o. false)) older (λ b h. refl))
   along_parent older ih (Some p) = ih p
 
-  pub along_is : (batches : List (K × Batch)) (bid : Bytes) → each_once batches ≡ true → along f batches bid ≡ retag (on_line (λ o. is_under batches bid o)) batches
+  pub along_is : (batches : List (K × Batch)) (bid : Bytes) → each_once batches ≡ true → along f batches bid ≡ retag (on_ancestors (λ o. is_under batches bid o)) batches
   along_is [] bid once = refl
   along_is (b ∷ older) bid once = by (has_bid bid b) refl (λ x. along_is older x rest) where
     rest : each_once older ≡ true
@@ -110,22 +110,22 @@ module _ {K : Type 0} (f : K × Batch → K) where
     new : list_any (has_bid b.1.bid) older ≡ false
     new = grind (arith, once)
 
-    by : (own : Bool) → has_bid bid b ≡ own → ((x : Bytes) → along f older x ≡ retag (on_line (λ o. is_under older x o)) older) → along f (b ∷ older) bid ≡ retag (on_line (λ o. is_under (b ∷ older) bid o)) (b ∷ older)
+    by : (own : Bool) → has_bid bid b ≡ own → ((x : Bytes) → along f older x ≡ retag (on_ancestors (λ o. is_under older x o)) older) → along f (b ∷ older) bid ≡ retag (on_ancestors (λ o. is_under (b ∷ older) bid o)) (b ∷ older)
     by true own ih =
         let self : bytes_eq b.1.bid b.1.bid ≡ true = (bytes_eq-Decides b.1.bid b.1.bid).1 refl in
-        let here : is_under (b ∷ older) bid b.1.bid ≡ true = ap (λ t. list_any (has_bid b.1.bid) (cond t (b ∷ line_above b.1.parent (line older)) (line older bid))) own ∙ ap (λ t. t || list_any (has_bid b.1.bid) (line_above b.1.parent (line older))) self in
+        let here : is_under (b ∷ older) bid b.1.bid ≡ true = ap (λ t. list_any (has_bid b.1.bid) (cond t (b ∷ ancestors_above b.1.parent (ancestors older)) (ancestors older bid))) own ∙ ap (λ t. t || list_any (has_bid b.1.bid) (ancestors_above b.1.parent (ancestors older))) self in
         let up = along_parent older ih b.1.parent in
-        let same = retag_within (on_line (λ o. list_any (has_bid o) (line_above b.1.parent (line older)))) (on_line (λ o. is_under (b ∷ older) bid o)) older (λ c h. let d = other_bid older b.1.bid c.1.bid new h in ap (λ t. cond t (f c) c.0) (above_first b older bid c.1.bid own d)) in
+        let same = retag_within (on_ancestors (λ o. list_any (has_bid o) (ancestors_above b.1.parent (ancestors older)))) (on_ancestors (λ o. is_under (b ∷ older) bid o)) older (λ c h. let d = other_bid older b.1.bid c.1.bid new h in ap (λ t. cond t (f c) c.0) (above_first b older bid c.1.bid own d)) in
         ap (λ t. cond t ((f b, b.1) ∷ along_above f b.1.parent older (along f older)) (b ∷ along f older bid)) own
         ∙ ap (λ l. (f b, b.1) ∷ l) (up ∙ same)
-        ∙ ap (λ t. (cond t (f b) b.0, b.1) ∷ retag (on_line (λ o. is_under (b ∷ older) bid o)) older) (sym here)
+        ∙ ap (λ t. (cond t (f b) b.0, b.1) ∷ retag (on_ancestors (λ o. is_under (b ∷ older) bid o)) older) (sym here)
     by false own ih =
         let out : is_under older bid b.1.bid ≡ false = not_there older bid b.1.bid new in
-        let on : (o : Bytes) → is_under older bid o ≡ is_under (b ∷ older) bid o = λ o. ap (λ t. list_any (has_bid o) (cond t (b ∷ line_above b.1.parent (line older)) (line older bid))) (sym own) in
-        let same = retag_within (on_line (λ o. is_under older bid o)) (on_line (λ o. is_under (b ∷ older) bid o)) older (λ c h. ap (λ t. cond t (f c) c.0) (on c.1.bid)) in
+        let on : (o : Bytes) → is_under older bid o ≡ is_under (b ∷ older) bid o = λ o. ap (λ t. list_any (has_bid o) (cond t (b ∷ ancestors_above b.1.parent (ancestors older)) (ancestors older bid))) (sym own) in
+        let same = retag_within (on_ancestors (λ o. is_under older bid o)) (on_ancestors (λ o. is_under (b ∷ older) bid o)) older (λ c h. ap (λ t. cond t (f c) c.0) (on c.1.bid)) in
         ap (λ t. cond t ((f b, b.1) ∷ along_above f b.1.parent older (along f older)) (b ∷ along f older bid)) own
         ∙ ap (λ l. b ∷ l) (ih bid ∙ same)
-        ∙ ap (λ t. (cond t (f b) b.0, b.1) ∷ retag (on_line (λ o. is_under (b ∷ older) bid o)) older) (sym (sym (on b.1.bid) ∙ out))
+        ∙ ap (λ t. (cond t (f b) b.0, b.1) ∷ retag (on_ancestors (λ o. is_under (b ∷ older) bid o)) older) (sym (sym (on b.1.bid) ∙ out))
 
 -- ## The walk
 

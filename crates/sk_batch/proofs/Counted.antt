@@ -10,7 +10,7 @@ use Rattle.sk_undo.specs.Balance.{most}
 use Rattle.sk_batch.specs.Batched.{BatchEntry, MemberEntry, has_bid, is_in, is_job, is_there}
 use Rattle.sk_batch.specs.Events.{members_of}
 use Rattle.sk_batch.specs.Fires.{retagged}
-use Rattle.sk_batch.specs.Lines.{is_under}
+use Rattle.sk_batch.specs.Ancestors.{is_under}
 use Rattle.sk_batch.specs.Numbers.{changed, gained, left_after, left_of, members_after, numbers_in, one_if, plus}
 use Rattle.sk_batch.specs.Open.{with_mark}
 use Rattle.sk_batch.specs.Order.{precedes, put, put_all}
@@ -19,7 +19,7 @@ use Rattle.sk_batch.proofs.Places.{first_fails, first_passes, passes_there}
 use Rattle.sk_batch.proofs.Repeats.{bytes_eq-sym}
 use Rattle.sk_batch.specs.declared.member.Mark.{Mark}
 use Rattle.sk_batch.specs.declared.member.Mark.TheVariants.{Reported, Returned}
-use Rattle.sk_batch.specs.declared.member.Marks.{Marks}
+use Rattle.sk_batch.specs.declared.member.Progress.{Progress}
 use Rattle.sk_batch.specs.declared.numbers.Change.{Change}
 use Rattle.sk_batch.specs.declared.numbers.Change.TheVariants.{Came, Got}
 use Rattle.sk_batch.specs.declared.numbers.Left.{Left}
@@ -87,7 +87,7 @@ module _ (p : MemberEntry → Bool) where
       count_put_all (members_of bid jids) ms ∙ ap (λ n. n + count_by p ms) (count_new bid v is jids) ∙ more v (length jids) (count_by p ms) h (omega (arith, few, g))
 
   -- an entry that is changed can't come to pass
-  count_got : (test : MemberEntry → Bool) (f : Marks → Marks) (ms : List MemberEntry) (at : ℕ) (d : MemberEntry) → at ≡ position_or_len test ms → at < length ms → ((m : MemberEntry) → p (f m.0, m.1) ≡ true → p m ≡ true) → count_by p (retagged test f ms) + one_if (p (get_or ms at d) && not (p (f (get_or ms at d).0, (get_or ms at d).1))) ≡ count_by p ms
+  count_got : (test : MemberEntry → Bool) (f : Progress → Progress) (ms : List MemberEntry) (at : ℕ) (d : MemberEntry) → at ≡ position_or_len test ms → at < length ms → ((m : MemberEntry) → p (f m.0, m.1) ≡ true → p m ≡ true) → count_by p (retagged test f ms) + one_if (p (get_or ms at d) && not (p (f (get_or ms at d).0, (get_or ms at d).1))) ≡ count_by p ms
   count_got test f [] at d e h less = absurd (omega (arith, h))
   count_got test f (m ∷ ms) zero d e h less =
       let r = ap (λ t. count_by p (cond t ((f m.0, m.1) ∷ ms) (m ∷ retagged test f ms))) (first_passes test m ms e) in
@@ -103,7 +103,7 @@ module _ (p : MemberEntry → Bool) where
       let ih = count_got test f ms n d y.1 (omega (arith, h)) less in
       omega (arith, r, a, b, ih)
 
-  count_same : (test : MemberEntry → Bool) (f : Marks → Marks) → ((m : MemberEntry) → p (f m.0, m.1) ≡ p m) → (ms : List MemberEntry) → count_by p (retagged test f ms) ≡ count_by p ms
+  count_same : (test : MemberEntry → Bool) (f : Progress → Progress) → ((m : MemberEntry) → p (f m.0, m.1) ≡ p m) → (ms : List MemberEntry) → count_by p (retagged test f ms) ≡ count_by p ms
   count_same test f same [] = refl
   count_same test f same (m ∷ ms) = either (test m) (count_same test f same ms) where
     either : (b : Bool) → count_by p (retagged test f ms) ≡ count_by p ms → count_by p (cond b ((f m.0, m.1) ∷ ms) (m ∷ retagged test f ms)) ≡ count_by p (m ∷ ms)
@@ -214,11 +214,11 @@ changes false false change n h = refl
 pub numbers_come : (change : Change) (bid : Bytes) (ms ms' : List MemberEntry) → Comes change bid ms ms' → (batches : List BatchEntry) (b : BatchEntry) → is_there b.1.bid batches ≡ true → numbers_in batches ms' b.1 ≡ cond (is_under batches bid b.1.bid) (changed change (has_bid bid b) (numbers_in batches ms b.1)) (numbers_in batches ms b.1)
 numbers_come change bid ms ms' comes batches b there =
     let same : bytes_eq bid b.1.bid ≡ has_bid bid b = bytes_eq-sym bid b.1.bid in
-    let line : has_bid bid b ≡ true → is_under batches bid b.1.bid ≡ true = λ h. let is : b.1.bid ≡ bid = (bytes_eq-Decides b.1.bid bid).0 h in ap (λ (x : Bytes). is_under batches x b.1.bid) (sym is) ∙ under_own batches b.1.bid there in
+    let ancestors : has_bid bid b ≡ true → is_under batches bid b.1.bid ≡ true = λ h. let is : b.1.bid ≡ bid = (bytes_eq-Decides b.1.bid bid).0 h in ap (λ (x : Bytes). is_under batches x b.1.bid) (sym is) ∙ under_own batches b.1.bid there in
     let m = comes.members b.1.bid ∙ ap (λ t. cond t (members_after change (count_by (is_in b.1.bid) ms)) (count_by (is_in b.1.bid) ms)) same in
     let o = comes.left (λ x. bytes_eq x b.1.bid) ∙ ap (λ t. cond t (left_after change (left_of (λ x. bytes_eq x b.1.bid) ms)) (left_of (λ x. bytes_eq x b.1.bid) ms)) same in
     let u = comes.left (λ x. is_under batches x b.1.bid) in
-    three _ _ _ _ _ _ m o u ∙ changes (has_bid bid b) (is_under batches bid b.1.bid) change (numbers_in batches ms b.1) line
+    three _ _ _ _ _ _ m o u ∙ changes (has_bid bid b) (is_under batches bid b.1.bid) change (numbers_in batches ms b.1) ancestors
 
 -- ## A batch that no member is in or under
 

@@ -1,7 +1,7 @@
 pub mod Along
 pub mod Counted
 pub mod Indexed
-pub mod Kept
+pub mod Invariant
 pub mod Listed
 pub mod Looks
 pub mod Making
@@ -9,7 +9,7 @@ pub mod Order
 pub mod Places
 pub mod Refusals
 pub mod Repeats
-pub mod Telling
+pub mod Notifying
 pub mod Walks
 pub mod Worked
 pub mod Wholes

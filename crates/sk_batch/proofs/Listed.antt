@@ -6,7 +6,7 @@ use Rattle.std.specs.Map.{lookup}
 use Rattle.sk_resp.specs.Spelling.{Bytes}
 use Rattle.sk_resp.specs.WordOrder.{text_cmp}
 use Rattle.sk_undo.specs.Moves.{moved}
-use Rattle.sk_undo.specs.Steps.{BothPass, Steps, edited, map_steps}
+use Rattle.sk_undo.specs.Versions.{BothPass, Versions, edited, map_versions}
 use Rattle.sk_batch.specs.Along.{retag}
 use Rattle.sk_batch.specs.Batched.{has_bid}
 use Rattle.sk_batch.specs.Places.{each_once, index_of}
@@ -36,28 +36,28 @@ moved_bare (b ∷ bs) zero tag h = refl
 moved_bare (b ∷ bs) (suc n) tag h = ap bared (put_down_behind (slice_get bs n) n tag b (remove bs n)) ∙ ap (λ l. (tt, b.1) ∷ l) (moved_bare bs n tag (omega (arith, h)))
 
 module _ {K : Type 0} where
-  abbrev pub Listed : Steps (List (K × Batch)) → Steps (List (Bytes × ℕ)) → Type 0
-  Listed es ix = (ix ≡ map_steps index_of es) × BothPass each_once es
+  abbrev pub Listed : Versions (List (K × Batch)) → Versions (List (Bytes × ℕ)) → Type 0
+  Listed es ix = (ix ≡ map_versions index_of es) × BothPass each_once es
 
-  listed_same : (es es' : Steps (List (K × Batch))) (ix ix' : Steps (List (Bytes × ℕ))) → Listed es ix → es' ≡ es → ix' ≡ ix → Listed es' ix'
+  listed_same : (es es' : Versions (List (K × Batch))) (ix ix' : Versions (List (Bytes × ℕ))) → Listed es ix → es' ≡ es → ix' ≡ ix → Listed es' ix'
   listed_same es es' ix ix' l e i = subst (λ s. Listed es' s) (sym i) (subst (λ s. Listed s ix) (sym e) l)
 
   -- another list now, with its index
-  listed_edited : (es : Steps (List (K × Batch))) (ix : Steps (List (Bytes × ℕ))) (now : List (K × Batch)) → Listed es ix → each_once now ≡ true → Listed (edited now es) (edited (index_of now) ix)
-  listed_edited es ix now l once = (ap (edited (index_of now)) l.0, record { stands = once; stood = l.1.stood })
+  listed_edited : (es : Versions (List (K × Batch))) (ix : Versions (List (Bytes × ℕ))) (now : List (K × Batch)) → Listed es ix → each_once now ≡ true → Listed (edited now es) (edited (index_of now) ix)
+  listed_edited es ix now l once = (ap (edited (index_of now)) l.0, record { current = once; saved = l.1.saved })
 
-  pub listed_moved : (es es' : Steps (List (K × Batch))) (ix : Steps (List (Bytes × ℕ))) (at : ℕ) (tag : K) → Listed es ix → at < length es.stands → es' ≡ edited (moved at at tag es.stands) es → Listed es' ix
+  pub listed_moved : (es es' : Versions (List (K × Batch))) (ix : Versions (List (Bytes × ℕ))) (at : ℕ) (tag : K) → Listed es ix → at < length es.current → es' ≡ edited (moved at at tag es.current) es → Listed es' ix
   listed_moved es es' ix at tag l h a =
-      let bare = moved_bare es.stands at tag h in
-      let once : each_once (moved at at tag es.stands) ≡ true = sym (once_bare (moved at at tag es.stands)) ∙ ap each_once bare ∙ once_bare es.stands ∙ l.1.stands in
-      let index : index_of (moved at at tag es.stands) ≡ index_of es.stands = sym (index_bare (moved at at tag es.stands)) ∙ ap index_of bare ∙ index_bare es.stands in
-      let stands : ix.stands ≡ index_of es.stands = ap (λ (s : Steps (List (Bytes × ℕ))). s.stands) l.0 in
-      listed_same (edited (moved at at tag es.stands) es) es' (edited (index_of (moved at at tag es.stands)) ix) ix (listed_edited es ix (moved at at tag es.stands) l once) a
-      (ap (λ k. edited k ix) (stands ∙ sym index))
+      let bare = moved_bare es.current at tag h in
+      let once : each_once (moved at at tag es.current) ≡ true = sym (once_bare (moved at at tag es.current)) ∙ ap each_once bare ∙ once_bare es.current ∙ l.1.current in
+      let index : index_of (moved at at tag es.current) ≡ index_of es.current = sym (index_bare (moved at at tag es.current)) ∙ ap index_of bare ∙ index_bare es.current in
+      let current : ix.current ≡ index_of es.current = ap (λ (s : Versions (List (Bytes × ℕ))). s.current) l.0 in
+      listed_same (edited (moved at at tag es.current) es) es' (edited (index_of (moved at at tag es.current)) ix) ix (listed_edited es ix (moved at at tag es.current) l once) a
+      (ap (λ k. edited k ix) (current ∙ sym index))
 
   -- where a batch stands, by the index
-  pub listed_there : (es : Steps (List (K × Batch))) (ix : Steps (List (Bytes × ℕ))) → Listed es ix → (bid : Bytes) (n : ℕ) → Some n ≡ lookup (is_at (text_cmp bid)) ix.stands → suc (position_or_len (has_bid bid) es.stands + n) ≡ length es.stands
-  listed_there es ix l bid n h = place_found bid es.stands n (h ∙ ap (λ (s : Steps (List (Bytes × ℕ))). lookup (is_at (text_cmp bid)) s.stands) l.0)
+  pub listed_there : (es : Versions (List (K × Batch))) (ix : Versions (List (Bytes × ℕ))) → Listed es ix → (bid : Bytes) (n : ℕ) → Some n ≡ lookup (is_at (text_cmp bid)) ix.current → suc (position_or_len (has_bid bid) es.current + n) ≡ length es.current
+  listed_there es ix l bid n h = place_found bid es.current n (h ∙ ap (λ (s : Versions (List (Bytes × ℕ))). lookup (is_at (text_cmp bid)) s.current) l.0)
 
-  pub listed_nowhere : (es : Steps (List (K × Batch))) (ix : Steps (List (Bytes × ℕ))) → Listed es ix → (bid : Bytes) → None ≡ lookup (is_at (text_cmp bid)) ix.stands → length es.stands ≡ position_or_len (has_bid bid) es.stands
-  listed_nowhere es ix l bid h = place_nowhere bid es.stands (h ∙ ap (λ (s : Steps (List (Bytes × ℕ))). lookup (is_at (text_cmp bid)) s.stands) l.0)
+  pub listed_nowhere : (es : Versions (List (K × Batch))) (ix : Versions (List (Bytes × ℕ))) → Listed es ix → (bid : Bytes) → None ≡ lookup (is_at (text_cmp bid)) ix.current → length es.current ≡ position_or_len (has_bid bid) es.current
+  listed_nowhere es ix l bid h = place_nowhere bid es.current (h ∙ ap (λ (s : Versions (List (Bytes × ℕ))). lookup (is_at (text_cmp bid)) s.current) l.0)

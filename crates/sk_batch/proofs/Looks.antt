@@ -7,15 +7,15 @@ use Rattle.sk_resp.specs.Spelling.{Bytes}
 use Rattle.sk_undo.specs.Balance.{most}
 use Rattle.sk_batch.specs.Along.{retag}
 use Rattle.sk_batch.specs.Batched.{BatchEntry, MemberEntry, has_bid, is_in, is_there}
-use Rattle.sk_batch.specs.Lines.{line, line_above, line_of_first}
+use Rattle.sk_batch.specs.Ancestors.{ancestors, ancestors_above, first_ancestors}
 use Rattle.sk_batch.specs.Numbers.{numbers_in, one_if}
 use Rattle.sk_batch.specs.Open.{is_settled, lacks}
 use Rattle.sk_batch.specs.Stat.{IsSmall, numbers_of, stat, stat_of}
-use Rattle.sk_batch.specs.States.{AreKept, StateEntry, of_lists, seen_of, with_numbers}
-use Rattle.sk_batch.proofs.Along.{any_retag, line_retag}
+use Rattle.sk_batch.specs.States.{BatchInvariant, StateEntry, of_lists, seen_of, with_numbers}
+use Rattle.sk_batch.proofs.Along.{any_retag, ancestors_retag}
 use Rattle.sk_batch.proofs.Counted.{count_cons, count_none}
 use Rattle.sk_batch.proofs.Places.{any_position, no_position, passes_there}
-use Rattle.sk_batch.proofs.Walks.{line_begins}
+use Rattle.sk_batch.proofs.Walks.{ancestors_begins}
 use Rattle.sk_batch.specs.declared.batch.Batch.{Batch}
 use Rattle.sk_batch.specs.declared.batch_stat.BatchStat.{BatchStat}
 use Rattle.sk_batch.specs.declared.member.Mark.TheVariants.{Returned}
@@ -31,9 +31,9 @@ retag_seen : (numbers : Batch → Numbers) (bs : List StateEntry) → with_numbe
 retag_seen numbers [] = refl
 retag_seen numbers (b ∷ bs) = ap (λ l. (record { fired = b.0.fired; numbers = numbers b.1 }, b.1) ∷ l) (retag_seen numbers bs)
 
-no_line : (bs : List StateEntry) (bid : Bytes) → list_any (has_bid bid) bs ≡ false → line bs bid ≡ []
-no_line [] bid h = refl
-no_line (b ∷ bs) bid h = let ih = no_line bs bid in grind (arith, h, ih)
+no_ancestors : (bs : List StateEntry) (bid : Bytes) → list_any (has_bid bid) bs ≡ false → ancestors bs bid ≡ []
+no_ancestors [] bid h = refl
+no_ancestors (b ∷ bs) bid h = let ih = no_ancestors bs bid in grind (arith, h, ih)
 
 and_swap : (a b : Bool) → a && b ≡ b && a
 and_swap true true = refl
@@ -48,7 +48,7 @@ swapped p q (x ∷ xs) = let ih = swapped p q xs in let a = count_cons (λ m. p 
 few : (p : MemberEntry → Bool) (n : ℕ) (ms : List MemberEntry) → length ms ≤ most → n ≡ count_by p ms → n ≤ most
 few p n ms h e = let c = count_by-le-length p ms in omega (arith, c, h, e)
 
-module _ (batches : List StateEntry) (ms : List MemberEntry) (kept : AreKept batches ms) (at : ℕ) (d : StateEntry) (within : at < length batches) where
+module _ (batches : List StateEntry) (ms : List MemberEntry) (kept : BatchInvariant batches ms) (at : ℕ) (d : StateEntry) (within : at < length batches) where
   abbrev seen : List BatchEntry
   seen = seen_of batches
 
@@ -75,11 +75,11 @@ module _ (batches : List StateEntry) (ms : List MemberEntry) (kept : AreKept bat
     entry = (here.0.fired, here.1)
 
     -- the line of the bid begins with the batch
-    line_here : line seen bid ≡ entry ∷ line_above here.1.parent (line (seen_of (drop (suc at) batches)))
-    line_here = line_retag (λ (b : StateEntry). b.0.fired) batches bid ∙ ap seen_of (sym (line_begins batches bid at place) ∙ ap line_of_first (drop-cons batches at d within)) ∙ ap (λ l. entry ∷ l) (above here.1.parent) where
-      above : (parent : Option Bytes) → seen_of (line_above parent (line (drop (suc at) batches))) ≡ line_above parent (line (seen_of (drop (suc at) batches)))
+    ancestors_here : ancestors seen bid ≡ entry ∷ ancestors_above here.1.parent (ancestors (seen_of (drop (suc at) batches)))
+    ancestors_here = ancestors_retag (λ (b : StateEntry). b.0.fired) batches bid ∙ ap seen_of (sym (ancestors_begins batches bid at place) ∙ ap first_ancestors (drop-cons batches at d within)) ∙ ap (λ l. entry ∷ l) (above here.1.parent) where
+      above : (parent : Option Bytes) → seen_of (ancestors_above parent (ancestors (drop (suc at) batches))) ≡ ancestors_above parent (ancestors (seen_of (drop (suc at) batches)))
       above None = refl
-      above (Some p) = sym (line_retag (λ (b : StateEntry). b.0.fired) (drop (suc at) batches) p)
+      above (Some p) = sym (ancestors_retag (λ (b : StateEntry). b.0.fired) (drop (suc at) batches) p)
 
     abbrev stat_here : BatchStat
     stat_here = record { members = here.0.numbers.members; pending = here.0.numbers.own.unreturned; unreported = here.0.numbers.own.unreported; died = here.0.fired.death; pending_under = here.0.numbers.under.unreturned }
@@ -88,7 +88,7 @@ module _ (batches : List StateEntry) (ms : List MemberEntry) (kept : AreKept bat
     stat_by n = record { members = n.members; pending = n.own.unreturned; unreported = n.own.unreported; died = here.0.fired.death; pending_under = n.under.unreturned }
 
     pub stat_at : Some stat_here ≡ stat bid (of_lists seen ms)
-    stat_at = ap (λ (n : Numbers). Some (stat_by n)) numbers_at ∙ ap Some pairs ∙ ap (stat_of (of_lists seen ms)) (sym line_here) where
+    stat_at = ap (λ (n : Numbers). Some (stat_by n)) numbers_at ∙ ap Some pairs ∙ ap (stat_of (of_lists seen ms)) (sym ancestors_here) where
       pairs : stat_by (numbers_in seen ms here.1) ≡ numbers_of (of_lists seen ms) entry
       pairs = ap₂ (λ p u. record { members = count_by (is_in here.1.bid) ms; pending = p; unreported = u; died = here.0.fired.death; pending_under = count_by (lacks Returned seen here.1.bid) ms })
           (swapped (λ m. not m.0.returned) (is_in here.1.bid) ms) (swapped (λ m. not m.0.reported) (is_in here.1.bid) ms)
@@ -103,7 +103,7 @@ module _ (batches : List StateEntry) (ms : List MemberEntry) (kept : AreKept bat
 
 -- a bid that isn't there has no line
 pub no_stat : (batches : List StateEntry) (ms : List MemberEntry) (bid : Bytes) → length batches ≡ position_or_len (has_bid bid) batches → None ≡ stat bid (of_lists (seen_of batches) ms)
-no_stat batches ms bid place = ap (stat_of (of_lists (seen_of batches) ms)) (sym (line_retag (λ (b : StateEntry). b.0.fired) batches bid ∙ ap seen_of (no_line batches bid (no_position (has_bid bid) batches (length batches) place (omega arith)))))
+no_stat batches ms bid place = ap (stat_of (of_lists (seen_of batches) ms)) (sym (ancestors_retag (λ (b : StateEntry). b.0.fired) batches bid ∙ ap seen_of (no_ancestors batches bid (no_position (has_bid bid) batches (length batches) place (omega arith)))))
 
 -- ## Whether a batch was made
 

@@ -9,12 +9,12 @@ use Rattle.std.specs.Cmp.Lexicographic.{slice_cmp}
 use Rattle.std.proofs.lemmas.Cmp.{then_total, on_total, nat_list_cmp_total}
 use Rattle.std.proofs.lemmas.Map.Text.{is_eq-slice_cmp}
 use Rattle.sk_resp.specs.Spelling.{Bytes}
-use Rattle.sk_undo.specs.Rises.{all_pass, rises}
+use Rattle.sk_undo.specs.Partitioned.{all_pass, is_partitioned}
 use Rattle.sk_batch.specs.Batched.{MemberEntry, is_job}
 use Rattle.sk_batch.specs.Fires.{retagged}
 use Rattle.sk_batch.specs.Order.{member_cmp, precedes, put, put_all, is_first, is_ordered}
 use Rattle.sk_batch.proofs.Places.{first_passes, first_fails}
-use Rattle.sk_batch.specs.declared.member.Marks.{Marks}
+use Rattle.sk_batch.specs.declared.member.Progress.{Progress}
 use Rattle.sk_batch.specs.declared.member.Member.{Member}
 
 -- ## Any total order
@@ -74,7 +74,7 @@ pub any_put : (p : MemberEntry → Bool) (new : MemberEntry) (ms : List MemberEn
 any_put p new [] = refl
 any_put p new (m ∷ ms) = grind (arith, any_put p new ms)
 
-module _ (test : MemberEntry → Bool) (f : Marks → Marks) where
+module _ (test : MemberEntry → Bool) (f : Progress → Progress) where
   first_retagged : (q : Member) (ms : List MemberEntry) → is_first q (retagged test f ms) ≡ is_first q ms
   first_retagged q [] = refl
   first_retagged q (m ∷ ms) = grind (arith, first_retagged q ms)
@@ -91,15 +91,15 @@ module _ (t : MemberEntry → Bool) (up : (m n : MemberEntry) → precedes n.1 m
   all_behind m [] f h = refl
   all_behind m (n ∷ ms) f h = grind (arith, f, h, up m n, all_behind m ms)
 
-  rising : (ms : List MemberEntry) → is_ordered ms ≡ true → rises t ms ≡ true
+  rising : (ms : List MemberEntry) → is_ordered ms ≡ true → is_partitioned t ms ≡ true
   rising [] h = refl
   rising (m ∷ ms) h = grind (arith, h, all_behind m ms, rising ms)
 
-pub rises_behind : (new : MemberEntry) (ms : List MemberEntry) → is_ordered ms ≡ true → rises (λ m. precedes new.1 m.1) ms ≡ true
-rises_behind new ms h = rising (λ m. precedes new.1 m.1) (λ m n a b. before_behind new.1 m.1 n.1 b a) ms h
+pub partitioned_behind : (new : MemberEntry) (ms : List MemberEntry) → is_ordered ms ≡ true → is_partitioned (λ m. precedes new.1 m.1) ms ≡ true
+partitioned_behind new ms h = rising (λ m. precedes new.1 m.1) (λ m n a b. before_behind new.1 m.1 n.1 b a) ms h
 
-pub rises_from : (key : Member) (ms : List MemberEntry) → is_ordered ms ≡ true → rises (λ m. not (precedes m.1 key)) ms ≡ true
-rises_from key ms h = rising (λ m. not (precedes m.1 key)) (λ m n a b. let t = behind_behind key m.1 n.1 in grind (arith, a, b, t)) ms h
+pub partitioned_from : (key : Member) (ms : List MemberEntry) → is_ordered ms ≡ true → is_partitioned (λ m. not (precedes m.1 key)) ms ≡ true
+partitioned_from key ms h = rising (λ m. not (precedes m.1 key)) (λ m n a b. let t = behind_behind key m.1 n.1 in grind (arith, a, b, t)) ms h
 
 pub insert_put : (new : MemberEntry) (ms : List MemberEntry) (at : ℕ) → at ≡ position_or_len (λ m. precedes new.1 m.1) ms → insert ms at new ≡ put new ms
 insert_put new [] zero e = refl

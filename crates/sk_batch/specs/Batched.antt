@@ -5,7 +5,7 @@ use Rattle.std.specs.Str.{bytes_eq}
 use Rattle.sk_resp.specs.Spelling.{Bytes}
 use Rattle.sk_batch.specs.declared.batch.Batch.{Batch}
 use Rattle.sk_batch.specs.declared.batch.Fired.{Fired}
-use Rattle.sk_batch.specs.declared.member.Marks.{Marks}
+use Rattle.sk_batch.specs.declared.member.Progress.{Progress}
 use Rattle.sk_batch.specs.declared.member.Member.{Member}
 
 -- a batch, and which of its callbacks were fired
@@ -14,7 +14,7 @@ BatchEntry = Fired × Batch
 
 -- a member of a batch, and what came of it
 abbrev pub MemberEntry : Type 0
-MemberEntry = Marks × Member
+MemberEntry = Progress × Member
 
 pub record Batched : Type 0 where
   -- how many batches there may be

@@ -2,7 +2,7 @@
 use Rattle.std.specs.Prelude.{Bool, not, ◌&&◌, List, [], ◌++◌, filter, map, nat_eq}
 use Rattle.sk_resp.specs.Spelling.{Bytes}
 use Rattle.sk_batch.specs.Fires.{firing}
-use Rattle.sk_batch.specs.Lines.{line}
+use Rattle.sk_batch.specs.Ancestors.{ancestors}
 use Rattle.sk_batch.specs.Numbers.{left_after}
 use Rattle.sk_batch.specs.States.{StateEntry}
 use Rattle.sk_batch.specs.declared.event.Event.{Event}
@@ -10,15 +10,15 @@ use Rattle.sk_batch.specs.declared.event.Event.TheVariants as event
 use Rattle.sk_batch.specs.declared.firing.Firing.{Firing}
 use Rattle.sk_batch.specs.declared.firing.Kind.{Kind}
 use Rattle.sk_batch.specs.declared.firing.Kind.TheVariants.{Complete, Success, Death}
-use Rattle.sk_batch.specs.declared.member.Marks.{Marks}
+use Rattle.sk_batch.specs.declared.member.Progress.{Progress}
 use Rattle.sk_batch.specs.declared.numbers.Change.TheVariants.{Got}
 
 -- the batch wasn't complete before, and no member under it is unreported then
-abbrev pub completes_by : Marks → StateEntry → Bool
+abbrev pub completes_by : Progress → StateEntry → Bool
 completes_by gained b = not b.0.fired.complete && nat_eq (left_after (Got gained) b.0.numbers.under).unreported 0
 
 -- no member under the batch is open then, and one was before
-abbrev pub settles_by : Marks → StateEntry → Bool
+abbrev pub settles_by : Progress → StateEntry → Bool
 settles_by gained b = nat_eq (left_after (Got gained) b.0.numbers.under).unreturned 0 && not (nat_eq b.0.numbers.under.unreturned 0)
 
 -- no member under the batch was buried before
@@ -27,12 +27,12 @@ dies_yet b = not b.0.fired.death
 
 -- one kind, of the batches that pass, from one batch outwards
 abbrev pub fires_along : Kind → (StateEntry → Bool) → List StateEntry → Bytes → List Firing
-fires_along kind test batches bid = map (λ b. firing kind b.1) (filter test (line batches bid))
+fires_along kind test batches bid = map (λ b. firing kind b.1) (filter test (ancestors batches bid))
 
-abbrev pub later_due : Event → Marks → List StateEntry → Bytes → List Firing
+abbrev pub later_due : Event → Progress → List StateEntry → Bytes → List Firing
 later_due event.Reported gained batches bid = []
 later_due event.Returned gained batches bid = fires_along Success (settles_by gained) batches bid
 later_due event.Died gained batches bid = fires_along Death dies_yet batches bid
 
-abbrev pub due : Event → Marks → List StateEntry → Bytes → List Firing
+abbrev pub due : Event → Progress → List StateEntry → Bytes → List Firing
 due event gained batches bid = fires_along Complete (completes_by gained) batches bid ++ later_due event gained batches bid

@@ -2,7 +2,7 @@
 use Rattle.std.specs.Prelude.{Bool, true, cond, not, ◌&&◌, List, [], ◌∷◌, filter, map, Option}
 use Rattle.sk_resp.specs.Spelling.{Bytes}
 use Rattle.sk_batch.specs.Batched.{Batched, BatchEntry, has_bid}
-use Rattle.sk_batch.specs.Lines.{line}
+use Rattle.sk_batch.specs.Ancestors.{ancestors}
 use Rattle.sk_batch.specs.Open.{is_reported, is_settled}
 use Rattle.sk_batch.specs.declared.batch.Batch.{Batch}
 use Rattle.sk_batch.specs.declared.batch.Fired.{Fired}
@@ -32,17 +32,17 @@ succeeds before after b = is_settled after b.1.bid && not (is_settled before b.1
 
 -- Each kind is fired of the batch and of those that it is in, the inner first.
 abbrev pub complete_fires : Batched → Bytes → List Firing
-complete_fires s bid = map (λ b. firing Complete b.1) (filter (completes s) (line s.batches bid))
+complete_fires s bid = map (λ b. firing Complete b.1) (filter (completes s) (ancestors s.batches bid))
 
 abbrev pub success_fires : Batched → Batched → Bytes → List Firing
-success_fires before after bid = map (λ b. firing Success b.1) (filter (succeeds before after) (line after.batches bid))
+success_fires before after bid = map (λ b. firing Success b.1) (filter (succeeds before after) (ancestors after.batches bid))
 
 -- no member under the batch was buried before
 abbrev pub dies : BatchEntry → Bool
 dies b = not b.0.death
 
 abbrev pub death_fires : Batched → Bytes → List Firing
-death_fires s bid = map (λ b. firing Death b.1) (filter dies (line s.batches bid))
+death_fires s bid = map (λ b. firing Death b.1) (filter dies (ancestors s.batches bid))
 
 -- ## What was fired is marked
 

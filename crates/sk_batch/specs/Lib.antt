@@ -5,12 +5,12 @@ pub mod Due
 pub mod Events
 pub mod Faults
 pub mod Fires
-pub mod Lines
+pub mod Ancestors
 pub mod Numbers
 pub mod Open
 pub mod Order
 pub mod Places
 pub mod Stat
 pub mod States
-pub mod Told
+pub mod Notify
 pub mod Whole

@@ -4,11 +4,11 @@ use Rattle.std.specs.List.{count_by}
 use Rattle.std.specs.Str.{bytes_eq}
 use Rattle.sk_resp.specs.Spelling.{Bytes}
 use Rattle.sk_batch.specs.Batched.{BatchEntry, MemberEntry, is_in}
-use Rattle.sk_batch.specs.Lines.{is_under}
+use Rattle.sk_batch.specs.Ancestors.{is_under}
 use Rattle.sk_batch.specs.declared.batch.Batch.{Batch}
 use Rattle.sk_batch.specs.declared.member.Mark.{Mark}
 use Rattle.sk_batch.specs.declared.member.Mark.TheVariants.{Reported, Returned}
-use Rattle.sk_batch.specs.declared.member.Marks.{Marks}
+use Rattle.sk_batch.specs.declared.member.Progress.{Progress}
 use Rattle.sk_batch.specs.declared.numbers.Change.{Change}
 use Rattle.sk_batch.specs.declared.numbers.Change.TheVariants.{Came, Got}
 use Rattle.sk_batch.specs.declared.numbers.Left.{Left}
@@ -39,7 +39,7 @@ abbrev pub one_if : Bool → ℕ
 one_if b = cond b 1 0
 
 -- the marks that a member gets by one, of those that it hasn't
-abbrev pub gained : Mark → Marks → Marks
+abbrev pub gained : Mark → Progress → Progress
 gained Reported marks = record { reported = not marks.reported; returned = false }
 gained Returned marks = record { reported = not marks.reported; returned = not marks.returned }
 

@@ -3,16 +3,16 @@ use Rattle.std.specs.Prelude.{Bool, true, not, ◌&&◌, List, filter}
 use Rattle.std.specs.List.{list_any}
 use Rattle.sk_resp.specs.Spelling.{Bytes}
 use Rattle.sk_batch.specs.Batched.{Batched, MemberEntry, BatchEntry}
-use Rattle.sk_batch.specs.Lines.{is_under}
+use Rattle.sk_batch.specs.Ancestors.{is_under}
 use Rattle.sk_batch.specs.declared.member.Mark.{Mark}
 use Rattle.sk_batch.specs.declared.member.Mark.TheVariants.{Reported, Returned}
-use Rattle.sk_batch.specs.declared.member.Marks.{Marks}
+use Rattle.sk_batch.specs.declared.member.Progress.{Progress}
 
-abbrev pub has_mark : Mark → Marks → Bool
+abbrev pub has_mark : Mark → Progress → Bool
 has_mark Reported marks = marks.reported
 has_mark Returned marks = marks.returned
 
-abbrev pub with_mark : Mark → Marks → Marks
+abbrev pub with_mark : Mark → Progress → Progress
 with_mark Reported marks = record marks { reported = true }
 -- a member that returns is reported too
 with_mark Returned marks = record { reported = true; returned = true }

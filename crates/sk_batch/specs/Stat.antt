@@ -4,7 +4,7 @@ use Rattle.std.specs.List.{count_by}
 use Rattle.sk_resp.specs.Spelling.{Bytes}
 use Rattle.sk_undo.specs.Balance.{most}
 use Rattle.sk_batch.specs.Batched.{Batched, BatchEntry, is_in}
-use Rattle.sk_batch.specs.Lines.{line}
+use Rattle.sk_batch.specs.Ancestors.{ancestors}
 use Rattle.sk_batch.specs.Open.{lacks}
 use Rattle.sk_batch.specs.declared.batch_stat.BatchStat.{BatchStat}
 use Rattle.sk_batch.specs.declared.member.Mark.TheVariants.{Returned}
@@ -26,7 +26,7 @@ stat_of s (b ∷ above) = Some (numbers_of s b)
 
 -- of the batch, where it was made
 abbrev pub stat : Bytes → Batched → Option BatchStat
-stat bid s = stat_of s (line s.batches bid)
+stat bid s = stat_of s (ancestors s.batches bid)
 
 -- each of the numbers is the length of a part of a list
 pub record IsSmall (n : BatchStat) : Type 0 where

@@ -2,7 +2,7 @@
 use Rattle.std.specs.Prelude.{◌≡◌, true, false, Bool, List, [], ◌∷◌}
 use Rattle.std.specs.List.{list_all}
 use Rattle.sk_resp.specs.Spelling.{Bytes}
-use Rattle.sk_undo.specs.Steps.{Steps}
+use Rattle.sk_undo.specs.Versions.{Versions}
 use Rattle.sk_batch.specs.Along.{retag}
 use Rattle.sk_batch.specs.Batched.{Batched, BatchEntry, MemberEntry, has_bid, is_there}
 use Rattle.sk_batch.specs.Fires.{retagged, with_kind}
@@ -31,7 +31,7 @@ abbrev pub with_numbers : (Batch → Numbers) → List BatchEntry → List State
 with_numbers numbers batches = retag (λ (b : BatchEntry). record { fired = b.0; numbers = numbers b.1 }) batches
 
 -- The numbers are those of the members, each member is of a batch that was made, and they stand in order.
-pub record AreKept (batches : List StateEntry) (members : List MemberEntry) : Type 0 where
+pub record BatchInvariant (batches : List StateEntry) (members : List MemberEntry) : Type 0 where
   pub counted : batches ≡ with_numbers (numbers_in (seen_of batches) members) (seen_of batches)
   pub homes : list_all (λ m. is_there m.1.bid (seen_of batches)) members ≡ true
   pub ordered : is_ordered members ≡ true
@@ -55,6 +55,6 @@ abbrev pub with_change : Change → Bytes → StateEntry → State
 with_change change bid b = record { fired = b.0.fired; numbers = changed change (has_bid bid b) b.0.numbers }
 
 -- only what is kept of the batches was edited
-pub record AreEdited (old new : Steps (List StateEntry)) (batches : List BatchEntry) : Type 0 where
-  pub stands : seen_of new.stands ≡ batches
-  pub stood : new.stood ≡ old.stood
+pub record AreEdited (old new : Versions (List StateEntry)) (batches : List BatchEntry) : Type 0 where
+  pub current : seen_of new.current ≡ batches
+  pub saved : new.saved ≡ old.saved

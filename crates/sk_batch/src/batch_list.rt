@@ -7,9 +7,9 @@ ghost use Rattle.sk_resp.specs.WordOrder.{text_cmp};
 ghost use Rattle.sk_undo.specs.Balance.{most};
 ghost use Rattle.sk_undo.specs.Moves.{moved};
 ghost use Rattle.sk_undo.specs.Queries.{key_query};
-ghost use Rattle.sk_undo.specs.Steps.{begun, closed, committed, edited, undone};
+ghost use Rattle.sk_undo.specs.Versions.{begun, closed, committed, edited, undone};
 ghost use Rattle.sk_batch.specs.Batched.{has_bid};
-ghost use Rattle.sk_batch.specs.Lines.{line, line_of_first};
+ghost use Rattle.sk_batch.specs.Ancestors.{ancestors, first_ancestors};
 ghost use Rattle.sk_batch.specs.Places.{each_once, way_up};
 
 use crate::state::State;
@@ -31,11 +31,11 @@ pub struct BatchList {
 
 impl Model for BatchList {
     ghost use Rattle.std.specs.Prelude.{List};
-    ghost use Rattle.sk_undo.specs.Kept.{Kept};
+    ghost use Rattle.sk_undo.specs.UndoView.{UndoView};
     ghost use Rattle.sk_batch.specs.declared.batch.Batch.{Batch};
     ghost use Rattle.sk_batch.specs.declared.state.State.{State};
 
-    ghost Value = { Kept (List (State × Batch)) };
+    ghost Value = { UndoView (List (State × Batch)) };
 
     ghost use Rattle.sk_batch.specs.BatchList.{is_indexed, list_in};
 
@@ -73,25 +73,25 @@ impl BatchList {
 
     /// How many batches there are.
     pub fn len(&self) -> usize
-        ensures is { result ≡ length self.now.list.stands }
+        ensures is { result ≡ length self.now.list.current }
         ensures small { result ≤ most }
-        ensures once { each_once self.now.list.stands ≡ true }
+        ensures once { each_once self.now.list.current ≡ true }
     {
         self.entries.len()
     }
 
     /// The batch at a place, and its state. Logarithmic.
     pub fn get(&self, at: usize) -> &(State, Batch)
-        requires { at < length self.now.list.stands }
-        ensures { result.now ≡ slice_index_or self.now.list.stands at result.now }
+        requires { at < length self.now.list.current }
+        ensures { result.now ≡ slice_index_or self.now.list.current at result.now }
     {
         self.entries.get(at)
     }
 
     /// The place of the batch of this bid; the number of batches where there is none. Logarithmic.
     pub fn find(&self, bid: &[u8]) -> usize
-        ensures is { result ≡ position_or_len (has_bid bid.now) self.now.list.stands }
-        ensures within { result ≤ length self.now.list.stands }
+        ensures is { result ≡ position_or_len (has_bid bid.now) self.now.list.current }
+        ensures within { result ≤ length self.now.list.current }
     {
         let len = self.entries.len();
         match self.older.get(&ByBid { bid }) {
@@ -102,9 +102,9 @@ impl BatchList {
 
     // The place of the batch of this bid, from the place `first` on; the number of batches where there is none.
     fn find_from(&self, first: usize, bid: &[u8]) -> usize
-        requires { first ≤ length self.now.list.stands }
-        ensures is { result ≡ first + position_or_len (has_bid bid.now) (drop first self.now.list.stands) }
-        ensures within { result ≤ length self.now.list.stands }
+        requires { first ≤ length self.now.list.current }
+        ensures is { result ≡ first + position_or_len (has_bid bid.now) (drop first self.now.list.current) }
+        ensures within { result ≤ length self.now.list.current }
     {
         let at = self.find(bid);
         if at < first { self.len() } else { at }
@@ -112,12 +112,12 @@ impl BatchList {
 
     /// The batch at a place, and the place of its parent; the number of batches where it has none.
     pub fn climb(&self, at: usize) -> (&(State, Batch), usize)
-        requires { at < length self.now.list.stands }
-        ensures entry { result.0.now ≡ slice_index_or self.now.list.stands at result.0.now }
-        ensures above { result.1 ≡ at + way_up (drop at self.now.list.stands) }
-        ensures line { line_of_first (drop at self.now.list.stands) ≡ result.0.now ∷ line_of_first (drop result.1 self.now.list.stands) }
+        requires { at < length self.now.list.current }
+        ensures entry { result.0.now ≡ slice_index_or self.now.list.current at result.0.now }
+        ensures above { result.1 ≡ at + way_up (drop at self.now.list.current) }
+        ensures ancestors { first_ancestors (drop at self.now.list.current) ≡ result.0.now ∷ first_ancestors (drop result.1 self.now.list.current) }
         ensures after { at < result.1 }
-        ensures within { result.1 ≤ length self.now.list.stands }
+        ensures within { result.1 ≤ length self.now.list.current }
     {
         let end = self.entries.len();
         let entry = self.entries.get(at);
@@ -140,9 +140,9 @@ impl BatchList {
     /// Puts in a new batch, with a copy of its bid.
     pub fn put_first(&mut self, bid: Word, state: State, batch: Batch)
         requires bid { bid ≡ batch.bid }
-        requires new { list_any (has_bid bid) self.old.list.stands ≡ false }
+        requires new { list_any (has_bid bid) self.old.list.current ≡ false }
         requires room { 0 < self.old.room }
-        ensures list { self.new.list ≡ edited ((state, batch) ∷ self.old.list.stands) self.old.list }
+        ensures list { self.new.list ≡ edited ((state, batch) ∷ self.old.list.current) self.old.list }
         ensures room { self.old.room ≤ self.new.room + 1 }
     {
         let older = self.entries.len() as u64;
@@ -152,9 +152,9 @@ impl BatchList {
 
     /// Gives the batch at a place another state.
     pub fn set_state(&mut self, at: usize, state: State)
-        requires within { at < length self.old.list.stands }
+        requires within { at < length self.old.list.current }
         requires room { 0 < self.old.room }
-        ensures list { self.new.list ≡ edited (moved at at state self.old.list.stands) self.old.list }
+        ensures list { self.new.list ≡ edited (moved at at state self.old.list.current) self.old.list }
         ensures room { self.old.room ≤ self.new.room + 1 }
     {
         self.entries.shift(at, at, state);
@@ -162,7 +162,7 @@ impl BatchList {
 
     /// Opens a step. Takes no memory.
     pub fn begin(&mut self)
-        requires { self.old.list.stood ≡ None }
+        requires { self.old.list.saved ≡ None }
         ensures { self.new.list ≡ begun self.old.list }
     {
         self.entries.begin();
@@ -171,7 +171,7 @@ impl BatchList {
 
     /// Closes the step, and what stood at its begin stands again. Takes no memory.
     pub fn undo(&mut self)
-        requires { IsSome self.old.list.stood }
+        requires { IsSome self.old.list.saved }
         ensures { self.new.list ≡ undone self.old.list }
     {
         self.entries.undo();
@@ -180,7 +180,7 @@ impl BatchList {
 
     /// Closes the step, and what stands now stays. Takes no memory.
     pub fn commit(&mut self)
-        requires { IsSome self.old.list.stood }
+        requires { IsSome self.old.list.saved }
         ensures { self.new.list ≡ committed self.old.list }
     {
         self.entries.commit();

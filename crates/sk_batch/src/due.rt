@@ -4,17 +4,17 @@ ghost use Rattle.sk_batch.specs.Due.{due, later_due};
 ghost use Rattle.sk_batch.specs.Numbers.{left_after};
 ghost use Rattle.sk_batch.specs.declared.numbers.Change.TheVariants.{Got};
 
+use crate::ancestors::fire_where;
 use crate::batch_list::BatchList;
 use crate::event::Event;
-use crate::line::fire_where;
 use crate::numbers::{Change, Left};
 use crate::state::State;
-use crate::{Batch, Firing, Kind, Marks, Memory};
-use sk_undo::Test;
+use crate::{Batch, Firing, Kind, Memory, Progress};
+use sk_undo::Predicate;
 use std::alloc::Global;
 
 // What is left under a batch once a member under it has got these marks.
-fn left_after(entry: &(State, Batch), gained: Marks) -> Left
+fn left_after(entry: &(State, Batch), gained: Progress) -> Left
     ensures { result ≡ left_after (Got gained) entry.now.0.numbers.under }
 {
     entry.0.numbers.under.after(Change::Got(gained))
@@ -23,10 +23,10 @@ fn left_after(entry: &(State, Batch), gained: Marks) -> Left
 // Passes the batches that weren't complete and whose members are all reported then.
 #[derive(Drop)]
 struct Completes {
-    gained: Marks,
+    gained: Progress,
 }
 
-impl Test<(State, Batch)> for Completes {
+impl Predicate<(State, Batch)> for Completes {
     ghost use Rattle.sk_batch.specs.Due.{completes_by};
 
     ghost passes = { λ t b. completes_by t.gained b };
@@ -39,10 +39,10 @@ impl Test<(State, Batch)> for Completes {
 // Passes the batches whose last open members return by this.
 #[derive(Drop)]
 struct Settles {
-    gained: Marks,
+    gained: Progress,
 }
 
-impl Test<(State, Batch)> for Settles {
+impl Predicate<(State, Batch)> for Settles {
     ghost use Rattle.sk_batch.specs.Due.{settles_by};
 
     ghost passes = { λ t b. settles_by t.gained b };
@@ -56,7 +56,7 @@ impl Test<(State, Batch)> for Settles {
 #[derive(Drop)]
 struct Dies;
 
-impl Test<(State, Batch)> for Dies {
+impl Predicate<(State, Batch)> for Dies {
     ghost use Rattle.sk_batch.specs.Due.{dies_yet};
 
     ghost passes = { λ t b. dies_yet b };
@@ -71,10 +71,10 @@ fn add_later(
     batches: &BatchList,
     bid: &[u8],
     event: Event,
-    gained: Marks,
+    gained: Progress,
     firings: &mut Vec<Firing>,
 ) -> Result<(), Memory>
-    ensures { OnOk result (firings.new.items ≡ firings.old.items ++ later_due event gained batches.now.list.stands bid.now) }
+    ensures { OnOk result (firings.new.items ≡ firings.old.items ++ later_due event gained batches.now.list.current bid.now) }
 {
     match event {
         Event::Reported => Ok(()),
@@ -89,9 +89,9 @@ pub fn due(
     batches: &BatchList,
     bid: &[u8],
     event: Event,
-    gained: Marks,
+    gained: Progress,
 ) -> Result<Vec<Firing>, Memory>
-    ensures { IfOk result (λ firings. firings.items ≡ due event gained batches.now.list.stands bid.now) }
+    ensures { IfOk result (λ firings. firings.items ≡ due event gained batches.now.list.current bid.now) }
 {
     let mut firings = Vec::new(alloc);
     let completes = Completes { gained };

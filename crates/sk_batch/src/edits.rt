@@ -6,23 +6,23 @@ ghost use Rattle.sk_batch.specs.Fires.{retagged, with_kind};
 ghost use Rattle.sk_batch.specs.Open.{with_mark};
 ghost use Rattle.sk_batch.specs.Order.{is_ordered, put_all};
 ghost use Rattle.sk_batch.specs.States.{all_fired, with_fired};
-ghost use Rattle.sk_undo.specs.Steps.{edited};
+ghost use Rattle.sk_undo.specs.Versions.{edited};
 
 use crate::batch_list::BatchList;
 use crate::members::place_for;
 use crate::state::State;
-use crate::{Fired, Firing, Kind, Mark, Marks, Member};
+use crate::{Fired, Firing, Kind, Mark, Member, Progress};
 use sk_undo::UndoList;
 
-fn with_mark(mark: Mark, marks: Marks) -> Marks
+fn with_mark(mark: Mark, marks: Progress) -> Progress
     ensures { result ≡ with_mark mark marks }
 {
     match mark {
-        Mark::Reported => Marks {
+        Mark::Reported => Progress {
             reported: true,
             ..marks
         },
-        Mark::Returned => Marks {
+        Mark::Returned => Progress {
             reported: true,
             returned: true,
         },
@@ -30,10 +30,10 @@ fn with_mark(mark: Mark, marks: Marks) -> Marks
 }
 
 /// Gives the member at a place the mark.
-pub fn mark_member(members: &mut UndoList<Marks, Member>, at: usize, mark: Mark)
-    requires within { at < length members.old.list.stands }
+pub fn mark_member(members: &mut UndoList<Progress, Member>, at: usize, mark: Mark)
+    requires within { at < length members.old.list.current }
     requires room { 0 < members.old.room }
-    ensures { (test : MemberEntry → Bool) → at ≡ position_or_len test members.old.list.stands → members.new.list ≡ edited (retagged test (with_mark mark) members.old.list.stands) members.old.list }
+    ensures { (test : MemberEntry → Bool) → at ≡ position_or_len test members.old.list.current → members.new.list ≡ edited (retagged test (with_mark mark) members.old.list.current) members.old.list }
 {
     let marks = members.get(at).0;
     members.shift(at, at, with_mark(mark, marks));
@@ -62,7 +62,7 @@ fn with_kind(kind: Kind, fired: Fired) -> Fired
 #[tactic(auto, using(crate::proofs::Places::retagged_none, crate::proofs::Places::no_position))]
 fn mark_one(batches: &mut BatchList, bid: &[u8], kind: Kind)
     requires { 0 < batches.old.room }
-    ensures list { batches.new.list ≡ edited (retagged (has_bid bid.now) (with_fired kind) batches.old.list.stands) batches.old.list }
+    ensures list { batches.new.list ≡ edited (retagged (has_bid bid.now) (with_fired kind) batches.old.list.current) batches.old.list }
     ensures room { batches.old.room ≤ batches.new.room + 1 }
 {
     let at = batches.find(bid);
@@ -76,7 +76,7 @@ fn mark_one(batches: &mut BatchList, bid: &[u8], kind: Kind)
 /// Marks what was fired.
 pub fn mark_fired(batches: &mut BatchList, firings: &[Firing])
     requires { length firings.now ≤ batches.old.room }
-    ensures list { batches.new.list ≡ edited (all_fired firings.now batches.old.list.stands) batches.old.list }
+    ensures list { batches.new.list ≡ edited (all_fired firings.now batches.old.list.current) batches.old.list }
     ensures room { batches.old.room ≤ batches.new.room + length firings.now }
 {
     for firing in firings {
@@ -86,10 +86,10 @@ pub fn mark_fired(batches: &mut BatchList, firings: &[Firing])
 
 /// Puts each of these members in at its place.
 #[tactic(auto, using(crate::proofs::Order::insert_put, crate::proofs::Order::ordered_put))]
-pub fn add_members(members: &mut UndoList<Marks, Member>, news: Vec<(Marks, Member)>)
+pub fn add_members(members: &mut UndoList<Progress, Member>, news: Vec<(Progress, Member)>)
     requires room { vec_len news ≤ members.old.room }
-    requires ordered { is_ordered members.old.list.stands ≡ true }
-    ensures { members.new.list ≡ edited (put_all news.items members.old.list.stands) members.old.list }
+    requires ordered { is_ordered members.old.list.current ≡ true }
+    ensures { members.new.list ≡ edited (put_all news.items members.old.list.current) members.old.list }
 {
     for new in news {
         let at = place_for(members, &new);

@@ -1,6 +1,7 @@
 //! Nested batches. A batch's success comes once: at the step that leaves no open job in it and in the batches within it.
 #![tactic(auto)]
 
+mod ancestors;
 mod batch;
 mod batch_fault;
 mod batch_list;
@@ -12,14 +13,13 @@ mod edits;
 mod event;
 mod faults;
 mod firing;
-mod line;
 mod make;
 mod member;
 mod members;
+mod notify;
 mod numbers;
 mod state;
 mod stats;
-mod told;
 
 pub use batch::{Batch, Fired};
 pub use batch_fault::BatchFault;
@@ -28,5 +28,5 @@ pub use batches::Batches;
 pub use callbacks::Callbacks;
 pub use event::Event;
 pub use firing::{Firing, Kind};
-pub use member::{Mark, Marks, Member};
+pub use member::{Mark, Member, Progress};
 pub use std::alloc::AllocError as Memory;

@@ -5,29 +5,33 @@ ghost use Rattle.sk_resp.specs.Spelling.{Bytes};
 ghost use Rattle.sk_batch.specs.Batched.{has_bid, is_there};
 ghost use Rattle.sk_batch.specs.Events.{made_fires, members_of, unfired};
 ghost use Rattle.sk_batch.specs.Fires.{after_fires};
-ghost use Rattle.sk_batch.specs.Lines.{line};
+ghost use Rattle.sk_batch.specs.Ancestors.{ancestors};
 ghost use Rattle.sk_batch.specs.Order.{put_all};
-ghost use Rattle.sk_batch.specs.States.{AreEdited, AreKept, new_state, seen_of};
+ghost use Rattle.sk_batch.specs.States.{AreEdited, BatchInvariant, new_state, seen_of};
 ghost use Rattle.sk_undo.specs.Balance.{most};
-ghost use Rattle.sk_undo.specs.Steps.{edited};
+ghost use Rattle.sk_undo.specs.Versions.{edited};
 
+use crate::ancestors::{change_ancestors, depth, firing};
 use crate::batch_list::BatchList;
 use crate::edits::add_members;
-use crate::line::{change_line, depth, firing};
 use crate::numbers::{Change, Numbers};
 use crate::state::State;
-use crate::{Batch, Fired, Firing, Kind, Marks, Member, Memory};
+use crate::{Batch, Fired, Firing, Kind, Member, Memory, Progress};
 use sk_resp::Word;
 use sk_undo::UndoList;
 use std::alloc::Global;
 
 // New members of a batch.
-fn new_members(alloc: Global, bid: &[u8], jids: Vec<Word>) -> Result<Vec<(Marks, Member)>, Memory>
+fn new_members(
+    alloc: Global,
+    bid: &[u8],
+    jids: Vec<Word>,
+) -> Result<Vec<(Progress, Member)>, Memory>
     ensures { IfOk result (λ news. news.items ≡ members_of bid.now jids.items) }
 {
     let mut news = Vec::new(alloc);
     for jid in jids {
-        let marks = Marks {
+        let marks = Progress {
             reported: false,
             returned: false,
         };
@@ -40,20 +44,20 @@ fn new_members(alloc: Global, bid: &[u8], jids: Vec<Word>) -> Result<Vec<(Marks,
 // New members come to a batch, and to the numbers of those that it is in.
 fn enter(
     batches: &mut BatchList,
-    members: &mut UndoList<Marks, Member>,
+    members: &mut UndoList<Progress, Member>,
     bid: &[u8],
-    news: Vec<(Marks, Member)>,
+    news: Vec<(Progress, Member)>,
 )
-    requires batches { length (line batches.old.list.stands bid.now) ≤ batches.old.room }
+    requires batches { length (ancestors batches.old.list.current bid.now) ≤ batches.old.room }
     requires members { vec_len news ≤ members.old.room }
-    requires kept { AreKept batches.old.list.stands members.old.list.stands }
-    requires there { is_there bid.now (seen_of batches.old.list.stands) ≡ true }
-    ensures batches { AreEdited batches.old.list batches.new.list (seen_of batches.old.list.stands) }
-    ensures members { members.new.list ≡ edited (put_all news.items members.old.list.stands) members.old.list }
-    ensures kept { (jids : List Bytes) → news.items ≡ members_of bid.now jids → vec_len news ≤ most → AreKept batches.new.list.stands members.new.list.stands }
+    requires kept { BatchInvariant batches.old.list.current members.old.list.current }
+    requires there { is_there bid.now (seen_of batches.old.list.current) ≡ true }
+    ensures batches { AreEdited batches.old.list batches.new.list (seen_of batches.old.list.current) }
+    ensures members { members.new.list ≡ edited (put_all news.items members.old.list.current) members.old.list }
+    ensures kept { (jids : List Bytes) → news.items ≡ members_of bid.now jids → vec_len news ≤ most → BatchInvariant batches.new.list.current members.new.list.current }
 {
     let _len = members.len(); // its contract says that there are no more than 2^60
-    change_line(batches, bid, Change::Came(news.len() as u64));
+    change_ancestors(batches, bid, Change::Came(news.len() as u64));
     add_members(members, news);
 }
 
@@ -61,15 +65,15 @@ fn enter(
 pub fn join(
     alloc: Global,
     batches: &mut BatchList,
-    members: &mut UndoList<Marks, Member>,
+    members: &mut UndoList<Progress, Member>,
     bid: &[u8],
     jids: Vec<Word>,
 ) -> Result<(), Memory>
-    requires kept { AreKept batches.old.list.stands members.old.list.stands }
-    requires there { is_there bid.now (seen_of batches.old.list.stands) ≡ true }
-    ensures batches { OnOk result (AreEdited batches.old.list batches.new.list (seen_of batches.old.list.stands)) }
-    ensures members { OnOk result (members.new.list ≡ edited (put_all (members_of bid.now jids.items) members.old.list.stands) members.old.list) }
-    ensures kept { OnOk result (AreKept batches.new.list.stands members.new.list.stands) }
+    requires kept { BatchInvariant batches.old.list.current members.old.list.current }
+    requires there { is_there bid.now (seen_of batches.old.list.current) ≡ true }
+    ensures batches { OnOk result (AreEdited batches.old.list batches.new.list (seen_of batches.old.list.current)) }
+    ensures members { OnOk result (members.new.list ≡ edited (put_all (members_of bid.now jids.items) members.old.list.current) members.old.list) }
+    ensures kept { OnOk result (BatchInvariant batches.new.list.current members.new.list.current) }
     ensures err_batches { OnErr result (batches.new.list ≡ batches.old.list) }
     ensures err_members { OnErr result (members.new.list ≡ members.old.list) }
 {
@@ -110,14 +114,14 @@ fn new_state(empty: bool) -> State
 // Puts in a new batch with its state, and takes all memory for it and for this many members.
 fn add_batch(
     batches: &mut BatchList,
-    members: &mut UndoList<Marks, Member>,
+    members: &mut UndoList<Progress, Member>,
     state: State,
     batch: Batch,
     count: usize,
 ) -> Result<(), Memory>
-    requires { list_any (has_bid batch.bid) batches.old.list.stands ≡ false }
-    ensures batches { OnOk result (batches.new.list ≡ edited ((state, batch) ∷ batches.old.list.stands) batches.old.list) }
-    ensures room { OnOk result (length (line batches.new.list.stands batch.bid) ≤ batches.new.room) }
+    requires { list_any (has_bid batch.bid) batches.old.list.current ≡ false }
+    ensures batches { OnOk result (batches.new.list ≡ edited ((state, batch) ∷ batches.old.list.current) batches.old.list) }
+    ensures room { OnOk result (length (ancestors batches.new.list.current batch.bid) ≤ batches.new.room) }
     ensures members { OnOk result (count ≤ members.new.room) }
     ensures same { members.new.list ≡ members.old.list }
     ensures err { OnErr result (batches.new.list ≡ batches.old.list) }
@@ -138,16 +142,16 @@ fn add_batch(
 pub fn make(
     alloc: Global,
     batches: &mut BatchList,
-    members: &mut UndoList<Marks, Member>,
+    members: &mut UndoList<Progress, Member>,
     batch: Batch,
     jids: Vec<Word>,
 ) -> Result<Vec<Firing>, Memory>
-    requires kept { AreKept batches.old.list.stands members.old.list.stands }
-    requires new { is_there batch.bid (seen_of batches.old.list.stands) ≡ false }
+    requires kept { BatchInvariant batches.old.list.current members.old.list.current }
+    requires new { is_there batch.bid (seen_of batches.old.list.current) ≡ false }
     ensures fires { IfOk result (λ firings. firings.items ≡ made_fires batch jids.items) }
-    ensures batches { OnOk result (AreEdited batches.old.list batches.new.list (after_fires (made_fires batch jids.items) ((unfired, batch) ∷ seen_of batches.old.list.stands))) }
-    ensures members { OnOk result (members.new.list ≡ edited (put_all (members_of batch.bid jids.items) members.old.list.stands) members.old.list) }
-    ensures kept { OnOk result (AreKept batches.new.list.stands members.new.list.stands) }
+    ensures batches { OnOk result (AreEdited batches.old.list batches.new.list (after_fires (made_fires batch jids.items) ((unfired, batch) ∷ seen_of batches.old.list.current))) }
+    ensures members { OnOk result (members.new.list ≡ edited (put_all (members_of batch.bid jids.items) members.old.list.current) members.old.list) }
+    ensures kept { OnOk result (BatchInvariant batches.new.list.current members.new.list.current) }
     ensures err_batches { OnErr result (batches.new.list ≡ batches.old.list) }
     ensures err_members { OnErr result (members.new.list ≡ members.old.list) }
 {

@@ -12,7 +12,7 @@ pub enum Mark {
 
 /// What has come of a member.
 #[derive(Clone, Copy, Debug, PartialEq, Eq, Drop)]
-pub struct Marks {
+pub struct Progress {
     pub reported: bool,
     pub returned: bool,
 }

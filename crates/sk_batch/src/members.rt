@@ -4,8 +4,8 @@ ghost use Rattle.std.specs.List.{position_or_len};
 ghost use Rattle.sk_batch.specs.Batched.{is_job};
 ghost use Rattle.sk_batch.specs.Order.{is_ordered, precedes};
 
-use crate::{Marks, Member};
-use sk_undo::{Test, UndoList};
+use crate::{Member, Progress};
+use sk_undo::{Predicate, UndoList};
 
 // Passes the members that are this job in this batch.
 #[derive(Drop)]
@@ -14,10 +14,10 @@ struct IsJob<'a> {
     jid: &'a [u8],
 }
 
-impl<'a> Test<(Marks, Member)> for IsJob<'a> {
+impl<'a> Predicate<(Progress, Member)> for IsJob<'a> {
     ghost passes = { λ t m. is_job t.bid.now t.jid.now m };
 
-    fn test(&self, entry: &(Marks, Member)) -> bool {
+    fn test(&self, entry: &(Progress, Member)) -> bool {
         entry.1.bid.bytes() == self.bid && entry.1.jid.bytes() == self.jid
     }
 }
@@ -29,12 +29,12 @@ struct NotBefore<'a> {
     jid: &'a [u8],
 }
 
-impl<'a> Test<(Marks, Member)> for NotBefore<'a> {
+impl<'a> Predicate<(Progress, Member)> for NotBefore<'a> {
     ghost use Rattle.sk_batch.specs.Order.{precedes};
 
     ghost passes = { λ t m. not (precedes m.1 (record { bid = t.bid.now; jid = t.jid.now })) };
 
-    fn test(&self, entry: &(Marks, Member)) -> bool {
+    fn test(&self, entry: &(Progress, Member)) -> bool {
         !entry
             .1
             .bid
@@ -48,15 +48,15 @@ impl<'a> Test<(Marks, Member)> for NotBefore<'a> {
 // Passes the members that a new one is to stand before.
 #[derive(Drop)]
 struct Behind<'a> {
-    new: &'a (Marks, Member),
+    new: &'a (Progress, Member),
 }
 
-impl<'a> Test<(Marks, Member)> for Behind<'a> {
+impl<'a> Predicate<(Progress, Member)> for Behind<'a> {
     ghost use Rattle.sk_batch.specs.Order.{precedes};
 
     ghost passes = { λ t m. precedes t.new.now.1 m.1 };
 
-    fn test(&self, entry: &(Marks, Member)) -> bool {
+    fn test(&self, entry: &(Progress, Member)) -> bool {
         self.new
             .1
             .bid
@@ -68,12 +68,12 @@ impl<'a> Test<(Marks, Member)> for Behind<'a> {
 
 /// The place of the job among the members; the number of members where it is none of this batch. Logarithmic.
 #[tactic(auto, using(crate::proofs::Order::found_here))]
-pub fn member_at(members: &UndoList<Marks, Member>, bid: &[u8], jid: &[u8]) -> usize
-    requires { is_ordered members.now.list.stands ≡ true }
-    ensures is { result ≡ position_or_len (is_job bid.now jid.now) members.now.list.stands }
-    ensures within { result ≤ length members.now.list.stands }
+pub fn member_at(members: &UndoList<Progress, Member>, bid: &[u8], jid: &[u8]) -> usize
+    requires { is_ordered members.now.list.current ≡ true }
+    ensures is { result ≡ position_or_len (is_job bid.now jid.now) members.now.list.current }
+    ensures within { result ≤ length members.now.list.current }
 {
-    let at = members.first_where(&NotBefore { bid, jid });
+    let at = members.partition_point(&NotBefore { bid, jid });
     let end = members.len();
     if at == end {
         return end;
@@ -86,10 +86,10 @@ pub fn member_at(members: &UndoList<Marks, Member>, bid: &[u8], jid: &[u8]) -> u
 }
 
 /// The place that a new member is to have. Logarithmic.
-pub fn place_for(members: &UndoList<Marks, Member>, new: &(Marks, Member)) -> usize
-    requires { is_ordered members.now.list.stands ≡ true }
-    ensures is { result ≡ position_or_len (λ m. precedes new.now.1 m.1) members.now.list.stands }
-    ensures within { result ≤ length members.now.list.stands }
+pub fn place_for(members: &UndoList<Progress, Member>, new: &(Progress, Member)) -> usize
+    requires { is_ordered members.now.list.current ≡ true }
+    ensures is { result ≡ position_or_len (λ m. precedes new.now.1 m.1) members.now.list.current }
+    ensures within { result ≤ length members.now.list.current }
 {
-    members.first_where(&Behind { new })
+    members.partition_point(&Behind { new })
 }

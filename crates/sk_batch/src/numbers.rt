@@ -2,7 +2,7 @@
 ghost use Rattle.std.specs.Prelude.{◌≡◌, true};
 ghost use Rattle.sk_batch.specs.Numbers.{changed, gained, left_after, no_numbers, one_if};
 
-use crate::{Mark, Marks};
+use crate::{Mark, Progress};
 
 /// How many members of some are still to come.
 #[derive(Clone, Copy, Drop)]
@@ -30,7 +30,7 @@ pub enum Change {
     /// So many new members of the batch.
     Came(u64),
     /// Marks that a member of the batch hadn't.
-    Got(Marks),
+    Got(Progress),
 }
 
 fn one_if(b: bool) -> u64
@@ -40,15 +40,15 @@ fn one_if(b: bool) -> u64
 }
 
 /// Which marks a member gets by this one, of those that it hasn't.
-pub fn gained(mark: Mark, marks: Marks) -> Marks
+pub fn gained(mark: Mark, marks: Progress) -> Progress
     ensures { result ≡ gained mark marks }
 {
     match mark {
-        Mark::Reported => Marks {
+        Mark::Reported => Progress {
             reported: !marks.reported,
             returned: false,
         },
-        Mark::Returned => Marks {
+        Mark::Returned => Progress {
             reported: !marks.reported,
             returned: !marks.returned,
         },

@@ -1,16 +1,20 @@
 // The numbers of a batch, as they are kept with it.
 ghost use Rattle.std.specs.Prelude.{◌≡◌, IfSome};
 ghost use Rattle.sk_batch.specs.Stat.{IsSmall, stat};
-ghost use Rattle.sk_batch.specs.States.{AreKept, of_lists, seen_of};
+ghost use Rattle.sk_batch.specs.States.{BatchInvariant, of_lists, seen_of};
 
 use crate::batch_list::BatchList;
-use crate::{BatchStat, Marks, Member};
+use crate::{BatchStat, Member, Progress};
 use sk_undo::UndoList;
 
 /// The numbers of a batch, where it was made.
-pub fn stat(batches: &BatchList, members: &UndoList<Marks, Member>, bid: &[u8]) -> Option<BatchStat>
-    requires { AreKept batches.now.list.stands members.now.list.stands }
-    ensures is { result ≡ stat bid.now (of_lists (seen_of batches.now.list.stands) members.now.list.stands) }
+pub fn stat(
+    batches: &BatchList,
+    members: &UndoList<Progress, Member>,
+    bid: &[u8],
+) -> Option<BatchStat>
+    requires { BatchInvariant batches.now.list.current members.now.list.current }
+    ensures is { result ≡ stat bid.now (of_lists (seen_of batches.now.list.current) members.now.list.current) }
     ensures small { IfSome result IsSmall }
 {
     let _len = members.len(); // its contract says that there are no more than 2^60

@@ -1,5 +1,6 @@
 -- Many jobs pushed to one queue, slice by slice.
-use Rattle.std.specs.Prelude.{◌≡◌, ◌<◌, ◌≤◌, ◌+◌, ◌^◌, ◌++◌, ℕ, true, false, List, [], ◌∷◌, length, drop, All}
+use Rattle.std.specs.Prelude.{◌≡◌, ◌<◌, ◌≤◌, ◌+◌, ◌++◌, ℕ, true, false, List, [], ◌∷◌, length, drop, All}
+use Rattle.sk_base.specs.declared.limits.TheConstants.{LONGEST_COMMAND}
 use Rattle.sk_resp.specs.Spelling.{Bytes, total_length}
 use Rattle.sk_resp.specs.declared.reply.Reply.{Reply}
 use Rattle.sk_link.specs.Call.{Call}
@@ -29,8 +30,8 @@ pub record IsSlice (queue : Bytes) (most : ℕ) (left slice rest : List Bytes) :
   pub is : left ≡ slice ++ rest
   pub some : 0 < length slice
   pub few : length slice ≤ most
-  pub small : request_length queue slice ≤ 2 ^ 24
-  pub full : (next : Bytes) (more : List Bytes) → length slice < most → rest ≡ next ∷ more → 2 ^ 24 < request_length queue (slice ++ next ∷ [])
+  pub small : request_length queue slice ≤ LONGEST_COMMAND
+  pub full : (next : Bytes) (more : List Bytes) → length slice < most → rest ≡ next ∷ more → LONGEST_COMMAND < request_length queue (slice ++ next ∷ [])
 
 -- The calls push the texts, up to these that are left: each the next slice, and each accepted with a number.
 abbrev pub PushesSlices : Bytes → ℕ → List Bytes → List Call → List Bytes → Type 0

@@ -5,17 +5,16 @@ ghost use Rattle.sk_client.specs.Push.{Accepted, Fails, HasLinkCause};
 ghost use Rattle.sk_client.specs.Making.{IsOfNoDraft, lpush_slice};
 ghost use Rattle.sk_client.specs.Requests.{lpush_words};
 ghost use Rattle.sk_client.specs.Bulk.{NameOneQueue, IsSlice, StopsAt, PushesFirst, PushesAll, FailsAt};
+ghost use Rattle.sk_base.specs.declared.limits.TheConstants.{LONGEST_JOB, LONGEST_NAME, MOST_SLICE};
 
 use crate::send::send;
 use crate::words::{add_drafts, queue_key};
 use crate::{ClientFault, Memory};
+use sk_base::limits::LONGEST_COMMAND;
 use sk_link::{Answer, Link, words_of};
 use sk_payload::JobDraft;
 use sk_resp::{Word, Words};
 use std::alloc::Global;
-
-/// The most bytes of a request's words together: 16 MiB.
-const MOST_BYTES: usize = 16_777_216;
 
 /// Why not all jobs were pushed.
 #[derive(Drop)]
@@ -30,13 +29,13 @@ pub struct BulkFault {
 fn slice_len(queue: &str, texts: &[Word], most: usize) -> usize
     requires some { 0 < length texts.now }
     requires most { 0 < most }
-    requires name { length queue.now ≤ 255 }
-    requires short { All (λ text. length text ≤ 1000000) texts.now }
+    requires name { length queue.now ≤ LONGEST_NAME }
+    requires short { All (λ text. length text ≤ LONGEST_JOB) texts.now }
     ensures within { result ≤ length texts.now }
     ensures slice { IsSlice queue.now most texts.now (take result texts.now) (drop result texts.now) }
 {
     let end = most.min(texts.len());
-    let mut room = MOST_BYTES - b"LPUSH".len() - b"queue:".len() - queue.len();
+    let mut room = LONGEST_COMMAND - b"LPUSH".len() - b"queue:".len() - queue.len();
     for (n, text) in texts[..end].iter().enumerate() {
         let size = text.bytes().len();
         if size > room {
@@ -86,8 +85,8 @@ fn push_slices<L: Link>(
     most: usize,
 ) -> Result<(), BulkFault>
     requires most { 0 < most }
-    requires name { length queue.now ≤ 255 }
-    requires short { All (λ text. length text ≤ 1000000) texts.now }
+    requires name { length queue.now ≤ LONGEST_NAME }
+    requires short { All (λ text. length text ≤ LONGEST_JOB) texts.now }
     ensures ok { IfOk result (λ _. PushesFirst (L.carried link.old link.new) queue.now most texts.now (length texts.now)) }
     ensures err { IfErr result (λ e. StopsAt (L.carried link.old link.new) queue.now most texts.now e.sent e.fault) }
     ensures cause { IfErr result (λ e. HasLinkCause (L.faults link.old) (L.faults link.new) (L.has_ended link.old) (L.unread link.new) e.fault) }
@@ -116,7 +115,7 @@ pub fn push_bulk<L: Link>(
 ) -> Result<u64, BulkFault>
     requires queue { NameOneQueue drafts.now }
     requires some { 1 ≤ slice }
-    requires few { slice ≤ 1000 }
+    requires few { slice ≤ MOST_SLICE }
     ensures ok { IfOk result (PushesAll (L.carried link.old link.new) drafts.now slice) }
     ensures err { IfErr result (λ e. FailsAt (L.carried link.old link.new) drafts.now slice e.sent e.fault) }
     ensures cause { IfErr result (λ e. HasLinkCause (L.faults link.old) (L.faults link.new) (L.has_ended link.old) (L.unread link.new) e.fault) }

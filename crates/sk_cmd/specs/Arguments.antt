@@ -6,6 +6,7 @@ use Rattle.sk_base.specs.Score.{IsScore}
 use Rattle.sk_base.specs.declared.score.ScoreFault.{ScoreFault}
 use Rattle.sk_base.specs.declared.bound.Bound.{Bound}
 use Rattle.sk_base.specs.declared.bound.Bound.TheVariants as bound
+use Rattle.sk_base.specs.declared.limits.TheConstants.{MOST_DUE}
 use Rattle.sk_resp.specs.Spelling.{Bytes}
 use Rattle.sk_resp.specs.Number.{IsInt}
 use Rattle.sk_resp.specs.Request.{Command as Words}
@@ -52,7 +53,7 @@ IsSlot text out = Then (IsWhole text) out (λ z. MatchBool (int_lt z (pos 0)) (o
 -- one from 1 to 1,000
 abbrev pub IsLimit : Bytes → Read ℤ → Type 0
 IsLimit text out = (n : Option ℤ) × IsInt text n × MatchOption n (out ≡ Err fault.Syntax)
-    (λ z. MatchBool (int_lt z (pos 1)) (out ≡ Err fault.Syntax) (MatchBool (int_lt (pos 1000) z) (out ≡ Err fault.Syntax) (out ≡ Ok z)))
+    (λ z. MatchBool (int_lt z (pos 1)) (out ≡ Err fault.Syntax) (MatchBool (int_lt MOST_DUE z) (out ≡ Err fault.Syntax) (out ≡ Ok z)))
 
 -- ## Scores and bounds
 

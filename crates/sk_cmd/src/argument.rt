@@ -4,6 +4,7 @@ ghost use Rattle.std.specs.Str.{str_eq_ignore_ascii_case};
 ghost use Rattle.sk_cmd.specs.Arguments.{IsDueSet, IsLimit, IsScored, IsSide, IsSlot, IsWhole};
 
 use crate::CmdFault;
+use sk_base::limits::MOST_DUE;
 use sk_resp::read_int;
 
 /// An end of a list.
@@ -126,7 +127,7 @@ pub fn read_limit(text: &[u8]) -> Result<i64, CmdFault>
     if n < 1 {
         return Err(CmdFault::Syntax);
     }
-    if n > 1000 {
+    if n > MOST_DUE {
         return Err(CmdFault::Syntax);
     }
     Ok(n)

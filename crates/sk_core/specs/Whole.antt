@@ -8,9 +8,9 @@ use Rattle.sk_seats.specs.Phases.{is_plain}
 use Rattle.sk_seats.specs.declared.phase.Phase.{Phase}
 use Rattle.sk_model.specs.Covered.{IsCovered}
 use Rattle.sk_model.specs.Life.{IsSound}
-use Rattle.sk_model.specs.Outcome.{Comes, Outcome, refuses}
-use Rattle.sk_model.specs.Seats.{adds, is_workers}
-use Rattle.sk_model.specs.Step.{Steps, act}
+use Rattle.sk_model.specs.Outcome.{Realizes, Outcome, refuses}
+use Rattle.sk_model.specs.Seats.{adds, is_worker_action}
+use Rattle.sk_model.specs.Step.{MayComeTo, act}
 use Rattle.sk_model.specs.Workers.{work}
 use Rattle.sk_model.specs.World.{World}
 use Rattle.sk_store.specs.Stored.{IsReady, world}
@@ -19,11 +19,11 @@ use Rattle.sk_store.specs.declared.store.Store.{Store}
 -- What a seat in this phase sends, by whether its command only reads: a worker's command, or one that all seats may send, or, from a Plain seat, any
 -- other.
 abbrev pub sent_by : World → ℕ → Phase → Bool → Action → Outcome
-sent_by w seat phase reads action = cond (is_workers action) (work w seat phase action) (cond (is_plain phase || (reads || adds action)) (act w action) (refuses OutOfTurn))
+sent_by w seat phase reads action = cond (is_worker_action action) (work w seat phase action) (cond (is_plain phase || (reads || adds action)) (act w action) (refuses OutOfTurn))
 
 -- The store did what it makes of the command at this moment, or starved.
-abbrev pub Serves : Store → ℕ → ℕ → Command → Reply → Store → Type 0
-Serves old seat now command reply new = (o : Outcome) × Steps (world old) seat now command o × Comes (world old) o reply (world new)
+abbrev pub AnswersCommand : Store → ℕ → ℕ → Command → Reply → Store → Type 0
+AnswersCommand old seat now command reply new = (o : Outcome) × MayComeTo (world old) seat now command o × Realizes (world old) o reply (world new)
 
 -- Each live job is kept, each pushed row is accounted for, and the callbacks that were pushed are no more than were fired.
 pub record KeepsLaws (w : World) : Type 0 where
@@ -31,6 +31,6 @@ pub record KeepsLaws (w : World) : Type 0 where
   pub covered : IsCovered w.tally.inner w.batches
 
 -- no step is open, and the laws are kept
-pub record IsKept (s : Store) : Type 0 where
+pub record StoreInvariant (s : Store) : Type 0 where
   pub ready : IsReady s
   pub laws : KeepsLaws (world s)

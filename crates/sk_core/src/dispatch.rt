@@ -4,11 +4,11 @@ ghost use Rattle.sk_cmd.specs.declared.command.Command.TheVariants as Command;
 ghost use Rattle.sk_model.specs.Seats.{releases};
 ghost use Rattle.sk_model.specs.Step.{run};
 ghost use Rattle.sk_model.specs.World.{phase_of};
-ghost use Rattle.sk_jobs.specs.Calls.{AreCovered};
-ghost use Rattle.sk_store.specs.Stored.{IsReady, Runs, world};
-ghost use Rattle.sk_core.specs.Whole.{Serves, sent_by};
+ghost use Rattle.sk_jobs.specs.Callbacks.{AreCovered};
+ghost use Rattle.sk_store.specs.Stored.{IsReady, Executes, world};
+ghost use Rattle.sk_core.specs.Whole.{AnswersCommand, sent_by};
 
-use crate::rights::{adds, is_plain, is_workers};
+use crate::rights::{adds, is_plain, is_worker_action};
 use sk_cmd::{Command, PlainCommand, ScriptCommand};
 use sk_jobs::{
     BatchWords, add_to_batch, back, batch_stat, beat, bury, cron, discard, due, fail, join, kill,
@@ -22,10 +22,10 @@ use sk_value::{Action, action_of, refused};
 // Does what a seat's command on keys does. Where memory runs out it was no release.
 fn run_plain(store: &mut Store, seat: u32, reads: bool, action: Action) -> Result<Reply, Memory>
     requires { IsReady store.old }
-    ensures ran { Runs store.old (sent_by (world store.old) seat (phase_of (world store.old) seat) reads action) result store.new }
+    ensures ran { Executes store.old (sent_by (world store.old) seat (phase_of (world store.old) seat) reads action) result store.new }
     ensures release { OnErr result (releases (phase_of (world store.old) seat) action ≡ false) }
 {
-    if is_workers(&action) {
+    if is_worker_action(&action) {
         return work(store, seat, action);
     }
     if is_plain(store.seats.get(seat)) || reads || adds(&action) {
@@ -38,7 +38,7 @@ fn run_plain(store: &mut Store, seat: u32, reads: bool, action: Action) -> Resul
 // Does it at a moment.
 fn step_plain(store: &mut Store, seat: u32, now: u64, command: PlainCommand) -> Reply
     requires { IsReady store.old }
-    ensures served { Serves store.old seat now (Command.Plain command) result store.new }
+    ensures served { AnswersCommand store.old seat now (Command.Plain command) result store.new }
     ensures ready { IsReady store.new }
 {
     let reads = command.is_read();
@@ -54,7 +54,7 @@ fn step_plain(store: &mut Store, seat: u32, now: u64, command: PlainCommand) -> 
 fn run_script(store: &mut Store, seat: u32, script: ScriptCommand) -> Result<Reply, Memory>
     requires ready { IsReady store.old }
     requires covered { AreCovered store.old }
-    ensures { Runs store.old (run (world store.old) seat (phase_of (world store.old) seat) script) result store.new }
+    ensures { Executes store.old (run (world store.old) seat (phase_of (world store.old) seat) script) result store.new }
 {
     match script {
         ScriptCommand::Beat(ident) => beat(store, &ident),
@@ -94,7 +94,7 @@ fn run_script(store: &mut Store, seat: u32, script: ScriptCommand) -> Result<Rep
 fn step_script(store: &mut Store, seat: u32, now: u64, script: ScriptCommand) -> Reply
     requires ready { IsReady store.old }
     requires covered { AreCovered store.old }
-    ensures served { Serves store.old seat now (Command.Script script) result store.new }
+    ensures served { AnswersCommand store.old seat now (Command.Script script) result store.new }
     ensures ready { IsReady store.new }
 {
     store.pass(now);
@@ -108,7 +108,7 @@ fn step_script(store: &mut Store, seat: u32, now: u64, script: ScriptCommand) ->
 pub fn step(store: &mut Store, seat: u32, now: u64, command: Command) -> Reply
     requires ready { IsReady store.old }
     requires covered { AreCovered store.old }
-    ensures served { Serves store.old seat now command result store.new }
+    ensures served { AnswersCommand store.old seat now command result store.new }
     ensures ready { IsReady store.new }
 {
     match command {

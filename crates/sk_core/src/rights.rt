@@ -2,13 +2,13 @@
 ghost use Rattle.std.specs.Prelude.{◌≡◌};
 ghost use Rattle.sk_key.specs.Class.{class_of, is_private};
 ghost use Rattle.sk_seats.specs.Phases.{is_plain};
-ghost use Rattle.sk_model.specs.Seats.{adds, adds_on, is_workers, works_on};
+ghost use Rattle.sk_model.specs.Seats.{adds, may_push, is_worker_action, is_worker_write};
 ghost use Rattle.sk_key.specs.declared.key_class.KeyClass.TheVariants as KeyClass;
 
 use sk_cmd::Scored;
 use sk_key::{KeyClass, class_of};
 use sk_seats::Phase;
-use sk_value::{Action, Edit};
+use sk_value::{Action, WriteOp};
 
 /// Whether the seat is no worker's.
 pub fn is_plain(phase: &Phase) -> bool
@@ -21,15 +21,15 @@ pub fn is_plain(phase: &Phase) -> bool
 }
 
 // A worker's edits: ZADD on `retry`, and LREM on a private list.
-fn works_on(class: KeyClass, edit: &Edit) -> bool
-    ensures { result ≡ works_on class edit.now }
+fn is_worker_write(class: KeyClass, edit: &WriteOp) -> bool
+    ensures { result ≡ is_worker_write class edit.now }
 {
     match edit {
-        Edit::Zadd(_) => match class {
+        WriteOp::Zadd(_) => match class {
             KeyClass::Jobs(Scored::Retry) => true,
             _ => false,
         },
-        Edit::Lrem(_, _) => match class {
+        WriteOp::Lrem(_, _) => match class {
             KeyClass::Private | KeyClass::NoPrivate => true,
             _ => false,
         },
@@ -48,30 +48,30 @@ fn is_private(class: KeyClass) -> bool
 }
 
 /// Whether the command is a worker's: one of its edits, or LMOVE to a private list.
-pub fn is_workers(action: &Action) -> bool
-    ensures { result ≡ is_workers action.now }
+pub fn is_worker_action(action: &Action) -> bool
+    ensures { result ≡ is_worker_action action.now }
 {
     match action {
-        Action::Edit(key, edit) => works_on(class_of(key.bytes()), edit),
+        Action::WriteOp(key, edit) => is_worker_write(class_of(key.bytes()), edit),
         Action::Move(_, destination, _, _) => is_private(class_of(destination.bytes())),
         _ => false,
     }
 }
 
 // The edits that every seat may send: the pushes from outside, and names into `queues`.
-fn adds_on(class: KeyClass, edit: &Edit) -> bool
-    ensures { result ≡ adds_on class edit.now }
+fn may_push(class: KeyClass, edit: &WriteOp) -> bool
+    ensures { result ≡ may_push class edit.now }
 {
     match edit {
-        Edit::Push(_, _) => match class {
+        WriteOp::Push(_, _) => match class {
             KeyClass::Queue => true,
             _ => false,
         },
-        Edit::Sadd(_) => match class {
+        WriteOp::Sadd(_) => match class {
             KeyClass::Queues => true,
             _ => false,
         },
-        Edit::Zadd(_) => match class {
+        WriteOp::Zadd(_) => match class {
             KeyClass::Jobs(Scored::Schedule) => true,
             _ => false,
         },
@@ -84,7 +84,7 @@ pub fn adds(action: &Action) -> bool
     ensures { result ≡ adds action.now }
 {
     match action {
-        Action::Edit(key, edit) => adds_on(class_of(key.bytes()), edit),
+        Action::WriteOp(key, edit) => may_push(class_of(key.bytes()), edit),
         _ => false,
     }
 }

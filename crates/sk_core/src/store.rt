@@ -1,9 +1,9 @@
 // The store, in which each live job stands and each pushed row is accounted for.
 ghost use Rattle.std.specs.Prelude.{◌≡◌, ◌+◌, IfOk};
 ghost use Rattle.sk_model.specs.Change.{perform};
-ghost use Rattle.sk_model.specs.Outcome.{Comes, Outcome};
+ghost use Rattle.sk_model.specs.Outcome.{Realizes, Outcome};
 ghost use Rattle.sk_model.specs.Status.{numbers};
-ghost use Rattle.sk_model.specs.Step.{Steps, cut};
+ghost use Rattle.sk_model.specs.Step.{MayComeTo, cut};
 ghost use Rattle.sk_model.specs.World.{first, phase_of};
 ghost use Rattle.sk_jobs.specs.Counting.{tally_of};
 ghost use Rattle.sk_core.specs.Whole.{KeepsLaws};
@@ -34,9 +34,9 @@ impl Model for Core {
 
     ghost view = { λ core. world core.store };
 
-    ghost use Rattle.sk_core.specs.Whole.{IsKept};
+    ghost use Rattle.sk_core.specs.Whole.{StoreInvariant};
 
-    ghost invariant = { λ core. IsKept core.store };
+    ghost invariant = { λ core. StoreInvariant core.store };
 }
 
 impl Core {
@@ -54,7 +54,7 @@ impl Core {
     /// The greatest moment that the store was handed counts. Where memory runs out the reply says so, and time alone has gone on. A worker's
     /// release of its job takes no memory.
     pub fn step(&mut self, seat: u32, now: u64, command: Command) -> Reply
-        ensures { (o : Outcome) × Steps self.old seat now command o × Comes self.old o result self.new }
+        ensures { (o : Outcome) × MayComeTo self.old seat now command o × Realizes self.old o result self.new }
     {
         step(&mut self.store, seat, now, command)
     }

@@ -1,10 +1,11 @@
 -- The counters under `stat:`: jobs that ran, and runs that failed, in all and of each day.
-use Rattle.std.specs.Prelude.{ℕ, suc, ◌-◌, ◌^◌, ◌++◌, List, Option, min, codes, unwrap_or}
+use Rattle.std.specs.Prelude.{ℕ, suc, ◌-◌, ◌++◌, List, Option, min, codes, unwrap_or}
 use Rattle.std.specs.Map.{lookup}
 use Rattle.std.specs.BTreeMap.{is_at, insert_entry}
 use Rattle.std.specs.Cmp.Lexicographic.{slice_cmp}
 use Rattle.std.specs.Ordering.{nat_cmp}
 use Rattle.std.specs.declared.cmp.Ordering.{Ordering}
+use Rattle.sk_base.specs.declared.limits.TheConstants.{LAST_COUNT}
 use Rattle.sk_resp.specs.Spelling.{Bytes}
 use Rattle.sk_counters.specs.Date.{date_of, text_of}
 use Rattle.sk_counters.specs.declared.counters.Counted.{Counted}
@@ -38,7 +39,7 @@ count_in counters name = lookup (is_at (name_cmp name)) counters
 
 -- A counter stays at the last value of a signed number of 64 bits.
 abbrev pub last_count : ℕ
-last_count = 2 ^ 63 - 1
+last_count = LAST_COUNT
 
 abbrev pub raised : Bytes → Counters → Counters
 raised name counters = insert_entry name_cmp counters name (min last_count (suc (unwrap_or (count_in counters name) 0)))

@@ -2,20 +2,18 @@
 ghost use Rattle.std.proofs.lemmas.Cmp.{nat_list_cmp_total};
 ghost use Rattle.std.specs.Prelude.{◌≡◌, ◌+◌, ◌<◌, ◌≤◌, [], suc, IsSome, None, OnErr, OnOk, min};
 ghost use Rattle.sk_base.specs.Score.{last_moment};
-ghost use Rattle.sk_undo.specs.Steps.{begun, closed, committed, edited, undone};
+ghost use Rattle.sk_undo.specs.Versions.{begun, closed, committed, edited, undone};
 ghost use Rattle.sk_undo.specs.Queries.{key_query};
 ghost use Rattle.sk_counters.specs.Counters.{count_in, counted_at, last_count, name_cmp, name_of, raised};
 
 use crate::Memory;
 use crate::day::of_day;
+use sk_base::limits::LAST_COUNT;
 use sk_resp::Word;
 use sk_undo::{Query, UndoMap};
 use std::alloc::Global;
 use std::cmp::Ordering;
 use std::marker::Model;
-
-// The last value of a signed number of 64 bits.
-const LAST_COUNT: u64 = i64::MAX as u64;
 
 /// What is counted.
 #[derive(Clone, Copy, Debug, PartialEq, Eq)]
@@ -47,10 +45,10 @@ pub struct Counters {
 }
 
 impl Model for Counters {
-    ghost use Rattle.sk_undo.specs.Steps.{Steps};
+    ghost use Rattle.sk_undo.specs.Versions.{Versions};
     ghost use Rattle.sk_counters.specs.Counters.{Counters as CountersSeen};
 
-    ghost Value = { Steps CountersSeen };
+    ghost Value = { Versions CountersSeen };
 
     ghost view = { λ c. c.counts.list };
 }
@@ -81,7 +79,7 @@ fn one_more(count: u64) -> u64
 // Counts one more for a name. Logarithmic.
 fn raise(counts: &mut UndoMap<Word, u64>, name: Word)
     requires { 0 < counts.old.room }
-    ensures list { counts.new.list ≡ edited (raised name counts.old.list.stands) counts.old.list }
+    ensures list { counts.new.list ≡ edited (raised name counts.old.list.current) counts.old.list }
     ensures room { counts.old.room ≤ counts.new.room + 1 }
 {
     let count = counts.get(&name).copied().unwrap_or(0);
@@ -101,7 +99,7 @@ impl Counters {
 
     /// The count of this name, where it was ever raised. Logarithmic.
     pub fn get(&self, name: &[u8]) -> Option<u64>
-        ensures { result ≡ count_in self.now.stands name.now }
+        ensures { result ≡ count_in self.now.current name.now }
     {
         self.counts.get(&ByName { name }).copied()
     }
@@ -109,7 +107,7 @@ impl Counters {
     /// One more counts at this moment, in milliseconds since 1970: in all, and of the moment's day. Where memory runs out nothing has changed.
     pub fn raise(&mut self, what: Counted, moment: u64) -> Result<(), Memory>
         requires { moment ≤ last_moment }
-        ensures ok { OnOk result (self.new ≡ edited (counted_at moment (name_of what) self.old.stands) self.old) }
+        ensures ok { OnOk result (self.new ≡ edited (counted_at moment (name_of what) self.old.current) self.old) }
         ensures err { OnErr result (self.new ≡ self.old) }
     {
         let name = what.name();
@@ -123,7 +121,7 @@ impl Counters {
 
     /// Opens a step. Takes no memory.
     pub fn begin(&mut self)
-        requires { self.old.stood ≡ None }
+        requires { self.old.saved ≡ None }
         ensures { self.new ≡ begun self.old }
     {
         self.counts.begin();
@@ -131,7 +129,7 @@ impl Counters {
 
     /// Closes the step, and what stood at its begin stands again. Takes no memory.
     pub fn undo(&mut self)
-        requires { IsSome self.old.stood }
+        requires { IsSome self.old.saved }
         ensures { self.new ≡ undone self.old }
     {
         self.counts.undo();
@@ -139,7 +137,7 @@ impl Counters {
 
     /// Closes the step, and what stands now stays. Takes no memory.
     pub fn commit(&mut self)
-        requires { IsSome self.old.stood }
+        requires { IsSome self.old.saved }
         ensures { self.new ≡ committed self.old }
     {
         self.counts.commit();

@@ -20,7 +20,7 @@ pub record IsAt (text : List ℕ) (r : Reader) : Type 0 where
   pub agrees : Agrees m r
   pub reached : Reached m text
   pub runs : run (Some start) text ≡ Some m
-  pub counted : Counted m.done m.spot text
+  pub counted : Counted m.done m.state text
 
 pub at_start : (r : Reader) → Agrees start r → IsAt [] r
 at_start r a = record { m = start; agrees = a; reached = reached_start; runs = refl; counted = counted_none }

@@ -5,12 +5,12 @@ use Rattle.std.specs.Prelude.{option_map}
 use Rattle.sk_cron.specs.declared.bounds.Bounds.{Bounds}
 use Rattle.sk_cron.specs.declared.part.Part.{Part}
 use Rattle.sk_cron.specs.declared.part.Part.TheVariants as part
-use Rattle.sk_cron.specs.declared.spot.Role.{Role}
-use Rattle.sk_cron.specs.declared.spot.Role.TheVariants as role
-use Rattle.sk_cron.specs.declared.spot.Spot.{Spot}
-use Rattle.sk_cron.specs.declared.spot.Spot.TheVariants as spot
-use Rattle.sk_cron.specs.declared.spot.Next.{Next}
-use Rattle.sk_cron.specs.declared.spot.Next.TheVariants as next
+use Rattle.sk_cron.specs.declared.parser_state.Role.{Role}
+use Rattle.sk_cron.specs.declared.parser_state.Role.TheVariants as role
+use Rattle.sk_cron.specs.declared.parser_state.ParserState.{ParserState}
+use Rattle.sk_cron.specs.declared.parser_state.ParserState.TheVariants as state
+use Rattle.sk_cron.specs.declared.parser_state.Next.{Next}
+use Rattle.sk_cron.specs.declared.parser_state.Next.TheVariants as next
 use Rattle.sk_cron.specs.CronText.{AreFields, IsCronText, IsField, IsNumber, IsPart, days, five, hours, is_number, is_range, is_range_step, is_star, is_star_step, last_field, last_part, minutes, months, more_fields, more_parts, one, spaces, two, weekdays}
 use Rattle.sk_cron.specs.Fault.{GoesOn}
 use Rattle.sk_cron.specs.Read.{start}
@@ -54,11 +54,11 @@ pub data IsRoleText (b : Bounds) : Role → List ℕ → Type 0 where
   range_text : (from to : List ℕ) (m n : ℕ) → IsNumber from m → IsNumber to n → fits b role.First m ≡ true → fits b (role.Last m) n ≡ true → IsRoleText b (role.RangeStep m n) (from ++ 45 ∷ (to ++ 47 ∷ []))
   step_text : IsRoleText b role.StarStep (42 ∷ 47 ∷ [])
 
-pub data IsSpotText (b : Bounds) : Spot → List ℕ → Type 0 where
-  ask_text : (r : Role) (text : List ℕ) → IsRoleText b r text → IsSpotText b (spot.Ask r) text
-  digit_text : (r : Role) (text : List ℕ) (d : ℕ) → IsRoleText b r text → d ≤ 9 → opens b r d ≡ true → IsSpotText b (spot.Digit r d) (text ++ (48 + d) ∷ [])
-  number_text : (r : Role) (text : List ℕ) (d e : ℕ) → IsRoleText b r text → d ≤ 9 → e ≤ 9 → fits b r (10 * d + e) ≡ true → IsSpotText b (spot.Number r (10 * d + e)) (text ++ (48 + d) ∷ (48 + e) ∷ [])
-  star_text : IsSpotText b spot.Star (42 ∷ [])
+pub data IsSpotText (b : Bounds) : ParserState → List ℕ → Type 0 where
+  ask_text : (r : Role) (text : List ℕ) → IsRoleText b r text → IsSpotText b (state.Ask r) text
+  digit_text : (r : Role) (text : List ℕ) (d : ℕ) → IsRoleText b r text → d ≤ 9 → opens b r d ≡ true → IsSpotText b (state.Digit r d) (text ++ (48 + d) ∷ [])
+  number_text : (r : Role) (text : List ℕ) (d e : ℕ) → IsRoleText b r text → d ≤ 9 → e ≤ 9 → fits b r (10 * d + e) ≡ true → IsSpotText b (state.Number r (10 * d + e)) (text ++ (48 + d) ∷ (48 + e) ∷ [])
+  star_text : IsSpotText b state.Star (42 ∷ [])
 
 low_of : (b : Bounds) (r : Role) (n : ℕ) → fits b r n ≡ true → least b r ≤ n
 low_of b r n f = grind (arith, f)
@@ -84,22 +84,22 @@ number_part b r text digits n p is num w = elim (tell (fits b r n)) [
 ]
 
 -- The text of where it is is a part, where a part is whole there.
-spot_part : (b : Bounds) (s : Spot) (text : List ℕ) (p : Part) → IsSpotText b s text → whole b s ≡ Some p → IsPart b text p
-spot_part b s t p (ask_text r text is) w = absurd (cc w)
-spot_part b s t p (digit_text r text d is le o) w = number_part b r text ((48 + d) ∷ []) d p is (one d le) w
-spot_part b s t p (number_text r text d e is d_le e_le f) w = number_part b r text ((48 + d) ∷ (48 + e) ∷ []) (10 * d + e) p is (two d e d_le e_le) w
-spot_part b s t p star_text w = let e : part.Star ≡ p = cc w in subst (λ q. IsPart b (42 ∷ []) q) e is_star
+state_part : (b : Bounds) (s : ParserState) (text : List ℕ) (p : Part) → IsSpotText b s text → whole b s ≡ Some p → IsPart b text p
+state_part b s t p (ask_text r text is) w = absurd (cc w)
+state_part b s t p (digit_text r text d is le o) w = number_part b r text ((48 + d) ∷ []) d p is (one d le) w
+state_part b s t p (number_text r text d e is d_le e_le f) w = number_part b r text ((48 + d) ∷ (48 + e) ∷ []) (10 * d + e) p is (two d e d_le e_le) w
+state_part b s t p star_text w = let e : part.Star ≡ p = cc w in subst (λ q. IsPart b (42 ∷ []) q) e is_star
 
 -- ## What was read
 
-pub record InField (b : Bounds) (bs : List Bounds) (done : List (List Part)) (parts : List Part) (s : Spot) (text : List ℕ) : Type 0 where
+pub record InField (b : Bounds) (bs : List Bounds) (done : List (List Part)) (parts : List Part) (s : ParserState) (text : List ℕ) : Type 0 where
   pub front : List ℕ
   pub before : List ℕ
   pub here : List ℕ
   pub is : text ≡ front ++ (before ++ here)
   pub fields : IsFront five (b ∷ bs) front done
   pub are : AreBefore b before parts
-  pub spot_is : IsSpotText b s here
+  pub state_is : IsSpotText b s here
 
 pub record InGap (b : Bounds) (bs : List Bounds) (done : List (List Part)) (parts : List Part) (text : List ℕ) : Type 0 where
   pub c : Bounds
@@ -114,21 +114,21 @@ pub record InGap (b : Bounds) (bs : List Bounds) (done : List (List Part)) (part
   pub done_is : done ≡ earlier ++ ps ∷ []
   pub none : parts ≡ []
 
-abbrev pub Read : Bounds → List Bounds → List (List Part) → List Part → Spot → List ℕ → Type 0
-Read b bs done parts spot.Gap text = InGap b bs done parts text
-Read b bs done parts (spot.Ask r) text = InField b bs done parts (spot.Ask r) text
-Read b bs done parts (spot.Digit r n) text = InField b bs done parts (spot.Digit r n) text
-Read b bs done parts (spot.Number r n) text = InField b bs done parts (spot.Number r n) text
-Read b bs done parts spot.Star text = InField b bs done parts spot.Star text
+abbrev pub Read : Bounds → List Bounds → List (List Part) → List Part → ParserState → List ℕ → Type 0
+Read b bs done parts state.Gap text = InGap b bs done parts text
+Read b bs done parts (state.Ask r) text = InField b bs done parts (state.Ask r) text
+Read b bs done parts (state.Digit r n) text = InField b bs done parts (state.Digit r n) text
+Read b bs done parts (state.Number r n) text = InField b bs done parts (state.Number r n) text
+Read b bs done parts state.Star text = InField b bs done parts state.Star text
 
 abbrev pub Reached : Machine → List ℕ → Type 0
-Reached m text = Read m.bounds m.behind m.done m.parts m.spot text
+Reached m text = Read m.bounds m.behind m.done m.parts m.state text
 
 pub reached_start : Reached start []
-reached_start = record { front = []; before = []; here = []; is = refl; fields = no_front; are = no_parts; spot_is = ask_text role.First [] first_text }
+reached_start = record { front = []; before = []; here = []; is = refl; fields = no_front; are = no_parts; state_is = ask_text role.First [] first_text }
 
 -- Behind spaces nothing of the next field is read.
-opened : (b : Bounds) (bs : List Bounds) (done : List (List Part)) (parts : List Part) (s : Spot) (text here : List ℕ) → InGap b bs done parts text → IsSpotText b s here → InField b bs done parts s (text ++ here)
+opened : (b : Bounds) (bs : List Bounds) (done : List (List Part)) (parts : List Part) (s : ParserState) (text here : List ℕ) → InGap b bs done parts text → IsSpotText b s here → InField b bs done parts s (text ++ here)
 opened b bs done parts s text here g is = record {
   front = g.front ++ (g.field ++ 32 ∷ spaces g.n);
   before = [];
@@ -136,7 +136,7 @@ opened b bs done parts s text here g is = record {
   is = ap (λ x. x ++ here) g.is;
   fields = subst (λ d. IsFront five (b ∷ bs) (g.front ++ (g.field ++ 32 ∷ spaces g.n)) d) (sym g.done_is) (more_front g.c (b ∷ bs) g.front g.field g.earlier g.ps g.n g.fields g.whole_field);
   are = subst (λ ps. AreBefore b [] ps) (sym g.none) no_parts;
-  spot_is = is;
+  state_is = is;
 }
 
 spaces_more : (n : ℕ) → spaces n ++ 32 ∷ [] ≡ spaces (suc n)
@@ -144,7 +144,7 @@ spaces_more zero = refl
 spaces_more (suc n) = ap (λ x. 32 ∷ x) (spaces_more n)
 
 -- one more byte where it is
-grown : (b : Bounds) (bs : List Bounds) (done : List (List Part)) (parts : List Part) (s t : Spot) (text here_ : List ℕ) (x : ℕ) (f : InField b bs done parts s text)
+grown : (b : Bounds) (bs : List Bounds) (done : List (List Part)) (parts : List Part) (s t : ParserState) (text here_ : List ℕ) (x : ℕ) (f : InField b bs done parts s text)
     → f.here ++ x ∷ [] ≡ here_ → IsSpotText b t here_ → InField b bs done parts t (text ++ x ∷ [])
 grown b bs done parts s t text here_ x f e is = record {
   front = f.front;
@@ -153,15 +153,15 @@ grown b bs done parts s t text here_ x f e is = record {
   is = ap (λ y. y ++ x ∷ []) f.is ∙ append_assoc f.front (f.before ++ f.here) (x ∷ []) ∙ ap (λ y. f.front ++ y) (append_assoc f.before f.here (x ∷ []) ∙ ap (λ y. f.before ++ y) e);
   fields = f.fields;
   are = f.are;
-  spot_is = is;
+  state_is = is;
 }
 
 -- ## One byte more
 
-first_empty : (b : Bounds) (h : List ℕ) → IsSpotText b (spot.Ask role.First) h → h ≡ []
+first_empty : (b : Bounds) (h : List ℕ) → IsSpotText b (state.Ask role.First) h → h ≡ []
 first_empty b h (ask_text r text first_text) = refl
 
-role_of : (b : Bounds) (r : Role) (h : List ℕ) → IsSpotText b (spot.Ask r) h → IsRoleText b r h
+role_of : (b : Bounds) (r : Role) (h : List ℕ) → IsSpotText b (state.Ask r) h → IsRoleText b r h
 role_of b r h (ask_text q text is) = is
 
 -- the digits of the number that was read there, and what stands before it
@@ -172,26 +172,26 @@ pub record AtNumber (b : Bounds) (r : Role) (n : ℕ) (h : List ℕ) : Type 0 wh
   pub role_is : IsRoleText b r text
   pub num : IsNumber digits n
 
-at_number : (b : Bounds) (r : Role) (n : ℕ) (s : Spot) (h : List ℕ) → IsNumberAt r n s → IsSpotText b s h → AtNumber b r n h
+at_number : (b : Bounds) (r : Role) (n : ℕ) (s : ParserState) (h : List ℕ) → IsNumberAt r n s → IsSpotText b s h → AtNumber b r n h
 at_number b r n s h by_digit (digit_text q text d is le o) = record { text = text; digits = (48 + d) ∷ []; is = refl; role_is = is; num = one d le }
 at_number b r n s h by_number (number_text q text d e is d_le e_le f) = record { text = text; digits = (48 + d) ∷ (48 + e) ∷ []; is = refl; role_is = is; num = two d e d_le e_le }
 
-field_at : (b : Bounds) (bs : List Bounds) (done : List (List Part)) (parts : List Part) (r : Role) (n : ℕ) (s : Spot) (text : List ℕ) → IsNumberAt r n s → Read b bs done parts s text → InField b bs done parts s text
+field_at : (b : Bounds) (bs : List Bounds) (done : List (List Part)) (parts : List Part) (r : Role) (n : ℕ) (s : ParserState) (text : List ℕ) → IsNumberAt r n s → Read b bs done parts s text → InField b bs done parts s text
 field_at b bs done parts r n s text by_digit f = f
 field_at b bs done parts r n s text by_number f = f
 
-field_whole : (b : Bounds) (bs : List Bounds) (done : List (List Part)) (parts : List Part) (s : Spot) (p : Part) (text : List ℕ) → whole b s ≡ Some p → Read b bs done parts s text → InField b bs done parts s text
-field_whole b bs done parts spot.Gap p text w f = absurd (cc w)
-field_whole b bs done parts (spot.Ask r) p text w f = f
-field_whole b bs done parts (spot.Digit r n) p text w f = f
-field_whole b bs done parts (spot.Number r n) p text w f = f
-field_whole b bs done parts spot.Star p text w f = f
+field_whole : (b : Bounds) (bs : List Bounds) (done : List (List Part)) (parts : List Part) (s : ParserState) (p : Part) (text : List ℕ) → whole b s ≡ Some p → Read b bs done parts s text → InField b bs done parts s text
+field_whole b bs done parts state.Gap p text w f = absurd (cc w)
+field_whole b bs done parts (state.Ask r) p text w f = f
+field_whole b bs done parts (state.Digit r n) p text w f = f
+field_whole b bs done parts (state.Number r n) p text w f = f
+field_whole b bs done parts state.Star p text w f = f
 
 -- from the start of a field or a part
-begun : (b : Bounds) (bs : List Bounds) (done : List (List Part)) (parts : List Part) (s t : Spot) (text : List ℕ) (x : ℕ) → IsBegin s → Read b bs done parts s text → IsSpotText b t (x ∷ [])
+begun : (b : Bounds) (bs : List Bounds) (done : List (List Part)) (parts : List Part) (s t : ParserState) (text : List ℕ) (x : ℕ) → IsBegin s → Read b bs done parts s text → IsSpotText b t (x ∷ [])
     → InField b bs done parts t (text ++ x ∷ [])
 begun b bs done parts s t text x behind_gap g is = opened b bs done parts t text (x ∷ []) g is
-begun b bs done parts s t text x at_first f is = grown b bs done parts (spot.Ask role.First) t text (x ∷ []) x f (ap (λ h. h ++ x ∷ []) (first_empty b f.here f.spot_is)) is
+begun b bs done parts s t text x at_first f is = grown b bs done parts (state.Ask role.First) t text (x ∷ []) x f (ap (λ h. h ++ x ∷ []) (first_empty b f.here f.state_is)) is
 
 gap_more : (b : Bounds) (bs : List Bounds) (done : List (List Part)) (parts : List Part) (text : List ℕ) → InGap b bs done parts text → InGap b bs done parts (text ++ 32 ∷ [])
 gap_more b bs done parts text g = record {
@@ -209,42 +209,42 @@ gap_more b bs done parts text g = record {
   none = g.none;
 }
 
-second_read : (b : Bounds) (bs : List Bounds) (done : List (List Part)) (parts : List Part) (r : Role) (n d : ℕ) (text : List ℕ) (f : InField b bs done parts (spot.Digit r n) text) → d ≤ 9 → fits b r (10 * n + d) ≡ true
-    → (h : List ℕ) → f.here ≡ h → IsSpotText b (spot.Digit r n) h → InField b bs done parts (spot.Number r (10 * n + d)) (text ++ (48 + d) ∷ [])
+second_read : (b : Bounds) (bs : List Bounds) (done : List (List Part)) (parts : List Part) (r : Role) (n d : ℕ) (text : List ℕ) (f : InField b bs done parts (state.Digit r n) text) → d ≤ 9 → fits b r (10 * n + d) ≡ true
+    → (h : List ℕ) → f.here ≡ h → IsSpotText b (state.Digit r n) h → InField b bs done parts (state.Number r (10 * n + d)) (text ++ (48 + d) ∷ [])
 second_read b bs done parts r n d text f le fit h e (digit_text q before k is k_le o) =
-    grown b bs done parts (spot.Digit q k) (spot.Number q (10 * k + d)) text (before ++ (48 + k) ∷ (48 + d) ∷ []) (48 + d) f
+    grown b bs done parts (state.Digit q k) (state.Number q (10 * k + d)) text (before ++ (48 + k) ∷ (48 + d) ∷ []) (48 + d) f
     (ap (λ y. y ++ (48 + d) ∷ []) e ∙ append_assoc before ((48 + k) ∷ []) ((48 + d) ∷ [])) (number_text q before k d is k_le le fit)
 
 first_role : (b : Bounds) (text : List ℕ) → IsRoleText b role.First text → text ≡ []
 first_role b text first_text = refl
 
-dashed : (b : Bounds) (n : ℕ) (h : List ℕ) → AtNumber b role.First n h → fits b role.First n ≡ true → IsSpotText b (spot.Ask (role.Last n)) (h ++ 45 ∷ [])
+dashed : (b : Bounds) (n : ℕ) (h : List ℕ) → AtNumber b role.First n h → fits b role.First n ≡ true → IsSpotText b (state.Ask (role.Last n)) (h ++ 45 ∷ [])
 dashed b n h a f =
     let e : h ≡ a.digits = a.is ∙ ap (λ t. t ++ a.digits) (first_role b a.text a.role_is) in
-    subst (λ x. IsSpotText b (spot.Ask (role.Last n)) (x ++ 45 ∷ [])) (sym e) (ask_text (role.Last n) (a.digits ++ 45 ∷ []) (last_text a.digits n a.num f))
+    subst (λ x. IsSpotText b (state.Ask (role.Last n)) (x ++ 45 ∷ [])) (sym e) (ask_text (role.Last n) (a.digits ++ 45 ∷ []) (last_text a.digits n a.num f))
 
 slashed : (b : Bounds) (m n : ℕ) (h text digits : List ℕ) → h ≡ text ++ digits → IsRoleText b (role.Last m) text → IsNumber digits n → fits b (role.Last m) n ≡ true
-    → IsSpotText b (spot.Ask (role.RangeStep m n)) (h ++ 47 ∷ [])
+    → IsSpotText b (state.Ask (role.RangeStep m n)) (h ++ 47 ∷ [])
 slashed b m n h text digits e (last_text from k num f1) num2 f =
     let is : h ++ 47 ∷ [] ≡ from ++ 45 ∷ (digits ++ 47 ∷ []) = ap (λ x. x ++ 47 ∷ []) e ∙ append_assoc (from ++ 45 ∷ []) digits (47 ∷ []) ∙ append_assoc from (45 ∷ []) (digits ++ 47 ∷ []) in
-    subst (λ x. IsSpotText b (spot.Ask (role.RangeStep k n)) x) (sym is) (ask_text (role.RangeStep k n) _ (range_text from digits k n num num2 f1 f))
+    subst (λ x. IsSpotText b (state.Ask (role.RangeStep k n)) x) (sym is) (ask_text (role.RangeStep k n) _ (range_text from digits k n num num2 f1 f))
 
-star_here : (b : Bounds) (h : List ℕ) → IsSpotText b spot.Star h → h ≡ 42 ∷ []
+star_here : (b : Bounds) (h : List ℕ) → IsSpotText b state.Star h → h ≡ 42 ∷ []
 star_here b h star_text = refl
 
-comma_read : (b : Bounds) (bs : List Bounds) (done : List (List Part)) (parts : List Part) (s : Spot) (p : Part) (text : List ℕ) → InField b bs done parts s text → whole b s ≡ Some p
-    → InField b bs done (parts ++ p ∷ []) (spot.Ask role.First) (text ++ 44 ∷ [])
+comma_read : (b : Bounds) (bs : List Bounds) (done : List (List Part)) (parts : List Part) (s : ParserState) (p : Part) (text : List ℕ) → InField b bs done parts s text → whole b s ≡ Some p
+    → InField b bs done (parts ++ p ∷ []) (state.Ask role.First) (text ++ 44 ∷ [])
 comma_read b bs done parts s p text f w = record {
   front = f.front;
   before = f.before ++ (f.here ++ 44 ∷ []);
   here = [];
   is = ap (λ y. y ++ 44 ∷ []) f.is ∙ append_assoc f.front (f.before ++ f.here) (44 ∷ []) ∙ ap (λ y. f.front ++ y) (append_assoc f.before f.here (44 ∷ []) ∙ sym (append-nil _));
   fields = f.fields;
-  are = parts_more f.before f.here parts p f.are (spot_part b s f.here p f.spot_is w);
-  spot_is = ask_text role.First [] first_text;
+  are = parts_more f.before f.here parts p f.are (state_part b s f.here p f.state_is w);
+  state_is = ask_text role.First [] first_text;
 }
 
-space_read : (b c : Bounds) (bs : List Bounds) (done : List (List Part)) (parts : List Part) (s : Spot) (p : Part) (text : List ℕ) → InField b (c ∷ bs) done parts s text → whole b s ≡ Some p
+space_read : (b c : Bounds) (bs : List Bounds) (done : List (List Part)) (parts : List Part) (s : ParserState) (p : Part) (text : List ℕ) → InField b (c ∷ bs) done parts s text → whole b s ≡ Some p
     → InGap c bs (done ++ (parts ++ p ∷ []) ∷ []) [] (text ++ 32 ∷ [])
 space_read b c bs done parts s p text f w = record {
   c = b;
@@ -255,66 +255,66 @@ space_read b c bs done parts s p text f w = record {
   ps = parts ++ p ∷ [];
   is = ap (λ y. y ++ 32 ∷ []) f.is ∙ append_assoc f.front (f.before ++ f.here) (32 ∷ []);
   fields = f.fields;
-  whole_field = before_on b f.before parts f.are f.here (p ∷ []) (last_part f.here p (spot_part b s f.here p f.spot_is w));
+  whole_field = before_on b f.before parts f.are f.here (p ∷ []) (last_part f.here p (state_part b s f.here p f.state_is w));
   done_is = refl;
   none = refl;
 }
 
-abbrev mach : Bounds → List Bounds → List (List Part) → List Part → Spot → Machine
-mach b bs done parts s = record { bounds = b; behind = bs; done = done; parts = parts; spot = s }
+abbrev mach : Bounds → List Bounds → List (List Part) → List Part → ParserState → Machine
+mach b bs done parts s = record { bounds = b; behind = bs; done = done; parts = parts; state = s }
 
 went : (m n : Machine) (text : List ℕ) → Reached m text → Some m ≡ Some n → Reached n text
 went m n text r e = let is : m ≡ n = cc e in subst (λ k. Reached k text) is r
 
-by_close : (b : Bounds) (bs : List Bounds) (done : List (List Part)) (parts : List Part) (s : Spot) (p : Part) (text : List ℕ) → InField b bs done parts s text → whole b s ≡ Some p → (n : Machine)
+by_close : (b : Bounds) (bs : List Bounds) (done : List (List Part)) (parts : List Part) (s : ParserState) (p : Part) (text : List ℕ) → InField b bs done parts s text → whole b s ≡ Some p → (n : Machine)
     → close (mach b bs done parts s) bs p ≡ Some n → Reached n (text ++ 32 ∷ [])
 by_close b [] done parts s p text f w n e = absurd (cc e)
-by_close b (c ∷ bs) done parts s p text f w n e = went (mach c bs (done ++ (parts ++ p ∷ []) ∷ []) [] spot.Gap) n (text ++ 32 ∷ []) (space_read b c bs done parts s p text f w) e
+by_close b (c ∷ bs) done parts s p text f w n e = went (mach c bs (done ++ (parts ++ p ∷ []) ∷ []) [] state.Gap) n (text ++ 32 ∷ []) (space_read b c bs done parts s p text f w) e
 
-by_row : (b : Bounds) (bs : List Bounds) (done : List (List Part)) (parts : List Part) (s : Spot) (byte : ℕ) (o : Next) (text : List ℕ) → Row b s byte o → Read b bs done parts s text → (n : Machine)
+by_row : (b : Bounds) (bs : List Bounds) (done : List (List Part)) (parts : List Part) (s : ParserState) (byte : ℕ) (o : Next) (text : List ℕ) → Row b s byte o → Read b bs done parts s text → (n : Machine)
     → led (mach b bs done parts s) o ≡ Some n → Reached n (text ++ byte ∷ [])
-by_row b bs done parts s byte o text gap r n e = went (mach b bs done parts spot.Gap) n _ (gap_more b bs done parts text r) e
-by_row b bs done parts s byte o text (star t at) r n e = went (mach b bs done parts spot.Star) n _ (begun b bs done parts t spot.Star text 42 at r star_text) e
-by_row b bs done parts s byte o text (first t d at le op) r n e = went (mach b bs done parts (spot.Digit role.First d)) n _
-    (begun b bs done parts t (spot.Digit role.First d) text (48 + d) at r (digit_text role.First [] d first_text le op)) e
-by_row b bs done parts s byte o text (digit q d le op) r n e = went (mach b bs done parts (spot.Digit q d)) n _
-    (grown b bs done parts (spot.Ask q) (spot.Digit q d) text _ (48 + d) r refl (digit_text q r.here d (role_of b q r.here r.spot_is) le op)) e
-by_row b bs done parts s byte o text (second q k d le f) r n e = went (mach b bs done parts (spot.Number q (10 * k + d))) n _ (second_read b bs done parts q k d text r le f r.here refl r.spot_is) e
+by_row b bs done parts s byte o text gap r n e = went (mach b bs done parts state.Gap) n _ (gap_more b bs done parts text r) e
+by_row b bs done parts s byte o text (star t at) r n e = went (mach b bs done parts state.Star) n _ (begun b bs done parts t state.Star text 42 at r star_text) e
+by_row b bs done parts s byte o text (first t d at le op) r n e = went (mach b bs done parts (state.Digit role.First d)) n _
+    (begun b bs done parts t (state.Digit role.First d) text (48 + d) at r (digit_text role.First [] d first_text le op)) e
+by_row b bs done parts s byte o text (digit q d le op) r n e = went (mach b bs done parts (state.Digit q d)) n _
+    (grown b bs done parts (state.Ask q) (state.Digit q d) text _ (48 + d) r refl (digit_text q r.here d (role_of b q r.here r.state_is) le op)) e
+by_row b bs done parts s byte o text (second q k d le f) r n e = went (mach b bs done parts (state.Number q (10 * k + d))) n _ (second_read b bs done parts q k d text r le f r.here refl r.state_is) e
 by_row b bs done parts s byte o text (dash t k at f) r n e =
     let h = field_at b bs done parts role.First k t text at r in
-    went (mach b bs done parts (spot.Ask (role.Last k))) n _ (grown b bs done parts t (spot.Ask (role.Last k)) text _ 45 h refl (dashed b k h.here (at_number b role.First k t h.here at h.spot_is) f)) e
+    went (mach b bs done parts (state.Ask (role.Last k))) n _ (grown b bs done parts t (state.Ask (role.Last k)) text _ 45 h refl (dashed b k h.here (at_number b role.First k t h.here at h.state_is) f)) e
 by_row b bs done parts s byte o text (slash t m k at f) r n e =
     let h = field_at b bs done parts (role.Last m) k t text at r in
-    let a = at_number b (role.Last m) k t h.here at h.spot_is in
-    went (mach b bs done parts (spot.Ask (role.RangeStep m k))) n _ (grown b bs done parts t (spot.Ask (role.RangeStep m k)) text _ 47 h refl (slashed b m k h.here a.text a.digits a.is a.role_is a.num f)) e
-by_row b bs done parts s byte o text star_slash r n e = went (mach b bs done parts (spot.Ask role.StarStep)) n _
-    (grown b bs done parts spot.Star (spot.Ask role.StarStep) text (42 ∷ 47 ∷ []) 47 r (ap (λ y. y ++ 47 ∷ []) (star_here b r.here r.spot_is)) (ask_text role.StarStep _ step_text)) e
-by_row b bs done parts s byte o text (comma t p w) r n e = went (mach b bs done (parts ++ p ∷ []) (spot.Ask role.First)) n _ (comma_read b bs done parts t p text (field_whole b bs done parts t p text w r) w) e
+    let a = at_number b (role.Last m) k t h.here at h.state_is in
+    went (mach b bs done parts (state.Ask (role.RangeStep m k))) n _ (grown b bs done parts t (state.Ask (role.RangeStep m k)) text _ 47 h refl (slashed b m k h.here a.text a.digits a.is a.role_is a.num f)) e
+by_row b bs done parts s byte o text star_slash r n e = went (mach b bs done parts (state.Ask role.StarStep)) n _
+    (grown b bs done parts state.Star (state.Ask role.StarStep) text (42 ∷ 47 ∷ []) 47 r (ap (λ y. y ++ 47 ∷ []) (star_here b r.here r.state_is)) (ask_text role.StarStep _ step_text)) e
+by_row b bs done parts s byte o text (comma t p w) r n e = went (mach b bs done (parts ++ p ∷ []) (state.Ask role.First)) n _ (comma_read b bs done parts t p text (field_whole b bs done parts t p text w r) w) e
 by_row b bs done parts s byte o text (space t p w) r n e = by_close b bs done parts t p text (field_whole b bs done parts t p text w r) w n e
 
 pub reached_next : (m n : Machine) (byte : ℕ) (text : List ℕ) → Reached m text → go m byte ≡ Some n → Reached n (text ++ byte ∷ [])
-reached_next m n byte text r e = elim (row_of m.bounds m.spot byte) [
+reached_next m n byte text r e = elim (row_of m.bounds m.state byte) [
   | inl no_row ↦ absurd (cc (sym e ∙ ap (led m) no_row))
-  | inr row ↦ by_row m.bounds m.behind m.done m.parts m.spot byte _ text row r n e
+  | inr row ↦ by_row m.bounds m.behind m.done m.parts m.state byte _ text row r n e
 ]
 
 -- ## At the end
 
-ended_at : (b : Bounds) (done : List (List Part)) (parts : List Part) (s : Spot) (text : List ℕ) (fields : List (List Part)) (o : Option Part) → Read b [] done parts s text → whole b s ≡ o
+ended_at : (b : Bounds) (done : List (List Part)) (parts : List Part) (s : ParserState) (text : List ℕ) (fields : List (List Part)) (o : Option Part) → Read b [] done parts s text → whole b s ≡ o
     → option_map (λ ps. done ++ ps ∷ []) (option_map (λ p. parts ++ p ∷ []) o) ≡ Some fields → IsCronText text fields
 ended_at b done parts s text fields None r w e = absurd (cc e)
 ended_at b done parts s text fields (Some p) r w e =
     let f = field_whole b [] done parts s p text w r in
     let is : done ++ (parts ++ p ∷ []) ∷ [] ≡ fields = cc e in
-    let field = before_on b f.before parts f.are f.here (p ∷ []) (last_part f.here p (spot_part b s f.here p f.spot_is w)) in
+    let field = before_on b f.before parts f.are f.here (p ∷ []) (last_part f.here p (state_part b s f.here p f.state_is w)) in
     subst (λ x. AreFields five x fields) (sym f.is) (subst (λ x. AreFields five (f.front ++ (f.before ++ f.here)) x) is
     (front_on five (b ∷ []) f.front done f.fields (f.before ++ f.here) ((parts ++ p ∷ []) ∷ []) (last_field b (f.before ++ f.here) (parts ++ p ∷ []) field)))
 
 pub reached_end : (m : Machine) (text : List ℕ) (fields : List (List Part)) → Reached m text → finish m ≡ Some fields → IsCronText text fields
 reached_end m text fields r e = by m.behind r e
   where
-    by : (bs : List Bounds) → Read m.bounds bs m.done m.parts m.spot text → fields_in m bs ≡ Some fields → IsCronText text fields
-    by [] r e = ended_at m.bounds m.done m.parts m.spot text fields (whole m.bounds m.spot) r refl e
+    by : (bs : List Bounds) → Read m.bounds bs m.done m.parts m.state text → fields_in m bs ≡ Some fields → IsCronText text fields
+    by [] r e = ended_at m.bounds m.done m.parts m.state text fields (whole m.bounds m.state) r refl e
     by (b ∷ bs) r e = absurd (cc e)
 
 -- ## Going on
@@ -381,7 +381,7 @@ two_digits n le = subst (λ k. IsNumber ((48 + n / 10) ∷ (48 + n % 10) ∷ [])
 second_of : (b : Bounds) (r : Role) (d : ℕ) → Good b → fits b r (least b r) ≡ true → opens b r d ≡ true → fits b r d ≡ false → (e : ℕ) × (e ≤ 9) × (fits b r (10 * d + e) ≡ true)
 second_of b r d g f o n = (least b r - 10 * d, grind (arith, o, n, f, g.few), grind (arith, o, n, f, g.few))
 
-part_end : (b : Bounds) (s : Spot) (here : List ℕ) → Good b → IsSpotText b s here → PartEnd b here
+part_end : (b : Bounds) (s : ParserState) (here : List ℕ) → Good b → IsSpotText b s here → PartEnd b here
 part_end b s h g (ask_text r text is) =
     let f = least_fits b r text g is in
     record { more = (48 + least b r / 10) ∷ (48 + least b r % 10) ∷ []; p = part_of r (least b r); is = role_part b r text _ (least b r) is (two_digits (least b r) (grind (arith, f, g.few))) f }
@@ -399,9 +399,9 @@ part_end b s h g (number_text r text d e is d_le e_le f) =
     record { more = []; p = part_of r (10 * d + e); is = subst (λ x. IsPart b x (part_of r (10 * d + e))) (sym (append-nil _)) (role_part b r text ((48 + d) ∷ (48 + e) ∷ []) (10 * d + e) is (two d e d_le e_le) f) }
 part_end b s h g star_text = record { more = []; p = part.Star; is = is_star }
 
-field_goes_on : (b : Bounds) (bs : List Bounds) (done : List (List Part)) (parts : List Part) (s : Spot) (text : List ℕ) → InField b bs done parts s text → GoesOn text
+field_goes_on : (b : Bounds) (bs : List Bounds) (done : List (List Part)) (parts : List Part) (s : ParserState) (text : List ℕ) → InField b bs done parts s text → GoesOn text
 field_goes_on b bs done parts s text f =
-    let k = part_end b s f.here (front_good five (b ∷ bs) f.front done five_good f.fields).0 f.spot_is in
+    let k = part_end b s f.here (front_good five (b ∷ bs) f.front done five_good f.fields).0 f.state_is in
     let r = rest_of bs in
     let field = before_on b f.before parts f.are (f.here ++ k.more) (k.p ∷ []) (last_part (f.here ++ k.more) k.p k.is) in
     let are = front_on five (b ∷ bs) f.front done f.fields ((f.before ++ (f.here ++ k.more)) ++ r.tail) ((parts ++ k.p ∷ []) ∷ r.fields) (r.ends b (f.before ++ (f.here ++ k.more)) (parts ++ k.p ∷ []) field) in
@@ -413,15 +413,15 @@ field_goes_on b bs done parts s text f =
 
 gap_goes_on : (b : Bounds) (bs : List Bounds) (done : List (List Part)) (parts : List Part) (text : List ℕ) → InGap b bs done parts text → GoesOn text
 gap_goes_on b bs done parts text g =
-    let next = field_goes_on b bs done parts spot.Star (text ++ 42 ∷ []) (opened b bs done parts spot.Star text (42 ∷ []) g star_text) in
+    let next = field_goes_on b bs done parts state.Star (text ++ 42 ∷ []) (opened b bs done parts state.Star text (42 ∷ []) g star_text) in
     (42 ∷ next.0, next.1, subst (λ x. AreFields five x next.1) (append_assoc text (42 ∷ []) next.0) next.2)
 
 pub goes_on : (m : Machine) (text : List ℕ) → Reached m text → GoesOn text
-goes_on m text r = by m.spot r
+goes_on m text r = by m.state r
   where
-    by : (s : Spot) → Read m.bounds m.behind m.done m.parts s text → GoesOn text
-    by spot.Gap r = gap_goes_on m.bounds m.behind m.done m.parts text r
-    by (spot.Ask q) r = field_goes_on m.bounds m.behind m.done m.parts (spot.Ask q) text r
-    by (spot.Digit q n) r = field_goes_on m.bounds m.behind m.done m.parts (spot.Digit q n) text r
-    by (spot.Number q n) r = field_goes_on m.bounds m.behind m.done m.parts (spot.Number q n) text r
-    by spot.Star r = field_goes_on m.bounds m.behind m.done m.parts spot.Star text r
+    by : (s : ParserState) → Read m.bounds m.behind m.done m.parts s text → GoesOn text
+    by state.Gap r = gap_goes_on m.bounds m.behind m.done m.parts text r
+    by (state.Ask q) r = field_goes_on m.bounds m.behind m.done m.parts (state.Ask q) text r
+    by (state.Digit q n) r = field_goes_on m.bounds m.behind m.done m.parts (state.Digit q n) text r
+    by (state.Number q n) r = field_goes_on m.bounds m.behind m.done m.parts (state.Number q n) text r
+    by state.Star r = field_goes_on m.bounds m.behind m.done m.parts state.Star text r

@@ -4,8 +4,8 @@ use Rattle.sk_cron.specs.declared.bounds.Bounds.{Bounds}
 use Rattle.sk_cron.specs.declared.field.Field.{Field}
 use Rattle.sk_cron.specs.declared.part.Part.{Part}
 use Rattle.sk_cron.specs.declared.reader.Reader.{Reader}
-use Rattle.sk_cron.specs.declared.spot.Role.TheVariants.{First}
-use Rattle.sk_cron.specs.declared.spot.Spot.TheVariants.{Ask}
+use Rattle.sk_cron.specs.declared.parser_state.Role.TheVariants.{First}
+use Rattle.sk_cron.specs.declared.parser_state.ParserState.TheVariants.{Ask}
 use Rattle.sk_cron.specs.CronText.{IsCronText, five, minutes}
 use Rattle.sk_cron.specs.Times.{AreNumbers, Times, is_restricted}
 use Rattle.sk_cron.specs.Reading.{Machine}
@@ -32,12 +32,12 @@ pub record Agrees (m : Machine) (r : Reader) : Type 0 where
   pub within : r.at < 5
   pub bounds : m.bounds ∷ m.behind ≡ drop r.at five
   pub done : length m.done ≡ r.at
-  pub spot : m.spot ≡ r.spot
+  pub state : m.state ≡ r.state
   pub fields : AllHold (m.done ++ m.parts ∷ []) r.fields
 
 -- before the first byte
 abbrev pub start : Machine
-start = record { bounds = minutes; behind = drop 1 five; done = []; parts = []; spot = Ask First }
+start = record { bounds = minutes; behind = drop 1 five; done = []; parts = []; state = Ask First }
 
 abbrev pub field_at : List Field → ℕ → Field
 field_at fields i = get_or fields i no_field

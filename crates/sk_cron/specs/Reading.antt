@@ -3,12 +3,12 @@ use Rattle.std.specs.Prelude.{◌≡◌, ◌<◌, ℕ, suc, Bool, true, false, �
 use Rattle.sk_cron.specs.declared.bounds.Bounds.{Bounds}
 use Rattle.sk_cron.specs.declared.part.Part.{Part}
 use Rattle.sk_cron.specs.declared.part.Part.TheVariants as part
-use Rattle.sk_cron.specs.declared.spot.Role.{Role}
-use Rattle.sk_cron.specs.declared.spot.Role.TheVariants as role
-use Rattle.sk_cron.specs.declared.spot.Spot.{Spot}
-use Rattle.sk_cron.specs.declared.spot.Spot.TheVariants as spot
-use Rattle.sk_cron.specs.declared.spot.Next.{Next}
-use Rattle.sk_cron.specs.declared.spot.Next.TheVariants as next_
+use Rattle.sk_cron.specs.declared.parser_state.Role.{Role}
+use Rattle.sk_cron.specs.declared.parser_state.Role.TheVariants as role
+use Rattle.sk_cron.specs.declared.parser_state.ParserState.{ParserState}
+use Rattle.sk_cron.specs.declared.parser_state.ParserState.TheVariants as state
+use Rattle.sk_cron.specs.declared.parser_state.Next.{Next}
+use Rattle.sk_cron.specs.declared.parser_state.Next.TheVariants as next_
 
 -- ## Within a field
 
@@ -39,29 +39,29 @@ abbrev pub whole_number : Bounds → Role → ℕ → Option Part
 whole_number b r n = cond (fits b r n) (Some (part_of r n)) None
 
 -- the part that is whole there
-abbrev pub whole : Bounds → Spot → Option Part
-whole b spot.Gap = None
-whole b (spot.Ask r) = None
-whole b (spot.Digit r n) = whole_number b r n
-whole b (spot.Number r n) = whole_number b r n
-whole b spot.Star = Some part.Star
+abbrev pub whole : Bounds → ParserState → Option Part
+whole b state.Gap = None
+whole b (state.Ask r) = None
+whole b (state.Digit r n) = whole_number b r n
+whole b (state.Number r n) = whole_number b r n
+whole b state.Star = Some part.Star
 
 abbrev pub ask_digit : Bounds → Role → Option ℕ → Next
 ask_digit b r None = next_.Fault
-ask_digit b r (Some d) = cond (opens b r d) (next_.Stays (spot.Digit r d)) next_.Fault
+ask_digit b r (Some d) = cond (opens b r d) (next_.Stays (state.Digit r d)) next_.Fault
 
 abbrev pub asks : Bounds → Role → ℕ → Next
 asks b r byte = ask_digit b r (digit_of byte)
 
 abbrev pub begins : Bounds → ℕ → Next
-begins b byte = cond (byte == 42) (next_.Stays spot.Star) (asks b role.First byte)
+begins b byte = cond (byte == 42) (next_.Stays state.Star) (asks b role.First byte)
 
 abbrev pub ends : Part → ℕ → Next
 ends p byte = cond (byte == 44) (next_.Comma p) (cond (byte == 32) (next_.Space p) next_.Fault)
 
 abbrev pub after_number : Role → ℕ → ℕ → Next
-after_number role.First n byte = cond (byte == 45) (next_.Stays (spot.Ask (role.Last n))) (ends (part.Number n) byte)
-after_number (role.Last first) n byte = cond (byte == 47) (next_.Stays (spot.Ask (role.RangeStep first n))) (ends (part.Range first n 1) byte)
+after_number role.First n byte = cond (byte == 45) (next_.Stays (state.Ask (role.Last n))) (ends (part.Number n) byte)
+after_number (role.Last first) n byte = cond (byte == 47) (next_.Stays (state.Ask (role.RangeStep first n))) (ends (part.Range first n 1) byte)
 after_number (role.RangeStep first last) n byte = ends (part.Range first last n) byte
 after_number role.StarStep n byte = ends (part.StarStep n) byte
 
@@ -70,13 +70,13 @@ numbers b r n byte = cond (fits b r n) (after_number r n byte) next_.Fault
 
 abbrev pub second_digit : Bounds → Role → ℕ → ℕ → Option ℕ → Next
 second_digit b r n byte None = numbers b r n byte
-second_digit b r n byte (Some d) = cond (fits b r (10 * n + d)) (next_.Stays (spot.Number r (10 * n + d))) next_.Fault
+second_digit b r n byte (Some d) = cond (fits b r (10 * n + d)) (next_.Stays (state.Number r (10 * n + d))) next_.Fault
 
 abbrev pub digits : Bounds → Role → ℕ → ℕ → Next
 digits b r n byte = second_digit b r n byte (digit_of byte)
 
 abbrev pub after_star : ℕ → Next
-after_star byte = cond (byte == 47) (next_.Stays (spot.Ask role.StarStep)) (ends part.Star byte)
+after_star byte = cond (byte == 47) (next_.Stays (state.Ask role.StarStep)) (ends part.Star byte)
 
 abbrev pub ask : Bounds → Role → ℕ → Next
 ask b role.First byte = begins b byte
@@ -84,12 +84,12 @@ ask b (role.Last first) byte = asks b (role.Last first) byte
 ask b (role.RangeStep first last) byte = asks b (role.RangeStep first last) byte
 ask b role.StarStep byte = asks b role.StarStep byte
 
-abbrev pub after : Bounds → Spot → ℕ → Next
-after b spot.Gap byte = cond (byte == 32) (next_.Stays spot.Gap) (begins b byte)
-after b (spot.Ask r) byte = ask b r byte
-after b (spot.Digit r n) byte = digits b r n byte
-after b (spot.Number r n) byte = numbers b r n byte
-after b spot.Star byte = after_star byte
+abbrev pub after : Bounds → ParserState → ℕ → Next
+after b state.Gap byte = cond (byte == 32) (next_.Stays state.Gap) (begins b byte)
+after b (state.Ask r) byte = ask b r byte
+after b (state.Digit r n) byte = digits b r n byte
+after b (state.Number r n) byte = numbers b r n byte
+after b state.Star byte = after_star byte
 
 -- ## Over the fields
 
@@ -99,20 +99,20 @@ pub record Machine : Type 0 where
   pub behind : List Bounds
   pub done : List (List Part)
   pub parts : List Part
-  pub spot : Spot
+  pub state : ParserState
 
 abbrev pub close : Machine → List Bounds → Part → Option Machine
 close m [] p = None
-close m (b ∷ bs) p = Some (record { bounds = b; behind = bs; done = m.done ++ (m.parts ++ p ∷ []) ∷ []; parts = []; spot = spot.Gap })
+close m (b ∷ bs) p = Some (record { bounds = b; behind = bs; done = m.done ++ (m.parts ++ p ∷ []) ∷ []; parts = []; state = state.Gap })
 
 abbrev pub led : Machine → Next → Option Machine
-led m (next_.Stays s) = Some (record m { spot = s })
-led m (next_.Comma p) = Some (record m { parts = m.parts ++ p ∷ []; spot = spot.Ask role.First })
+led m (next_.Stays s) = Some (record m { state = s })
+led m (next_.Comma p) = Some (record m { parts = m.parts ++ p ∷ []; state = state.Ask role.First })
 led m (next_.Space p) = close m m.behind p
 led m next_.Fault = None
 
 abbrev pub go : Machine → ℕ → Option Machine
-go m byte = led m (after m.bounds m.spot byte)
+go m byte = led m (after m.bounds m.state byte)
 
 abbrev pub run : Option Machine → List ℕ → Option Machine
 run m [] = m
@@ -120,7 +120,7 @@ run m (byte ∷ bytes) = run (option_and_then (λ at. go at byte) m) bytes
 
 -- the parts of the field that is read, where it may end there
 abbrev pub field_of : Machine → Option (List Part)
-field_of m = option_map (λ p. m.parts ++ p ∷ []) (whole m.bounds m.spot)
+field_of m = option_map (λ p. m.parts ++ p ∷ []) (whole m.bounds m.state)
 
 abbrev pub fields_in : Machine → List Bounds → Option (List (List Part))
 fields_in m [] = option_map (λ ps. m.done ++ ps ∷ []) (field_of m)

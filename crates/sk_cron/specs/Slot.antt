@@ -1,5 +1,6 @@
 -- The slots of a periodic job: the starts of minutes that match.
 use Rattle.std.specs.Prelude.{◌≡◌, ◌≤◌, ◌+◌, ◌%◌, ℕ, ℤ, true, Option, Some, None}
+use Rattle.sk_base.specs.declared.limits.TheConstants.{SLOT_LIFE}
 use Rattle.sk_cron.specs.declared.civil.Civil.{Civil}
 use Rattle.sk_cron.specs.Civil.{IsCivilAt}
 use Rattle.sk_cron.specs.Times.{Times, matches}
@@ -8,7 +9,7 @@ use Rattle.sk_cron.specs.Times.{Times, matches}
 pub record IsSlot (t : Times) (offset : ℤ) (now_ slot : ℕ) : Type 0 where
   pub start : slot % 60_000 ≡ 0
   pub past : slot ≤ now_
-  pub recent : now_ ≤ slot + 600_000
+  pub recent : now_ ≤ slot + SLOT_LIFE
   pub civil : Civil
   pub at : IsCivilAt slot offset civil
   pub fits : matches t civil ≡ true

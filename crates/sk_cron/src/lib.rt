@@ -6,14 +6,14 @@ mod civil;
 mod cron;
 mod cron_fault;
 mod field;
+mod parser_state;
 mod part;
 mod reader;
 mod slot;
-mod spot;
 
 pub use bounds::Bounds;
 pub use civil::Civil;
 pub use cron::Cron;
 pub use cron_fault::CronFault;
+pub use parser_state::{ParserState, Role};
 pub use part::Part;
-pub use spot::{Role, Spot};

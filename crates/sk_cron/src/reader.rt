@@ -7,8 +7,8 @@ ghost use Rattle.sk_cron.specs.declared.part.Part.{Part};
 
 use crate::bounds::bounds_of;
 use crate::field::Field;
-use crate::spot::{Next, after, whole};
-use crate::{Part, Role, Spot};
+use crate::parser_state::{Next, after, whole};
+use crate::{ParserState, Part, Role};
 
 /// The fields that are read, the last of them in part, and where in it the reader is.
 #[derive(Clone, Copy)]
@@ -16,7 +16,7 @@ pub struct Reader {
     pub fields: [Field; 5],
     /// The field that is read, from 0.
     pub at: usize,
-    pub spot: Spot,
+    pub state: ParserState,
 }
 
 impl Reader {
@@ -27,7 +27,7 @@ impl Reader {
         Reader {
             fields: [Field::new(); 5],
             at: 0,
-            spot: Spot::Ask(Role::First),
+            state: ParserState::Ask(Role::First),
         }
     }
 
@@ -36,7 +36,7 @@ impl Reader {
         requires within { self.old.at < 5 }
         requires step { 1 ≤ step_of part }
         ensures fields { (done : List (List Part)) (parts : List Part) → length done ≡ self.old.at → AllHold (done ++ parts ∷ []) self.old.fields → AllHold (done ++ (parts ++ part ∷ []) ∷ []) self.new.fields }
-        ensures others { (self.new.at ≡ self.old.at) × (self.new.spot ≡ self.old.spot) }
+        ensures others { (self.new.at ≡ self.old.at) × (self.new.state ≡ self.old.state) }
     {
         self.fields[self.at].add(bounds_of(self.at), part);
     }
@@ -47,11 +47,11 @@ impl Reader {
         ensures is { (m : Machine) → Agrees m self.old → MatchOption (go m byte) (result ≡ false) (λ next. (result ≡ true) × Agrees next self.new) }
         ensures no { result ≡ false → self.new ≡ self.old }
     {
-        match after(bounds_of(self.at), self.spot, byte) {
-            Next::Stays(spot) => self.spot = spot,
+        match after(bounds_of(self.at), self.state, byte) {
+            Next::Stays(state) => self.state = state,
             Next::Comma(part) => {
                 self.add(part);
-                self.spot = Spot::Ask(Role::First);
+                self.state = ParserState::Ask(Role::First);
             }
             Next::Space(part) => {
                 if self.at == 4 {
@@ -59,7 +59,7 @@ impl Reader {
                 }
                 self.add(part);
                 self.at += 1;
-                self.spot = Spot::Gap;
+                self.state = ParserState::Gap;
             }
             Next::Fault => return false,
         }
@@ -75,7 +75,7 @@ impl Reader {
         if self.at < 4 {
             return false;
         }
-        match whole(bounds_of(self.at), self.spot) {
+        match whole(bounds_of(self.at), self.state) {
             Some(part) => {
                 self.add(part);
                 true

@@ -6,13 +6,10 @@ ghost use Rattle.sk_cron.specs.Slot.{IsLastSlot};
 
 use crate::Cron;
 use crate::civil::civil_at;
+use sk_base::limits::{LAST_MOMENT, SLOT_LIFE};
 
 // Milliseconds of a minute.
 const MINUTE: u64 = 60_000;
-// How long ago a slot may be, in milliseconds.
-const RECENT: u64 = 600_000;
-// The end of the year 9998, in milliseconds since 1970: the greatest moment.
-const LAST_MOMENT: u64 = 253_370_764_799_999;
 
 impl Cron {
     // The latest slot of a moment that the calendar has.
@@ -22,7 +19,7 @@ impl Cron {
         ensures { IsLastSlot self.now offset now result }
     {
         let mut slot = now - now % MINUTE;
-        'back: while now - slot <= RECENT {
+        'back: while now - slot <= SLOT_LIFE {
             if self.matches(&civil_at(slot, offset)) {
                 return Some(slot);
             }

@@ -1,6 +1,6 @@
 -- What a command and a cut keep of what stands behind the lock.
 use Rattle.std.proofs.Common.{◌≡◌, ◌⊎◌, ◌≤◌, ◌+◌, ◌-◌, ◌∙◌, ℕ, List, [], ◌∷◌, ◌++◌, length, map, refl, sym, ap, subst, inl, inr, arith}
-use Rattle.std.specs.Prelude.{◌^◌, Option, Some, None, Ok, IfSome}
+use Rattle.std.specs.Prelude.{◌^◌, Bool, true, false, Option, Some, None, Ok, IfSome}
 use Rattle.sk_resp.specs.Spelling.{Bytes}
 use Rattle.sk_resp.specs.declared.reply.Reply.{Reply}
 use Rattle.sk_cmd.specs.Reading.{Read}
@@ -8,16 +8,16 @@ use Rattle.sk_cmd.specs.Table.{IsRead}
 use Rattle.sk_cmd.specs.declared.command.Command.{Command}
 use Rattle.sk_model.specs.Acked.{Acknowledges, Acks}
 use Rattle.sk_model.specs.Change.{perform}
-use Rattle.sk_model.specs.Event.{Happens, Leads, Run, Step, world_after}
-use Rattle.sk_model.specs.Outcome.{Comes, Outcome}
+use Rattle.sk_model.specs.Event.{Happens, Reaches, Run, Step, world_after}
+use Rattle.sk_model.specs.Outcome.{Realizes, Outcome}
 use Rattle.sk_model.specs.Reading.{Words}
-use Rattle.sk_model.specs.Step.{Steps, cut}
+use Rattle.sk_model.specs.Step.{MayComeTo, cut}
 use Rattle.sk_model.specs.World.{World, first}
 use Rattle.sk_model.specs.declared.limits.Limits.{Limits}
-use Rattle.sk_model.proofs.Acking.{acked, starved_acks_none}
-use Rattle.sk_model.proofs.Reliable.{reliable}
-use Rattle.sk_model.proofs.Running.{leads_on}
-use Rattle.sk_model.proofs.Starving.{limits_kept}
+use Rattle.sk_model.proofs.Theorems.Acknowledged.{acked, starved_acks_none}
+use Rattle.sk_model.proofs.Theorems.Reliable.{reliable}
+use Rattle.sk_model.proofs.Theorems.Runs.{leads_on}
+use Rattle.sk_model.proofs.Theorems.Starving.{limits_kept}
 use Rattle.sk_desk.specs.declared.entry.Entry.{Entry}
 use Rattle.sk_desk.specs.Journal.{IsJournal, KeepsReply, Records, RecordsAll, event_of}
 use Rattle.sk_desk.specs.Log.{IsClosed, IsOpen, IsText, Log, Notes, Prepares, Writes, ask_entry, cut_entry, empty, with_entry, with_note, with_waiting}
@@ -64,9 +64,9 @@ record Recorded (w : World) (e : Entry) (v : World) : Type 0 where
 journal_on : (entries : List Entry) (w v : World) (e : Entry) → IsJournal entries w → Recorded w e v → IsJournal (entries ++ e ∷ []) v
 journal_on entries w v e journal r =
     let step : Step = record { event = event_of e.seat e.deed; outcome = r.outcome } in
-    let one : Leads w (step ∷ []) v = record { run = (r.happens, tt); new_is = r.new_is } in
+    let one : Reaches w (step ∷ []) v = record { run = (r.happens, tt); new_is = r.new_is } in
     let limits : w.limits ≡ v.limits = sym (ap (λ (u : World). u.limits) r.new_is ∙ limits_kept w r.outcome.changes) in
-    let leads : Leads (first v.limits) (journal.steps ++ step ∷ []) v = subst (λ l. Leads (first l) (journal.steps ++ step ∷ []) v) limits (leads_on (first w.limits) w v journal.steps (step ∷ []) journal.leads one) in
+    let leads : Reaches (first v.limits) (journal.steps ++ step ∷ []) v = subst (λ l. Reaches (first l) (journal.steps ++ step ∷ []) v) limits (leads_on (first w.limits) w v journal.steps (step ∷ []) journal.leads one) in
     record {
       steps = journal.steps ++ step ∷ [];
       records = records-append entries journal.steps e step journal.records (record { event_is = refl; reply = r.reply });
@@ -79,11 +79,16 @@ logged_on None after w v e logged r is = subst (λ l. IfSome l (IsLogged v)) (sy
 logged_on (Some log) after w v e logged r (inl is) = subst (λ l. IfSome l (IsLogged v)) (sym is) (record { closed = logged.closed; journal = journal_on log.entries w v e logged.journal r })
 logged_on (Some log) after w v e logged r (inr (many, is)) = subst (λ l. IfSome l (IsLogged v)) (sym is) tt
 
+-- a book that tells no log has none afterwards
+unlogged_on : (log after : Option Log) (w : World) (e : Entry) → log ≡ None → Writes log (with_entry e) after → IfSome after (IsLogged w)
+unlogged_on None after w e none is = subst (λ l. IfSome l (IsLogged w)) (sym is) tt
+unlogged_on (Some log) after w e none is = absurd (cc none)
+
 -- ## An empty store
 
 journal_first : (limits : Limits) → IsJournal [] (first limits)
 journal_first limits =
-    let leads : Leads (first limits) [] (first limits) = record { run = tt; new_is = refl } in
+    let leads : Reaches (first limits) [] (first limits) = record { run = tt; new_is = refl } in
     record { steps = []; records = tt; leads = leads; reliable = reliable limits [] tt }
 
 logged_first : (log : Option Log) (limits : Limits) → IfSome log (λ l. l ≡ empty) → IfSome log (IsLogged (first limits))
@@ -97,7 +102,7 @@ consistent_first log limits total zero_ none = record { counted = zero_; logged 
 
 -- what a command comes to
 abbrev pub Stepped : World → ℕ → ℕ → Command → Reply → World → Type 0
-Stepped old seat now c answer new = (o : Outcome) × Steps old seat now c o × Comes old o answer new
+Stepped old seat now c answer new = (o : Outcome) × MayComeTo old seat now c o × Realizes old o answer new
 
 -- its reply acknowledges the rows that the tally grew by
 acknowledged : (old new : World) (seat now : ℕ) (c : Command) (answer : Reply) → Stepped old seat now c answer new → Acknowledges c answer old.tally.outside new.tally.outside
@@ -142,13 +147,15 @@ ask_acknowledged old new seat now words c answer mine mine' (inl asked) = asked.
 ask_acknowledged old new seat now words c answer mine mine' (inr unasked) =
     record { added = 0; acks = subst (λ r. Acks c r 0) (sym unasked.says) (starved_acks_none c); after_is = omega (arith, unasked.mine_same) }
 
--- what a command leaves is consistent again
-pub asked_consistent : (old new : StateView) (seat now : ℕ) (words : Words) (c : Command) (answer : Reply) (mine mine' : ℕ) → IsConsistent old → IsRead words (Ok c) → Asked old new seat now words c answer mine mine' → new.total ≡ new.world.tally.outside → IsConsistent new
-asked_consistent old new seat now words c answer mine mine' consistent is_read asked count = record {
+-- what a command leaves is consistent again, whether its book wants the words, or tells no log
+pub asked_consistent : (wants : Bool) (old new : StateView) (seat now : ℕ) (words : Words) (c : Command) (answer : Reply) (mine mine' : ℕ) → IsConsistent old → (wants ≡ true → IsRead words (Ok c)) → (wants ≡ false → old.log ≡ None) → Asked old new seat now words c answer mine mine' → new.total ≡ new.world.tally.outside → IsConsistent new
+asked_consistent true old new seat now words c answer mine mine' consistent is_read untold asked count = record {
   counted = count;
   logged = logged_on old.log new.log old.world new.world (ask_entry seat now words asked.text) consistent.logged
-      (record { outcome = asked.outcome; happens = (Ok c, is_read, asked.steps); new_is = asked.comes.new_is; reply = subst (λ r. IsText r asked.text) asked.comes.reply_is asked.is_text }) asked.entered;
+      (record { outcome = asked.outcome; happens = (Ok c, is_read refl, asked.steps); new_is = asked.comes.new_is; reply = subst (λ r. IsText r asked.text) asked.comes.reply_is asked.is_text }) asked.entered;
 }
+asked_consistent false old new seat now words c answer mine mine' consistent is_read untold asked count =
+    record { counted = count; logged = unlogged_on old.log new.log new.world (ask_entry seat now words asked.text) (untold refl) asked.entered }
 
 -- ## A cut
 

@@ -2,7 +2,7 @@
 use Rattle.std.specs.Prelude.{◌≡◌, ℕ, List, [], ◌∷◌}
 use Rattle.sk_resp.specs.declared.reply.Reply.{Reply}
 use Rattle.sk_model.specs.World.{World, first}
-use Rattle.sk_model.specs.Event.{Event, Ask, Cut, Step, Leads}
+use Rattle.sk_model.specs.Event.{Event, Ask, Cut, Step, Reaches}
 use Rattle.sk_model.specs.Reliable.{IsReliable}
 use Rattle.sk_desk.specs.declared.entry.Deed.{Deed}
 use Rattle.sk_desk.specs.declared.entry.Deed.TheVariants as deed
@@ -35,5 +35,5 @@ RecordsAll (e ∷ entries) [] = ⊥
 pub record IsJournal (entries : List Entry) (w : World) : Type 0 where
   pub steps : List Step
   pub records : RecordsAll entries steps
-  pub leads : Leads (first w.limits) steps w
+  pub leads : Reaches (first w.limits) steps w
   pub reliable : IsReliable w.limits steps

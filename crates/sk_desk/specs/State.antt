@@ -4,12 +4,13 @@ use Rattle.sk_resp.specs.Spelling.{Bytes}
 use Rattle.sk_resp.specs.declared.reply.Reply.{Reply}
 use Rattle.sk_resp.specs.declared.reply.Reply.TheVariants as reply
 use Rattle.sk_resp.specs.declared.say.Say.TheVariants as say
+use Rattle.sk_status.specs.declared.tally.Tally.{Tally}
 use Rattle.sk_cmd.specs.declared.command.Command.{Command}
 use Rattle.sk_model.specs.Acked.{Acknowledges}
 use Rattle.sk_model.specs.Change.{perform}
-use Rattle.sk_model.specs.Outcome.{Comes, Outcome}
+use Rattle.sk_model.specs.Outcome.{Realizes, Outcome}
 use Rattle.sk_model.specs.Reading.{Words}
-use Rattle.sk_model.specs.Step.{Steps, cut}
+use Rattle.sk_model.specs.Step.{MayComeTo, cut}
 use Rattle.sk_model.specs.World.{World}
 use Rattle.sk_desk.specs.Journal.{IsJournal}
 use Rattle.sk_desk.specs.Log.{EntersCut, IsText, Log, Writes, ask_entry, with_entry}
@@ -30,14 +31,18 @@ pub record IsConsistent (s : StateView) : Type 0 where
   pub counted : s.total ≡ s.world.tally.outside
   pub logged : IfSome s.log (IsLogged s.world)
 
+-- Each row that was pushed had no head, or its job was there already, is live, or has ended.
+abbrev pub IsBalanced : Tally → Type 0
+IsBalanced t = t.outside + t.inner ≡ t.bare + t.again + t.live + t.returned + t.discarded + t.deleted + t.trimmed + t.muddled
+
 -- ## A seat's command
 
 -- The store did the command and gave its reply, or starved. The share and the total grew by the rows that the reply acknowledges, and just this
 -- Ask was entered.
 pub record Asked (old new : StateView) (seat now : ℕ) (words : Words) (c : Command) (answer : Reply) (mine mine' : ℕ) : Type 0 where
   pub outcome : Outcome
-  pub steps : Steps old.world seat now c outcome
-  pub comes : Comes old.world outcome answer new.world
+  pub steps : MayComeTo old.world seat now c outcome
+  pub comes : Realizes old.world outcome answer new.world
   pub acked : Acknowledges c answer mine mine'
   pub total_is : new.total ≡ old.total + acked.added
   pub text : Option Bytes

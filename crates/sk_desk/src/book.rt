@@ -1,5 +1,5 @@
 // Who keeps the journal of a store. For each command it is asked twice: for memory before the command is done, and for the reply afterwards.
-ghost use Rattle.std.specs.Prelude.{◌≡◌, None, Option, OnOk, OnErr};
+ghost use Rattle.std.specs.Prelude.{◌≡◌, Bool, true, false, None, Option, OnOk, OnErr, refl};
 ghost use Rattle.sk_desk.specs.Log.{IsClosed, IsOpen, Log, EntersCut, Notes, Prepares};
 
 use sk_resp::{Memory, Reply, Words};
@@ -9,8 +9,15 @@ pub trait Book: Drop {
     /// What has the memory of one Cut entry.
     type Place: Drop;
 
+    /// It keeps the words of the commands.
+    ghost wants_words: { Bool };
+
     /// The entries that it has, and the one that waits for its reply, where it tells them.
     ghost log: { Self → Option Log };
+
+    /// Whether books of this kind keep the words of the commands. One that doesn't may be handed any, as an empty list.
+    fn wants_words() -> bool
+        ensures { result ≡ wants_words };
 
     /// Takes the memory of one Cut entry, so that a cut needs none.
     fn enter(&mut self) -> Result<Self::Place, Memory>
@@ -31,6 +38,9 @@ pub trait Book: Drop {
     fn quit(&mut self, seat: u32, place: Self::Place)
         requires { IsClosed (log self.old) }
         ensures { EntersCut seat (log self.old) (log self.new) };
+
+    /// A book that doesn't keep the words tells no log.
+    ghost untold: { (book : Self) → wants_words ≡ false → log book ≡ None };
 }
 
 /// No journal.
@@ -40,7 +50,13 @@ pub struct NoBook;
 impl Book for NoBook {
     type Place = ();
 
+    ghost wants_words = { false };
+
     ghost log = { λ book. None };
+
+    fn wants_words() -> bool {
+        false
+    }
 
     fn enter(&mut self) -> Result<(), Memory> {
         Ok(())
@@ -53,4 +69,6 @@ impl Book for NoBook {
     fn note(&mut self, _reply: &Reply) {}
 
     fn quit(&mut self, _seat: u32, _place: ()) {}
+
+    ghost untold = { λ book none. refl };
 }

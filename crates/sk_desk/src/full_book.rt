@@ -1,5 +1,5 @@
 // A book that keeps every entry. An entry is made in a list of its own, whose node is then put behind the others: that takes no memory.
-ghost use Rattle.std.specs.Prelude.{◌≡◌, ◌≤◌, ◌^◌, [], ◌∷◌, length, MatchOption, Some};
+ghost use Rattle.std.specs.Prelude.{◌≡◌, ◌≤◌, ◌^◌, [], ◌∷◌, length, true, MatchOption, Some};
 ghost use Rattle.sk_desk.specs.Log.{IsText, cut_entry, empty, noted};
 
 use crate::{Ask, Book, Deed, Entry};
@@ -91,7 +91,13 @@ pub(crate) fn text_of(alloc: Global, reply: &Reply) -> Option<Word>
 impl Book for FullBook {
     type Place = CutPlace;
 
+    ghost wants_words = { true };
+
     ghost log = { λ book. book };
+
+    fn wants_words() -> bool {
+        true
+    }
 
     fn enter(&mut self) -> Result<CutPlace, Memory> {
         let mut entry = LinkedList::new(self.alloc);
@@ -134,4 +140,6 @@ impl Book for FullBook {
             self.lost = true;
         }
     }
+
+    ghost untold = { λ book none. absurd (cc none) };
 }

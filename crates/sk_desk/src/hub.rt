@@ -1,18 +1,20 @@
 // The lock round the store, and what is left of it once no desk uses it.
-ghost use Rattle.std.specs.Prelude.{◌≡◌, ◌⊎◌, ◌↔◌, ◌<◌, ◌≤◌, ◌+◌, ◌-◌, ◌^◌, length, Ok, Err, IfOk, IfErr, IfSome};
+ghost use Rattle.std.specs.Prelude.{◌≡◌, ◌⊎◌, ◌↔◌, ◌<◌, ◌≤◌, ◌+◌, ◌-◌, ◌^◌, length, true, Ok, Err, IfOk, IfErr, IfSome};
 ghost use Rattle.sk_cmd.specs.Table.{IsRead};
 ghost use Rattle.sk_core.specs.Whole.{KeepsLaws};
+ghost use Rattle.sk_jobs.specs.Counting.{tally_of};
 ghost use Rattle.sk_model.specs.Acked.{Acknowledges};
 ghost use Rattle.sk_desk.specs.Journal.{IsJournal};
 ghost use Rattle.sk_desk.specs.Log.{empty};
 ghost use Rattle.sk_desk.specs.Pass.{seated};
-ghost use Rattle.sk_desk.specs.State.{IsConsistent};
+ghost use Rattle.sk_desk.specs.State.{IsBalanced, IsConsistent};
 
 use crate::{Book, Entry, FullBook, LockedDesk, Pass, State};
 use sk_cmd::Command;
 use sk_core::Core;
 use sk_model::Limits;
 use sk_resp::{Memory, Reply, Words};
+use sk_status::Tally;
 use std::alloc::Global;
 use std::collections::LinkedList;
 use std::marker::Model;
@@ -86,7 +88,7 @@ impl<L: Ledger, B: Book> Hub<L, B> {
         command: Command,
     ) -> Reply
         requires part { 0 < share.old.parts }
-        requires read { IsRead words.now (Ok command) }
+        requires read { B.wants_words ≡ true → IsRead words.now (Ok command) }
         ensures parts { share.new.parts ≡ share.old.parts }
         ensures acked { Acknowledges command result share.old.amount share.new.amount }
     {
@@ -97,6 +99,9 @@ impl<L: Ledger, B: Book> Hub<L, B> {
     pub(crate) fn quit<R: Wait>(&self, rt: &R, seat: u32, place: B::Place) {
         self.state.lock(rt).quit(seat, place);
     }
+
+    /// Gives the store and its book up. Takes no memory.
+    pub fn abandon(self) {}
 
     /// The store and its book, once no desk is left.
     pub fn close(self) -> Closed<L, B>
@@ -138,6 +143,20 @@ impl<L: Ledger, B: Book> Closed<L, B> {
     {
         pass.audit(&mut self.total);
         self.core.tally().outside
+    }
+
+    /// How many rows all desks acknowledged, as `audit` tells, and the tally of all rows; the store and its book are given up. Takes no memory.
+    pub fn finish(self, pass: &mut Pass<L>) -> (u64, Tally)
+        requires { pass.old.parts ≡ L.parts }
+        ensures amount { result.0 ≡ pass.old.amount }
+        ensures outside { result.0 ≡ result.1.outside }
+        ensures tally { result.1 ≡ tally_of self.world }
+        ensures balanced { IsBalanced result.1 }
+        ensures same { pass.new ≡ pass.old }
+    {
+        let mut closed = self;
+        let acknowledged = closed.audit(pass);
+        (acknowledged, closed.core.tally())
     }
 }
 

@@ -1,5 +1,5 @@
 // One seat at the shared store.
-ghost use Rattle.std.specs.Prelude.{◌≡◌, None};
+ghost use Rattle.std.specs.Prelude.{◌≡◌, None, refl};
 ghost use Rattle.sk_desk.specs.Pass.{joined};
 
 use crate::{Book, Desk, Hub, Pass};
@@ -75,12 +75,20 @@ impl<'a, R: Wait + Sync, L: Ledger, B: Book> LockedDesk<'a, R, L, B> {
 }
 
 impl<'a, R: Wait + Sync, L: Ledger, B: Book> Desk for LockedDesk<'a, R, L, B> {
+    ghost wants_words = { B.wants_words };
+
     ghost acked = { λ d. d.amount };
 
     ghost calls = { λ d. None };
+
+    fn wants_words(&self) -> bool {
+        B::wants_words()
+    }
 
     fn call(&mut self, words: &Words, command: Command, now: u64) -> Reply {
         self.hub
             .ask(self.rt, &mut self.share, self.seat, now, words, command)
     }
+
+    ghost untold = { λ desk none. refl };
 }

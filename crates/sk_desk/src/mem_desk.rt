@@ -1,9 +1,9 @@
 // One seat over a store of its own, for tests: it keeps its calls. Where there is no memory for one it tells them no more.
-ghost use Rattle.std.specs.Prelude.{◌≡◌, ◌++◌, [], ◌∷◌, Ok, Some, IfSome, OnOk, OnErr};
+ghost use Rattle.std.specs.Prelude.{◌≡◌, ◌++◌, [], ◌∷◌, true, Ok, Some, IfSome, OnOk, OnErr};
 ghost use Rattle.sk_cmd.specs.Table.{IsRead};
 ghost use Rattle.sk_model.specs.Acked.{Acknowledges};
-ghost use Rattle.sk_model.specs.Outcome.{Comes, Outcome};
-ghost use Rattle.sk_model.specs.Step.{Steps};
+ghost use Rattle.sk_model.specs.Outcome.{Realizes, Outcome};
+ghost use Rattle.sk_model.specs.Step.{MayComeTo};
 ghost use Rattle.sk_desk.specs.Calls.{AddsCall, call_of};
 
 use crate::full_book::text_of;
@@ -95,15 +95,21 @@ impl MemDesk {
 }
 
 impl Desk for MemDesk {
+    ghost wants_words = { true };
+
     ghost acked = { λ d. d.acked };
 
     ghost calls = { λ d. d.calls };
+
+    fn wants_words(&self) -> bool {
+        true
+    }
 
     /// It is a step of the store.
     fn call(&mut self, words: &Words, command: Command, now: u64) -> Reply
         ensures acked { Acknowledges command result self.old.acked self.new.acked }
         ensures told { AddsCall self.old.calls (call_of words.now now result) self.new.calls }
-        ensures steps { (o : Outcome) × Steps self.old.world self.old.seat now command o × Comes self.old.world o result self.new.world }
+        ensures steps { (o : Outcome) × MayComeTo self.old.world self.old.seat now command o × Realizes self.old.world o result self.new.world }
         ensures seat { self.new.seat ≡ self.old.seat }
     {
         let reply = self.core.step(self.seat, now, command);
@@ -112,4 +118,6 @@ impl Desk for MemDesk {
         }
         reply
     }
+
+    ghost untold = { λ desk none. absurd (cc none) };
 }

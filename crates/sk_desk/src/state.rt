@@ -1,5 +1,5 @@
 // What stands behind the lock: the store, its book, and the total of what was acknowledged.
-ghost use Rattle.std.specs.Prelude.{◌≡◌, ◌<◌, Ok, IfSome};
+ghost use Rattle.std.specs.Prelude.{◌≡◌, ◌<◌, true, Ok, IfSome};
 ghost use Rattle.sk_cmd.specs.Table.{IsRead};
 ghost use Rattle.sk_core.specs.Whole.{KeepsLaws};
 ghost use Rattle.sk_model.specs.World.{first};
@@ -56,8 +56,8 @@ impl<L: Ledger, B: Book> State<L, B> {
         self.book.enter()
     }
 
-    /// Lets the store do a seat's command at a moment, in milliseconds since 1970, and answers its reply. The command, whose words these are, is
-    /// entered in the book, and the rows that the reply acknowledges are added to the share and to the total. Where the book finds no memory the
+    /// Lets the store do a seat's command at a moment, in milliseconds since 1970, and answers its reply. The command, whose words these are
+    /// where the book wants them, is entered in it, and the rows that the reply acknowledges are added to the share and to the total. Where the book finds no memory the
     /// reply is `-OOM`, and nothing changes.
     pub fn ask(
         &mut self,
@@ -68,7 +68,7 @@ impl<L: Ledger, B: Book> State<L, B> {
         command: Command,
     ) -> Reply
         requires part { 0 < share.old.parts }
-        requires read { IsRead words.now (Ok command) }
+        requires read { B.wants_words ≡ true → IsRead words.now (Ok command) }
         ensures parts { share.new.parts ≡ share.old.parts }
         ensures asks { Asks self.old self.new seat now words.now command result share.old.amount share.new.amount }
     {

@@ -21,10 +21,10 @@ use Rattle.sk_model.specs.Batches.{all_may_join, are_callbacks, batch_add, batch
 use Rattle.sk_model.specs.Change.{Makes, changed, perform}
 use Rattle.sk_model.specs.Outcome.{Outcome, refuses}
 use Rattle.sk_model.specs.Room.{is_full, is_too_much}
-use Rattle.sk_model.specs.Told.{fire_all, push_job}
-use Rattle.sk_model.proofs.Good.{perform-append}
-use Rattle.sk_jobs.specs.Batching.{unless_told}
-use Rattle.sk_jobs.specs.Calls.{calls}
+use Rattle.sk_model.specs.Notify.{fire_all, push_job}
+use Rattle.sk_model.proofs.Changes.Lawful.{perform-append}
+use Rattle.sk_jobs.specs.Batching.{unless_err}
+use Rattle.sk_jobs.specs.Callbacks.{callback_pushes}
 use Rattle.sk_jobs.proofs.Calling.{fire_all_is, pushes_apart, with_batched}
 
 -- ## Room
@@ -60,8 +60,8 @@ pub push_kept : {A : Type 0} (w : World) (batch : Batch) (texts : List Bytes) (n
     → broken ≡ bid_fault batch.bid batch.parent w.batches None → ((o : Outcome) → unless broken o ≡ o)
     → fit ≡ are_callbacks batch.callbacks && all_may_join batch.bid texts → ((o : Outcome) → cond (not fit) (refuses BadPayload) o ≡ o)
     → repeated ≡ jids_fault batch.bid (jids_of texts) w.batches (breaks (has_most w.batches) Full None) → ((o : Outcome) → unless repeated o ≡ o)
-    → not room ≡ is_too_much w texts → ((o : Outcome) → cond (not room) (refuses refusal.Full) o ≡ unless_told r o)
-    → batch_push w batch texts ≡ unless_told r (make batch texts)
+    → not room ≡ is_too_much w texts → ((o : Outcome) → cond (not room) (refuses refusal.Full) o ≡ unless_err r o)
+    → batch_push w batch texts ≡ unless_err r (make batch texts)
 push_kept w batch texts named fit room broken repeated r e1 k1 e2 k2 e3 k3 e4 k4 e5 k5 =
     let at5 : Outcome = cond (is_too_much w texts) (refuses refusal.Full) (make batch texts) in
     let at4 : Outcome = unless (jids_fault batch.bid (jids_of texts) w.batches (breaks (has_most w.batches) Full None)) at5 in
@@ -78,8 +78,8 @@ pub add_kept : {A : Type 0} (w : World) (bid : Bytes) (texts : List Bytes) (fit 
     → broken ≡ batch_fault bid w.batches None → ((o : Outcome) → unless broken o ≡ o)
     → fit ≡ all_may_join bid texts → ((o : Outcome) → cond (not fit) (refuses BadPayload) o ≡ o)
     → repeated ≡ jids_fault bid (jids_of texts) w.batches None → ((o : Outcome) → unless repeated o ≡ o)
-    → not room ≡ is_too_much w texts → ((o : Outcome) → cond (not room) (refuses refusal.Full) o ≡ unless_told r o)
-    → batch_add w bid texts ≡ unless_told r (join bid texts)
+    → not room ≡ is_too_much w texts → ((o : Outcome) → cond (not room) (refuses refusal.Full) o ≡ unless_err r o)
+    → batch_add w bid texts ≡ unless_err r (join bid texts)
 add_kept w bid texts fit room broken repeated r e1 k1 e2 k2 e3 k3 e4 k4 =
     let at4 : Outcome = cond (is_too_much w texts) (refuses refusal.Full) (join bid texts) in
     let at3 : Outcome = unless (jids_fault bid (jids_of texts) w.batches None) at4 in
@@ -116,14 +116,14 @@ jobs_apart b v (text ∷ texts) =
 
 -- The batches changed at once, the jobs were pushed, and what was fired was called.
 pub make_is : (w mid new : World) (b : Batched) (batch : Batch) (texts : List Bytes) (firings : List Firing) → firings ≡ made_fires batch (jids_of texts) → b ≡ made batch (jids_of texts) w.batches
-    → mid ≡ perform (with_batched b w) (push_jobs texts) → new ≡ perform mid (calls firings) → new ≡ perform w (make batch texts).changes
+    → mid ≡ perform (with_batched b w) (push_jobs texts) → new ≡ perform mid (callback_pushes firings) → new ≡ perform w (make batch texts).changes
 make_is w mid new b batch texts firings fires made_is pushed called =
     let fs : List Firing = made_fires batch (jids_of texts) in
     let begun : World = changed w (Makes batch (jids_of texts)) in
     let out : World = perform begun (push_jobs texts) in
     let same : out ≡ with_batched begun.batches out = jobs_apart begun.batches begun texts in
     called
-    ∙ ap₂ (λ x l. perform x (calls l)) (pushed ∙ ap (λ (c : Batched). perform (with_batched c w) (push_jobs texts)) made_is ∙ jobs_apart (fired fs begun.batches) begun texts) fires
-    ∙ ap (λ (x : World). perform (with_batched (fired fs x.batches) out) (calls fs)) (sym same)
+    ∙ ap₂ (λ x l. perform x (callback_pushes l)) (pushed ∙ ap (λ (c : Batched). perform (with_batched c w) (push_jobs texts)) made_is ∙ jobs_apart (fired fs begun.batches) begun texts) fires
+    ∙ ap (λ (x : World). perform (with_batched (fired fs x.batches) out) (callback_pushes fs)) (sym same)
     ∙ sym (fire_all_is out fs)
     ∙ sym (perform-append begun (push_jobs texts) (fire_all fs))

@@ -12,7 +12,7 @@ use Rattle.sk_leases.specs.Lease.{Lease}
 use Rattle.sk_batch.specs.declared.firing.Firing.{Firing}
 use Rattle.sk_batch.specs.declared.event.Event.{Event}
 use Rattle.sk_batch.specs.declared.event.Event.TheVariants.{Died}
-use Rattle.sk_batch.specs.Told.{fires_of}
+use Rattle.sk_batch.specs.Notify.{fires_of}
 use Rattle.sk_places.specs.declared.origin.Origin.TheVariants.{Inner}
 use Rattle.sk_places.specs.declared.row.Place.TheVariants.{Set}
 use Rattle.sk_places.specs.declared.row.Row.{Row}
@@ -24,10 +24,10 @@ use Rattle.sk_seats.specs.declared.work.Stage.TheVariants.{Held, Put, Settled}
 use Rattle.sk_seats.specs.declared.work.Work.{Work}
 use Rattle.sk_seats.specs.Works.{first, is_done_as}
 use Rattle.sk_model.specs.World.{World, phase_of}
-use Rattle.sk_model.specs.Change.{Add, Beats, Carry, Change, Counts, Elects, Fire, Forgets, Free, Joins, Keeps, Locks, Makes, Marks, Merge, Move, Moves, Names, Passes, PutBack, Recovers, Take, Tells, Trim, Turns, Unlocks, Unnames, changed, freed, freed_at, freed_work, moved, perform}
-use Rattle.sk_model.specs.Jobs.{Sent, bury, each, merge, put_dead, surplus, to_queue}
+use Rattle.sk_model.specs.Change.{Add, Beats, Carry, Change, Counts, Elects, Fire, Forgets, Free, Joins, Keeps, Locks, Makes, TakesSlot, Merge, Move, Moves, Names, Passes, PutBack, Recovers, Take, Notifies, Trim, Turns, Unlocks, Unnames, changed, freed, freed_at, freed_work, moved, perform}
+use Rattle.sk_model.specs.Jobs.{Routed, bury, each, merge, put_dead, surplus, to_queue}
 use Rattle.sk_model.specs.Rescue.{bury_poison, is_poison, rescue_row}
-use Rattle.sk_model.specs.Told.{call, fire_all, push_to, tell, tell_in, tell_of}
+use Rattle.sk_model.specs.Notify.{push_callback, fire_all, push_to, notify, notify_in, notify_of}
 
 -- neither a heartbeat nor a moment comes
 abbrev pub is_calm : Change → Bool
@@ -44,10 +44,10 @@ is_calm (Forgets jid) = true
 is_calm (Locks digest jid seconds) = true
 is_calm (Unlocks digest jid) = true
 is_calm (Elects ident) = true
-is_calm (Marks loop slot text) = true
+is_calm (TakesSlot loop slot text) = true
 is_calm (Makes batch jids) = true
 is_calm (Joins bid jids) = true
-is_calm (Tells event bid jid) = true
+is_calm (Notifies event bid jid) = true
 
 abbrev pub beats_of : World → List Lease
 beats_of w = w.leases.beats
@@ -89,10 +89,10 @@ changed_beats w (Forgets jid) e = refl
 changed_beats w (Locks digest jid seconds) e = refl
 changed_beats w (Unlocks digest jid) e = refl
 changed_beats w (Elects ident) e = refl
-changed_beats w (Marks loop slot text) e = refl
+changed_beats w (TakesSlot loop slot text) e = refl
 changed_beats w (Makes batch jids) e = refl
 changed_beats w (Joins bid jids) e = refl
-changed_beats w (Tells event bid jid) e = refl
+changed_beats w (Notifies event bid jid) e = refl
 
 calm_beats : (w : World) (changes : List Change) → list_all is_calm changes ≡ true → beats_of (perform w changes) ≡ beats_of w
 calm_beats w [] e = refl
@@ -107,21 +107,21 @@ push_calm : (text : Bytes) (found : Option Head) → list_all is_calm (push_to I
 push_calm text None = refl
 push_calm text (Some h) = refl
 
-call_calm : (payload : Option Bytes) → list_all is_calm (call payload) ≡ true
-call_calm None = refl
-call_calm (Some text) = push_calm text (head text)
+push_callback_calm : (payload : Option Bytes) → list_all is_calm (push_callback payload) ≡ true
+push_callback_calm None = refl
+push_callback_calm (Some text) = push_calm text (head text)
 
 fires_calm : (firings : List Firing) → list_all is_calm (fire_all firings) ≡ true
 fires_calm [] = refl
-fires_calm (f ∷ firings) = both_calm (call f.payload) (fire_all firings) (call_calm f.payload) (fires_calm firings)
+fires_calm (f ∷ firings) = both_calm (push_callback f.payload) (fire_all firings) (push_callback_calm f.payload) (fires_calm firings)
 
-tell_in_calm : (w : World) (event : Event) (jid : Bytes) (bid : Option Bytes) → list_all is_calm (tell_in event w jid bid).changes ≡ true
-tell_in_calm w event jid None = refl
-tell_in_calm w event jid (Some bid) = fires_calm (fires_of event bid jid w.batches)
+notify_in_calm : (w : World) (event : Event) (jid : Bytes) (bid : Option Bytes) → list_all is_calm (notify_in event w jid bid).changes ≡ true
+notify_in_calm w event jid None = refl
+notify_in_calm w event jid (Some bid) = fires_calm (fires_of event bid jid w.batches)
 
-tell_calm : (w : World) (event : Event) (found : Option Head) → list_all is_calm (tell_of event w found).changes ≡ true
-tell_calm w event None = refl
-tell_calm w event (Some h) = tell_in_calm w event h.jid h.bid
+notify_calm : (w : World) (event : Event) (found : Option Head) → list_all is_calm (notify_of event w found).changes ≡ true
+notify_calm w event None = refl
+notify_calm w event (Some h) = notify_in_calm w event h.jid h.bid
 
 merge_calm : (found : Option Row) → list_all is_calm (merge found) ≡ true
 merge_calm None = refl
@@ -137,11 +137,11 @@ bury_calm w row =
     let after : World = perform w put in
     let trims : List Change = map (λ r. Moves (Trim r)) (surplus after (rows_at (Set Dead) after.rows)) in
     let merged : List Change = merge (row_of row.text (rows_at (Set Dead) w.rows)) in
-    both_calm (put ++ trims) (tell Died (perform w (put ++ trims)) row.text).changes
+    both_calm (put ++ trims) (notify Died (perform w (put ++ trims)) row.text).changes
     (both_calm put trims (both_calm merged _ (merge_calm (row_of row.text (rows_at (Set Dead) w.rows))) refl) (trims_calm (surplus after (rows_at (Set Dead) after.rows))))
-    (tell_calm (perform w (put ++ trims)) Died (head row.text))
+    (notify_calm (perform w (put ++ trims)) Died (head row.text))
 
-either_calm : (b : Bool) (one other : Sent) → list_all is_calm one.changes ≡ true → list_all is_calm other.changes ≡ true → list_all is_calm (cond b one other).changes ≡ true
+either_calm : (b : Bool) (one other : Routed) → list_all is_calm one.changes ≡ true → list_all is_calm other.changes ≡ true → list_all is_calm (cond b one other).changes ≡ true
 either_calm true one other e f = e
 either_calm false one other e f = f
 
@@ -154,7 +154,7 @@ row_calm w row (Some h) =
 each_calm : (w : World) (rows : List Row) → list_all is_calm (each rescue_row w rows).changes ≡ true
 each_calm w [] = refl
 each_calm w (row ∷ rows) =
-    let one : Sent = rescue_row w row (head row.text) in
+    let one : Routed = rescue_row w row (head row.text) in
     both_calm one.changes (each rescue_row (perform w one.changes) rows).changes (row_calm w row (head row.text)) (each_calm (perform w one.changes) rows)
 
 pub rescue_beats : (w : World) (rows : List Row) → beats_of (perform w (each rescue_row w rows).changes) ≡ beats_of w

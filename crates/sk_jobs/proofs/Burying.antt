@@ -15,17 +15,17 @@ use Rattle.sk_places.specs.Rows.{is_at, place_cmp, row_of, rows_at, take_row}
 use Rattle.sk_model.specs.World.{World}
 use Rattle.sk_model.specs.Change.{Carry, Change, Moves, perform}
 use Rattle.sk_model.specs.Jobs.{buried_by, merge, moment_score, put_dead, surplus}
-use Rattle.sk_model.specs.Told.{Told, fired_texts, tell}
-use Rattle.sk_model.proofs.Good.{perform-append}
+use Rattle.sk_model.specs.Notify.{Notified, fired_texts, notify}
+use Rattle.sk_model.proofs.Changes.Lawful.{perform-append}
 use Rattle.sk_jobs.specs.declared.report.Report.{Report}
-use Rattle.sk_jobs.specs.Calls.{IsTold, member_of, tell_member}
-use Rattle.sk_jobs.specs.Sending.{IsAside, IsSent, dead_rows, rows_in, texts_of, trims}
-use Rattle.sk_jobs.proofs.Calling.{tell_is}
+use Rattle.sk_jobs.specs.Callbacks.{IsNotified, member_of, notify_member}
+use Rattle.sk_jobs.specs.Routing.{IsAside, IsRouted, dead_rows, rows_in, texts_of, trims}
+use Rattle.sk_jobs.proofs.Calling.{notify_is}
 use Rattle.sk_jobs.proofs.Fronts.{elsewhere, fails_at, front_taken, other_put, other_taken, place_of_row, text_of_row}
 
 -- the world with these rows and names, and the jobs that are live
 abbrev pub placed_in : World → Placed → World
-placed_in w p = record w { rows = p.rows; names = p.names; live = p.lives.live; tally = p.lives.totals }
+placed_in w p = record w { rows = p.rows; names = p.names; live = p.jobs.live; tally = p.jobs.totals }
 
 -- the row goes to the dead set, and one of its text there becomes one with it
 pub put_dead_is : (w : World) (from : Place) (text : Bytes) (row : Row) (p mid new : Placed) (score : ℤ) → is_eq (place_cmp (Set Dead) from) ≡ false → row_of text (rows_at from p.rows) ≡ Some row → score ≡ moment_score (placed_in w p)
@@ -75,31 +75,31 @@ abbrev pub surplus_of : World → List Row
 surplus_of u = surplus u (dead_rows u)
 
 -- The surplus went, and then the batch was told.
-pub buried_is : (u mid new : World) (text : Bytes) (member : Option Member) (report : Report) → mid ≡ perform u (trims (surplus_of u)) → member ≡ member_of text → IsTold mid new report.fired.items (tell_member Died mid member)
-    → report.moved ≡ 0 → report.buried ≡ 1 → report.trimmed.items ≡ texts_of (surplus_of u) → IsSent u new report (buried_by u text [])
+pub buried_is : (u mid new : World) (text : Bytes) (member : Option Member) (report : Report) → mid ≡ perform u (trims (surplus_of u)) → member ≡ member_of text → IsNotified mid new report.fired.items (notify_member Died mid member)
+    → report.moved ≡ 0 → report.buried ≡ 1 → report.trimmed.items ≡ texts_of (surplus_of u) → IsRouted u new report (buried_by u text [])
 buried_is u mid new text member report gone same told none one texts =
     let after : World = perform u (trims (surplus_of u)) in
-    let was : tell_member Died mid member ≡ tell Died after text = ap (tell_member Died mid) same ∙ tell_is Died mid text ∙ ap (λ x. tell Died x text) gone in
+    let was : notify_member Died mid member ≡ notify Died after text = ap (notify_member Died mid) same ∙ notify_is Died mid text ∙ ap (λ x. notify Died x text) gone in
     record {
       moved = none;
       buried = one;
-      fired = told.fired ∙ ap (λ (t : Told). fired_texts t.firings) was;
+      fired = told.fired ∙ ap (λ (t : Notified). fired_texts t.firings) was;
       trimmed = texts;
-      world = told.world ∙ ap (λ (t : Told). perform mid t.changes) was ∙ ap (λ x. perform x (tell Died after text).changes) gone ∙ sym (perform-append u (trims (surplus_of u)) (tell Died after text).changes);
+      world = told.world ∙ ap (λ (t : Notified). perform mid t.changes) was ∙ ap (λ x. perform x (notify Died after text).changes) gone ∙ sym (perform-append u (trims (surplus_of u)) (notify Died after text).changes);
     }
 
 -- The same once something was put into the dead set.
-pub buried_after : (v u new : World) (put : List Change) (text : Bytes) (report : Report) → u ≡ perform v put → IsSent u new report (buried_by u text []) → IsSent v new report (buried_by v text put)
+pub buried_after : (v u new : World) (put : List Change) (text : Bytes) (report : Report) → u ≡ perform v put → IsRouted u new report (buried_by u text []) → IsRouted v new report (buried_by v text put)
 buried_after v u new put text report e sent =
     let begun : World = perform v put in
-    let s : IsSent begun new report (buried_by begun text []) = subst (λ x. IsSent x new report (buried_by x text [])) e sent in
+    let s : IsRouted begun new report (buried_by begun text []) = subst (λ x. IsRouted x new report (buried_by x text [])) e sent in
     let gone : List Change = trims (surplus_of begun) in
     let same : perform begun gone ≡ perform v (put ++ gone) = sym (perform-append v put gone) in
     record {
       moved = s.moved;
       buried = s.buried;
-      fired = s.fired ∙ ap (λ x. fired_texts (tell Died x text).firings) same;
+      fired = s.fired ∙ ap (λ x. fired_texts (notify Died x text).firings) same;
       trimmed = s.trimmed;
-      world = s.world ∙ perform-append begun gone (tell Died (perform begun gone) text).changes
-          ∙ ap (λ x. perform x (tell Died x text).changes) same ∙ sym (perform-append v (put ++ gone) (tell Died (perform v (put ++ gone)) text).changes);
+      world = s.world ∙ perform-append begun gone (notify Died (perform begun gone) text).changes
+          ∙ ap (λ x. perform x (notify Died x text).changes) same ∙ sym (perform-append v (put ++ gone) (notify Died (perform v (put ++ gone)) text).changes);
     }

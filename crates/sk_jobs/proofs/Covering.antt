@@ -6,7 +6,7 @@ use Rattle.sk_zset.specs.Pair.{Pair}
 use Rattle.sk_resp.specs.Spelling.{Bytes}
 use Rattle.sk_places.specs.declared.totals.Totals.{Totals}
 use Rattle.sk_places.specs.Totals.{last_outside, last_push, pushes_in}
-use Rattle.sk_places.specs.Lives.{Lived}
+use Rattle.sk_places.specs.LiveJobs.{Lived}
 use Rattle.sk_places.specs.Placed.{Placed, moved_if, without_if}
 use Rattle.sk_places.specs.declared.row.Place.{Place}
 use Rattle.sk_places.specs.declared.row.Row.{Row}
@@ -15,7 +15,7 @@ use Rattle.sk_cmd.specs.declared.argument.Side.TheVariants.{Left}
 use Rattle.sk_batch.specs.Batched.{Batched}
 use Rattle.sk_batch.specs.Events.{fired, made, made_fires, marked}
 use Rattle.sk_batch.specs.Faults.{make_fault}
-use Rattle.sk_batch.specs.Told.{fires_of, mark_of}
+use Rattle.sk_batch.specs.Notify.{fires_of, mark_of}
 use Rattle.sk_batch.specs.declared.batch.Batch.{Batch}
 use Rattle.sk_batch.specs.declared.event.Event.{Event}
 use Rattle.sk_batch.specs.declared.firing.Firing.{Firing}
@@ -24,15 +24,15 @@ use Rattle.sk_model.specs.Change.{Change, perform}
 use Rattle.sk_model.specs.Covered.{IsCovered, fired_count}
 use Rattle.sk_model.specs.Room.{most_pushes}
 use Rattle.sk_model.specs.Sets.{put_as}
-use Rattle.sk_model.specs.Told.{tell_in}
+use Rattle.sk_model.specs.Notify.{notify_in}
 use Rattle.sk_model.specs.World.{World}
-use Rattle.sk_model.proofs.Covering.{count_few, covers_quiet, quiet_calls, through_inner}
-use Rattle.sk_model.proofs.Fired.{all_quiet}
-use Rattle.sk_model.proofs.Making.{clear_count, jobs_quiet}
-use Rattle.sk_model.proofs.Told.{tell_covers, told_count}
+use Rattle.sk_model.proofs.Changes.Covered.{count_few, covers_quiet, quiet_calls, through_inner}
+use Rattle.sk_model.proofs.Changes.Fired.{all_quiet}
+use Rattle.sk_model.proofs.Commands.Batches.{clear_count, jobs_quiet}
+use Rattle.sk_model.proofs.Changes.Notify.{notify_covers, notified_count}
 use Rattle.sk_store.specs.declared.store.Store.{Store}
-use Rattle.sk_undo.specs.Steps.{Steps}
-use Rattle.sk_jobs.specs.Calls.{AreCovered, IsTold}
+use Rattle.sk_undo.specs.Versions.{Versions}
+use Rattle.sk_jobs.specs.Callbacks.{AreCovered, IsNotified}
 
 -- ## How many pushes there are
 
@@ -41,10 +41,10 @@ few_fired : (t : Totals) (s : Batched) (count : ℕ) → t.inner + count ≤ mos
 few_fired t s count covered outside few = omega (arith, covered, outside, few, count_few s.batches)
 
 -- what a batch fires that is told of a job can be pushed
-pub told_fits : (t : Totals) (s end : Batched) (e : Event) (bid jid : Bytes) (fs : List Firing) → IsCovered t.inner s → fs ≡ fires_of e bid jid s → end ≡ fired (fires_of e bid jid s) (marked (mark_of e) bid jid s) → t.outside ≤ last_outside → length end.batches ≤ 2 ^ 60
+pub notified_fits : (t : Totals) (s end : Batched) (e : Event) (bid jid : Bytes) (fs : List Firing) → IsCovered t.inner s → fs ≡ fires_of e bid jid s → end ≡ fired (fires_of e bid jid s) (marked (mark_of e) bid jid s) → t.outside ≤ last_outside → length end.batches ≤ 2 ^ 60
     → pushes_in t + length fs ≤ last_push
-told_fits t s end e bid jid fs c fires is outside few =
-    let count = subst (λ (b : Batched). t.inner + length (fires_of e bid jid s) ≤ most_pushes + fired_count b.batches) (sym is) (told_count t.inner e bid jid s c) in
+notified_fits t s end e bid jid fs c fires is outside few =
+    let count = subst (λ (b : Batched). t.inner + length (fires_of e bid jid s) ≤ most_pushes + fired_count b.batches) (sym is) (notified_count t.inner e bid jid s c) in
     subst (λ gs. pushes_in t + length gs ≤ last_push) (sym fires) (few_fired t end (length (fires_of e bid jid s)) count outside few)
 
 -- and what one fires that is made
@@ -60,8 +60,8 @@ jobs_inner w texts = omega (arith, through_inner w (push_jobs texts), quiet_call
 
 -- ## What stays covered
 
-pub told_covered : (old new : World) (names : List Bytes) (e : Event) (jid : Bytes) (o : Option Bytes) → IsTold old new names (tell_in e old jid o) → IsCovered old.tally.inner old.batches → IsCovered new.tally.inner new.batches
-told_covered old new names e jid o told c = subst (λ (w : World). IsCovered w.tally.inner w.batches) (sym told.world) (tell_covers e old jid o c)
+pub notified_covered : (old new : World) (names : List Bytes) (e : Event) (jid : Bytes) (o : Option Bytes) → IsNotified old new names (notify_in e old jid o) → IsCovered old.tally.inner old.batches → IsCovered new.tally.inner new.batches
+notified_covered old new names e jid o told c = subst (λ (w : World). IsCovered w.tally.inner w.batches) (sym told.world) (notify_covers e old jid o c)
 
 -- from what holds where there was memory
 pub on_if : {A E : Type 0} (P : A → Type 0) (Q : Type 0) (r : Result A E) → ((x : A) → P x → Q) → IfOk r P → OnOk r Q
@@ -77,16 +77,16 @@ put_quiet set pair None = refl
 put_quiet set pair (Some row) = refl
 
 -- rows that go or move are no pushes
-pub without_lives : (o : Option Row) (p : Placed) → (without_if Left o p).lives ≡ p.lives
-without_lives None p = refl
-without_lives (Some row) p = refl
+pub without_jobs : (o : Option Row) (p : Placed) → (without_if Left o p).jobs ≡ p.jobs
+without_jobs None p = refl
+without_jobs (Some row) p = refl
 
-pub moved_lives : (o : Option Row) (to : Place) (score : ℤ) (end : Side) (p : Placed) → (moved_if Left o to score end p).lives ≡ p.lives
-moved_lives None to score end p = refl
-moved_lives (Some row) to score end p = refl
+pub moved_jobs : (o : Option Row) (to : Place) (score : ℤ) (end : Side) (p : Placed) → (moved_if Left o to score end p).jobs ≡ p.jobs
+moved_jobs None to score end p = refl
+moved_jobs (Some row) to score end p = refl
 
-pub dropped_lives : (dropped o : Option Row) (to : Place) (score : ℤ) (end : Side) (p : Placed) → (moved_if Left o to score end (without_if Left dropped p)).lives ≡ p.lives
-dropped_lives dropped o to score end p = moved_lives o to score end (without_if Left dropped p) ∙ without_lives dropped p
+pub dropped_jobs : (dropped o : Option Row) (to : Place) (score : ℤ) (end : Side) (p : Placed) → (moved_if Left o to score end (without_if Left dropped p)).jobs ≡ p.jobs
+dropped_jobs dropped o to score end p = moved_jobs o to score end (without_if Left dropped p) ∙ without_jobs dropped p
 
-pub placed_covered : (s : Store) (p : Steps Placed) → p.stands.lives ≡ s.places.stands.lives → AreCovered s → AreCovered (record s { places = p })
-placed_covered s p same c = subst (λ (l : Lived). IsCovered l.totals.inner s.batches.stands) (sym same) c
+pub placed_covered : (s : Store) (p : Versions Placed) → p.current.jobs ≡ s.places.current.jobs → AreCovered s → AreCovered (record s { places = p })
+placed_covered s p same c = subst (λ (l : Lived). IsCovered l.totals.inner s.batches.current) (sym same) c

@@ -22,11 +22,11 @@ use Rattle.sk_places.specs.Scores.{HasRange}
 use Rattle.sk_model.specs.World.{World}
 use Rattle.sk_model.specs.Change.{perform}
 use Rattle.sk_model.specs.Jobs.{is_old, kept_for, moment_score, surplus}
-use Rattle.sk_model.proofs.Taking.{passes}
+use Rattle.sk_model.proofs.Tools.RowsTaken.{passes}
 use Rattle.sk_store.specs.Stored.{world}
 use Rattle.sk_store.specs.declared.store.Store.{Store}
-use Rattle.sk_jobs.specs.Sending.{Takes, Trims, dead_rows, rows_in, texts_of, trims}
-use Rattle.sk_model.proofs.Texts.{at_place, bytes_tell, same_bytes, same_is, same_row}
+use Rattle.sk_jobs.specs.Routing.{Takes, Trims, dead_rows, rows_in, texts_of, trims}
+use Rattle.sk_model.proofs.Tools.Texts.{at_place, bytes_tell, same_bytes, same_is, same_row}
 
 -- ## Tests whose rows stand in front
 

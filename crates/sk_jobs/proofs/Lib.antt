@@ -7,8 +7,8 @@ pub mod Covering
 pub mod Fronts
 pub mod Passing
 pub mod Rescuing
-pub mod SentOn
-pub mod Telling
+pub mod Routing
+pub mod Notifying
 pub mod Turning
 pub mod UniquePushes
 pub mod Working

@@ -14,17 +14,17 @@ use Rattle.sk_places.specs.declared.row.Row.{Row}
 use Rattle.sk_places.specs.Rows.{ident_at, is_at, is_past, rows_at}
 use Rattle.sk_model.specs.World.{World}
 use Rattle.sk_model.specs.Change.{Change, Forgets, Recovers, changed, perform}
-use Rattle.sk_model.specs.Jobs.{Sent, and_then, bury, each, nothing, to_queue}
+use Rattle.sk_model.specs.Jobs.{Routed, and_then, bury, each, nothing, to_queue}
 use Rattle.sk_model.specs.Rescue.{bury_poison, is_left, is_poison, left_rows, recover, rescue_row}
-use Rattle.sk_model.specs.Told.{fired_texts}
-use Rattle.sk_model.proofs.Good.{perform-append}
+use Rattle.sk_model.specs.Notify.{fired_texts}
+use Rattle.sk_model.proofs.Changes.Lawful.{perform-append}
 use Rattle.sk_jobs.specs.declared.report.Report.{Report}
 use Rattle.sk_jobs.specs.Rescuing.{IsFront, IsNext, IsPassed}
 use Rattle.sk_batch.specs.declared.firing.Firing.{Firing}
 use Rattle.sk_leases.specs.Lists.{count_standing}
 use Rattle.sk_leases.specs.Leased.{Leased, recovered, standing}
-use Rattle.sk_jobs.specs.Sending.{IsAside, IsSent, rows_in}
-use Rattle.sk_jobs.proofs.SentOn.{IsLeft, fired_append}
+use Rattle.sk_jobs.specs.Routing.{IsAside, IsRouted, rows_in}
+use Rattle.sk_jobs.proofs.Routing.{IsLeft, fired_append}
 
 -- ## One row
 
@@ -32,7 +32,7 @@ pub same_head : (a b : Head) (found : Option Head) → Some a ≡ found → foun
 same_head a b found e f = cc
 
 -- The row was buried, and then its recoveries were forgotten.
-pub poison_sent : (old mid new : World) (report : Report) (row : Row) (jid : Bytes) → IsSent old mid report (bury old row) → new ≡ changed mid (Forgets jid) → IsSent old new report (bury_poison old row jid)
+pub poison_sent : (old mid new : World) (report : Report) (row : Row) (jid : Bytes) → IsRouted old mid report (bury old row) → new ≡ changed mid (Forgets jid) → IsRouted old new report (bury_poison old row jid)
 poison_sent old mid new report row jid sent e = record {
   moved = sent.moved;
   buried = sent.buried;
@@ -42,22 +42,22 @@ poison_sent old mid new report row jid sent e = record {
 }
 
 -- The recovery was noted, and then the row was buried as one too many.
-pub noted_sent : (old mid new : World) (report : Report) (row : Row) (h : Head) (found : Option Head) → found ≡ Some h → mid ≡ changed old (Recovers h.jid) → is_poison mid h.jid ≡ true → IsSent mid new report (bury_poison mid row h.jid)
-    → IsSent old new report (rescue_row old row found)
+pub noted_sent : (old mid new : World) (report : Report) (row : Row) (h : Head) (found : Option Head) → found ≡ Some h → mid ≡ changed old (Recovers h.jid) → is_poison mid h.jid ≡ true → IsRouted mid new report (bury_poison mid row h.jid)
+    → IsRouted old new report (rescue_row old row found)
 noted_sent old mid new report row h found is noted poison sent =
-    subst (λ o. IsSent old new report (rescue_row old row o)) (sym is) (done (subst (λ u. is_poison u h.jid ≡ true) noted poison) (subst (λ u. IsSent u new report (bury_poison u row h.jid)) noted sent)) where
+    subst (λ o. IsRouted old new report (rescue_row old row o)) (sym is) (done (subst (λ u. is_poison u h.jid ≡ true) noted poison) (subst (λ u. IsRouted u new report (bury_poison u row h.jid)) noted sent)) where
       after : World
       after = changed old (Recovers h.jid)
 
-      done : is_poison after h.jid ≡ true → IsSent after new report (bury_poison after row h.jid) → IsSent old new report (rescue_row old row (Some h))
+      done : is_poison after h.jid ≡ true → IsRouted after new report (bury_poison after row h.jid) → IsRouted old new report (rescue_row old row (Some h))
       done p s =
           let same : recover after row h ≡ bury_poison after row h.jid = ap (λ b. cond b (bury_poison after row h.jid) (to_queue Right row h)) p in
-          let t : IsSent after new report (recover after row h) = subst (λ (sent : Sent). IsSent after new report sent) (sym same) s in
+          let t : IsRouted after new report (recover after row h) = subst (λ (sent : Routed). IsRouted after new report sent) (sym same) s in
           record { moved = t.moved; buried = t.buried; fired = t.fired; trimmed = t.trimmed; world = t.world }
 
 -- ## Of how many rows a report tells
 
-one_way : (b : Bool) (one other : Sent) → one.moved + one.buried ≡ 1 → other.moved + other.buried ≡ 1 → (cond b one other).moved + (cond b one other).buried ≡ 1
+one_way : (b : Bool) (one other : Routed) → one.moved + one.buried ≡ 1 → other.moved + other.buried ≡ 1 → (cond b one other).moved + (cond b one other).buried ≡ 1
 one_way true one other e f = e
 one_way false one other e f = f
 
@@ -81,52 +81,52 @@ poisoned w jid moment count was now noted is enough =
 
 -- ## Rows of several processes
 
-sent_of : ℕ → ℕ → List Firing → List Bytes → List Change → Sent
+sent_of : ℕ → ℕ → List Firing → List Bytes → List Change → Routed
 sent_of m b f t cs = record { moved = m; buried = b; firings = f; trimmed = t; changes = cs }
 
-same_sent : (x y : Sent) → x.moved ≡ y.moved → x.buried ≡ y.buried → x.firings ≡ y.firings → x.trimmed ≡ y.trimmed → x.changes ≡ y.changes → x ≡ y
+same_sent : (x y : Routed) → x.moved ≡ y.moved → x.buried ≡ y.buried → x.firings ≡ y.firings → x.trimmed ≡ y.trimmed → x.changes ≡ y.changes → x ≡ y
 unfolding sent_of
 same_sent x y m b f t cs =
     ap (λ n. sent_of n x.buried x.firings x.trimmed x.changes) m ∙ ap (λ n. sent_of y.moved n x.firings x.trimmed x.changes) b ∙ ap (λ l. sent_of y.moved y.buried l x.trimmed x.changes) f
     ∙ ap (λ l. sent_of y.moved y.buried y.firings l x.changes) t ∙ ap (λ l. sent_of y.moved y.buried y.firings y.trimmed l) cs
 
-none_then : (a : Sent) → a ≡ and_then nothing a
+none_then : (a : Routed) → a ≡ and_then nothing a
 none_then a = same_sent a (and_then nothing a) (omega arith) (omega arith) refl refl refl
 
-and_then_assoc : (a b c : Sent) → and_then a (and_then b c) ≡ and_then (and_then a b) c
+and_then_assoc : (a b c : Routed) → and_then a (and_then b c) ≡ and_then (and_then a b) c
 and_then_assoc a b c = same_sent (and_then a (and_then b c)) (and_then (and_then a b) c) (omega arith) (omega arith) (sym (append_assoc a.firings b.firings c.firings)) (sym (append_assoc a.trimmed b.trimmed c.trimmed)) (sym (append_assoc a.changes b.changes c.changes))
 
 each_append : (w : World) (a b : List Row) → each rescue_row w (a ++ b) ≡ and_then (each rescue_row w a) (each rescue_row (perform w (each rescue_row w a).changes) b)
 each_append w [] b = none_then (each rescue_row w b)
 each_append w (row ∷ a) b =
-    let one : Sent = rescue_row w row (head row.text) in
+    let one : Routed = rescue_row w row (head row.text) in
     let after : World = perform w one.changes in
-    let some : Sent = each rescue_row after a in
+    let some : Routed = each rescue_row after a in
     ap (and_then one) (each_append after a b ∙ ap (λ u. and_then some (each rescue_row u b)) (sym (perform-append w one.changes some.changes))) ∙ and_then_assoc one some (each rescue_row (perform w (one.changes ++ some.changes)) b)
 
 -- those in front were rescued
-pub many_sent : (all own more rows : List Row) (old now next : World) (report one told : Report) → rows ≡ own ++ more → IsLeft rescue_row old now report all rows → IsSent now next one (each rescue_row now own)
+pub many_sent : (all own more rows : List Row) (old now next : World) (report one told : Report) → rows ≡ own ++ more → IsLeft rescue_row old now report all rows → IsRouted now next one (each rescue_row now own)
     → told.moved ≡ report.moved + one.moved → told.buried ≡ report.buried + one.buried → told.fired.items ≡ report.fired.items ++ one.fired.items → told.trimmed.items ≡ report.trimmed.items ++ one.trimmed.items
     → IsLeft rescue_row old next told all more
 many_sent all own more rows old now next report one told parts left sent moved buried fired trimmed =
-    let first : Sent = each rescue_row now own in
-    let rest : World → Sent = λ u. each rescue_row u more in
-    let after : Sent = rest (perform now first.changes) in
+    let first : Routed = each rescue_row now own in
+    let rest : World → Routed = λ u. each rescue_row u more in
+    let after : Routed = rest (perform now first.changes) in
     let both : each rescue_row now rows ≡ and_then first after = ap (each rescue_row now) parts ∙ each_append now own more in
-    let m : (each rescue_row now rows).moved ≡ first.moved + after.moved = ap (λ (s : Sent). s.moved) both in
-    let b : (each rescue_row now rows).buried ≡ first.buried + after.buried = ap (λ (s : Sent). s.buried) both in
+    let m : (each rescue_row now rows).moved ≡ first.moved + after.moved = ap (λ (s : Routed). s.moved) both in
+    let b : (each rescue_row now rows).buried ≡ first.buried + after.buried = ap (λ (s : Routed). s.buried) both in
     record {
       moved = omega (arith, moved, left.moved, sent.moved, m, ap (λ u. (rest u).moved) sent.world);
       buried = omega (arith, buried, left.buried, sent.buried, b, ap (λ u. (rest u).buried) sent.world);
       fired = ap (λ t. t ++ fired_texts (rest next).firings) fired ∙ append_assoc report.fired.items _ _
           ∙ ap₂ (λ x y. report.fired.items ++ (x ++ y)) sent.fired (ap (λ u. fired_texts (rest u).firings) sent.world)
-          ∙ ap (λ t. report.fired.items ++ t) (sym (fired_append first.firings after.firings) ∙ sym (ap (λ (s : Sent). fired_texts s.firings) both))
+          ∙ ap (λ t. report.fired.items ++ t) (sym (fired_append first.firings after.firings) ∙ sym (ap (λ (s : Routed). fired_texts s.firings) both))
           ∙ left.fired;
       trimmed = ap (λ t. t ++ (rest next).trimmed) trimmed ∙ append_assoc report.trimmed.items _ _
           ∙ ap₂ (λ x y. report.trimmed.items ++ (x ++ y)) sent.trimmed (ap (λ u. (rest u).trimmed) sent.world)
-          ∙ ap (λ t. report.trimmed.items ++ t) (sym (ap (λ (s : Sent). s.trimmed) both))
+          ∙ ap (λ t. report.trimmed.items ++ t) (sym (ap (λ (s : Routed). s.trimmed) both))
           ∙ left.trimmed;
-      world = ap (λ u. perform u (rest u).changes) sent.world ∙ sym (perform-append now first.changes after.changes) ∙ sym (ap (λ (s : Sent). perform now s.changes) both) ∙ left.world;
+      world = ap (λ u. perform u (rest u).changes) sent.world ∙ sym (perform-append now first.changes after.changes) ∙ sym (ap (λ (s : Routed). perform now s.changes) both) ∙ left.world;
     }
 
 -- so many were rescued, and so many are left, as there were

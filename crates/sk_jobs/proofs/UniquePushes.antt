@@ -11,17 +11,17 @@ use Rattle.sk_payload.specs.Head.{head}
 use Rattle.sk_payload.specs.declared.head.Head.{Head}
 use Rattle.sk_payload.specs.declared.head.Lock.{Lock}
 use Rattle.sk_model.specs.Change.{Change, perform}
-use Rattle.sk_model.specs.Outcome.{Comes, Outcome, refuses}
+use Rattle.sk_model.specs.Outcome.{Realizes, Outcome, refuses}
 use Rattle.sk_model.specs.Room.{bytes_of, is_full, where_room}
 use Rattle.sk_model.specs.Unique.{or_holder, unique_push, unique_push_by, unique_push_of}
 use Rattle.sk_model.specs.World.{World}
-use Rattle.sk_model.proofs.Good.{perform-append}
+use Rattle.sk_model.proofs.Changes.Lawful.{perform-append}
 use Rattle.sk_leases.specs.Leased.{holder_at}
 use Rattle.sk_jobs.specs.Locking.{push_locked, push_wanted, wanted, wanted_by}
 use Rattle.sk_jobs.specs.declared.locking.WantedLock.{WantedLock}
 
 -- further changes of what came about
-pub comes_more : (u v new : World) (o : Outcome) (reply : Reply) (more : List Change) → Comes u o reply v → new ≡ perform v more → Comes u (record o { changes = o.changes ++ more }) reply new
+pub comes_more : (u v new : World) (o : Outcome) (reply : Reply) (more : List Change) → Realizes u o reply v → new ≡ perform v more → Realizes u (record o { changes = o.changes ++ more }) reply new
 comes_more u v new o reply more comes e = record { reply_is = comes.reply_is; new_is = e ∙ ap (λ (x : World). perform x more) comes.new_is ∙ sym (perform-append u o.changes more) }
 
 some_same : (a b : WantedLock) (e : Some a ≡ Some b) → a ≡ b
@@ -48,14 +48,14 @@ unwanted_push w text score (Some h) e = by_none w text score h h.lock h.bid e
 
 -- ## What a push under a lock comes to
 
-pub comes_held : (u v : World) (text : Bytes) (score : Option ℤ) (lock : WantedLock) (holder : Bytes) → holder_at lock.digest u.moment u.leases ≡ Some holder → v ≡ u → Comes u (push_wanted u text score lock) (reply.Bulk holder) v
+pub comes_held : (u v : World) (text : Bytes) (score : Option ℤ) (lock : WantedLock) (holder : Bytes) → holder_at lock.digest u.moment u.leases ≡ Some holder → v ≡ u → Realizes u (push_wanted u text score lock) (reply.Bulk holder) v
 comes_held u v text score lock holder held same =
-    subst (λ (found : Option Bytes). Comes u (or_holder found (push_locked u text score lock)) (reply.Bulk holder) v) (sym held) (record { reply_is = refl; new_is = same })
+    subst (λ (found : Option Bytes). Realizes u (or_holder found (push_locked u text score lock)) (reply.Bulk holder) v) (sym held) (record { reply_is = refl; new_is = same })
 
 pub comes_locked : (u v : World) (text : Bytes) (score : Option ℤ) (lock : WantedLock) → holder_at lock.digest u.moment u.leases ≡ None → v ≡ perform u (push_locked u text score lock).changes
-    → Comes u (push_wanted u text score lock) (reply.Say say.Ok) v
+    → Realizes u (push_wanted u text score lock) (reply.Say say.Ok) v
 comes_locked u v text score lock none done =
-    subst (λ (found : Option Bytes). Comes u (or_holder found (push_locked u text score lock)) (reply.Say say.Ok) v) (sym none) (record { reply_is = refl; new_is = done })
+    subst (λ (found : Option Bytes). Realizes u (or_holder found (push_locked u text score lock)) (reply.Say say.Ok) v) (sym none) (record { reply_is = refl; new_is = done })
 
 -- a job that wants a lock, and for which there is room
 pub kept_push : (u : World) (text payload : Bytes) (score : Option ℤ) (lock : WantedLock) → payload ≡ text → wanted (head payload) ≡ Some lock → is_full u (payload ∷ []) ≡ false → unique_push u text score ≡ push_wanted u payload score lock
@@ -66,13 +66,13 @@ kept_push u text payload score lock same is room =
 
 -- It wants a lock, and the store is full.
 pub push_full : (u : World) (text payload : Bytes) (score : Option ℤ) (lock : WantedLock) (reply_ : Reply) → payload ≡ text → wanted (head payload) ≡ Some lock → is_full u (payload ∷ []) ≡ true
-    → reply_ ≡ reply.Say (say.Refused Full) → Comes u (unique_push u text score) reply_ u
+    → reply_ ≡ reply.Say (say.Refused Full) → Realizes u (unique_push u text score) reply_ u
 push_full u text payload score lock reply_ same is full said =
     let refused : unique_push u text score ≡ refuses Full =
     ap (λ (t : Bytes). unique_push u t score) (sym same)
     ∙ wanted_push u payload score (head payload) lock is
     ∙ ap (λ b. cond b (refuses Full) (push_wanted u payload score lock)) full in
-    subst (λ (o : Outcome). Comes u o reply_ u) (sym refused) (record { reply_is = said; new_is = refl })
+    subst (λ (o : Outcome). Realizes u o reply_ u) (sym refused) (record { reply_is = said; new_is = refl })
 
 -- ## Room
 

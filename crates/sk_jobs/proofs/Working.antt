@@ -30,11 +30,11 @@ use Rattle.sk_seats.specs.declared.work.Work.{Work}
 use Rattle.sk_seats.specs.Phases.{Phases, is_plain, phase_in, releasing, staging, turned, works_of}
 use Rattle.sk_seats.specs.Works.{first, is_done_as, is_held as is_held_stage, is_held_as, is_retried_as}
 use Rattle.sk_model.specs.Change.{changed, freed, freed_at, freed_work}
-use Rattle.sk_model.specs.Outcome.{Comes, Outcome, refuses}
+use Rattle.sk_model.specs.Outcome.{Realizes, Outcome, refuses}
 use Rattle.sk_value.specs.declared.action.Action.{Action}
 use Rattle.sk_value.specs.declared.action.Action.TheVariants as action
-use Rattle.sk_value.specs.declared.edit.Edit.{Edit}
-use Rattle.sk_value.specs.declared.edit.Edit.TheVariants as edit
+use Rattle.sk_value.specs.declared.write_op.WriteOp.{WriteOp}
+use Rattle.sk_value.specs.declared.write_op.WriteOp.TheVariants as edit
 use Rattle.sk_model.specs.Seats.{fetched_from, only, released_by, releases, releases_by, where_plain, where_some}
 use Rattle.sk_model.specs.Workers.{back, fetch, give, give_row, release, release_of, retry, retry_pair, work, work_as, work_edit}
 use Rattle.sk_model.specs.Sets.{put_as, put_back}
@@ -43,7 +43,7 @@ use Rattle.sk_jobs.specs.Seated.{IsFound, ended_at, ended_by, ident_in}
 
 -- a world with these rows and names, and phases of seats
 abbrev pub with_seats : World → Placed → Phases → World
-with_seats w p phases = record w { rows = p.rows; names = p.names; live = p.lives.live; tally = p.lives.totals; phases = phases }
+with_seats w p phases = record w { rows = p.rows; names = p.names; live = p.jobs.live; tally = p.jobs.totals; phases = phases }
 
 pub still_some : {A B C : Type 0} (f : A → B) (g : C → B) (x : Option A) (y : Option C) → option_map f x ≡ option_map g y → is_some x ≡ is_some y
 still_some f g x y e = grind (arith, e)
@@ -124,9 +124,9 @@ freed_is w p phases ident text payload (Settled end) held same = rw same refl
 pub release_comes : (w : World) (was : Bool) (p new : Placed) (phases next : Phases) (seat : ℕ) (ident text : Bytes) (works : List Work) (work : Work) (at : ℕ)
     → phase_in phases seat ≡ Joined ident works → position (is_done_as text) works ≡ Some at → first (is_done_as text) works ≡ Some work
     → was ≡ is_some (row_of text (rows_at (Private ident) p.rows)) → new ≡ without_row Left (row_at (Private ident) text) (ended_by work p) → next ≡ turned seat (releasing (is_done_as text) (phase_in phases seat)) phases
-    → Comes (with_seats w p phases) (release_of (with_seats w p phases) seat (phase_in phases seat) ident (Some text)) (one_if was) (with_seats w new next)
+    → Realizes (with_seats w p phases) (release_of (with_seats w p phases) seat (phase_in phases seat) ident (Some text)) (one_if was) (with_seats w new next)
 release_comes w was p new phases next seat ident text works work at joined found there e g h =
-    subst (λ b. Comes before (cond b (release before seat (phase_in phases seat) ident text) (refuses OutOfTurn)) (one_if was) (with_seats w new next)) (sym some) (record { reply_is = ap one_if e; new_is = new_is }) where
+    subst (λ b. Realizes before (cond b (release before seat (phase_in phases seat) ident text) (refuses OutOfTurn)) (one_if was) (with_seats w new next)) (sym some) (record { reply_is = ap one_if e; new_is = new_is }) where
       before : World
       before = with_seats w p phases
 
@@ -163,10 +163,10 @@ retry_is w seat (Joined ident works) pair kept = refl
 
 pub retry_comes : (w mid : World) (fresh : Bool) (next : Phases) (seat : ℕ) (score : ℤ) (text payload : Bytes) (at : ℕ) → is_plain (phase_in w.phases seat) ≡ false → payload ≡ text → IsFound (is_retried_as payload) (phase_in w.phases seat) at
     → fresh ≡ not (is_some (row_of payload (rows_at (Set Retry) w.rows))) → mid ≡ changed w (put_back w Retry (score, payload)) → next ≡ turned seat (staging (is_retried_as payload) Put (phase_in w.phases seat)) w.phases
-    → Comes w (retry w seat (phase_in w.phases seat) (Some (score, text))) (one_if fresh) (record mid { phases = next })
+    → Realizes w (retry w seat (phase_in w.phases seat) (Some (score, text))) (one_if fresh) (record mid { phases = next })
 retry_comes w mid fresh next seat score text payload at kept same found e f g =
-    subst (λ t. Comes w (retry w seat phase (Some (score, t))) (one_if fresh) (record mid { phases = next })) same
-    (subst (λ o. Comes w o (one_if fresh) (record mid { phases = next })) (sym (retry_is w seat phase (score, payload) kept ∙ found_is phase (is_retried_as payload) at (λ ident. retry_pair w seat phase (score, payload)) found))
+    subst (λ t. Realizes w (retry w seat phase (Some (score, t))) (one_if fresh) (record mid { phases = next })) same
+    (subst (λ o. Realizes w o (one_if fresh) (record mid { phases = next })) (sym (retry_is w seat phase (score, payload) kept ∙ found_is phase (is_retried_as payload) at (λ ident. retry_pair w seat phase (score, payload)) found))
     (record { reply_is = ap one_if e; new_is = ap₂ (λ (v : World) (p : Phases). record v { phases = p }) f g ∙ ap (λ p. record put { phases = turned seat after p }) (sym stays) })) where
       phase : Phase
       phase = phase_in w.phases seat
@@ -190,24 +190,24 @@ abbrev pub way_of : Bytes → Option Head → Option Way
 way_of ident o = option_map {U = Way} (λ h. (ident, h.queue)) o
 
 pub back_refused : (w : World) (p : Placed) (phases : Phases) (seat : ℕ) (text : Bytes) (at : ℕ) → IsFound (is_held_as text) (phase_in phases seat) at → way_of (ident_in (phase_in phases seat)) (head text) ≡ None
-    → Comes (with_seats w p phases) (back (with_seats w p phases) seat (phase_in phases seat) text) (reply.Say (say.Refused BadPayload)) (with_seats w p phases)
+    → Realizes (with_seats w p phases) (back (with_seats w p phases) seat (phase_in phases seat) text) (reply.Say (say.Refused BadPayload)) (with_seats w p phases)
 back_refused w p phases seat text at found none =
-    subst (λ o. Comes before o (reply.Say (say.Refused BadPayload)) before) (sym (found_is phase (is_held_as text) at (λ ident. give before seat phase ident text (head text)) found)) (by_head (head text) none) where
+    subst (λ o. Realizes before o (reply.Say (say.Refused BadPayload)) before) (sym (found_is phase (is_held_as text) at (λ ident. give before seat phase ident text (head text)) found)) (by_head (head text) none) where
       before : World
       before = with_seats w p phases
 
       phase : Phase
       phase = phase_in phases seat
 
-      by_head : (o : Option Head) → way_of (ident_in phase) o ≡ None → Comes before (give before seat phase (ident_in phase) text o) (reply.Say (say.Refused BadPayload)) before
+      by_head : (o : Option Head) → way_of (ident_in phase) o ≡ None → Realizes before (give before seat phase (ident_in phase) text o) (reply.Say (say.Refused BadPayload)) before
       by_head None none = record { reply_is = refl; new_is = refl }
       by_head (Some h) none = absurd (cc none)
 
 pub back_comes : (w : World) (was : Bool) (p new : Placed) (phases next : Phases) (seat : ℕ) (text : Bytes) (at : ℕ) (way : Way) → IsFound (is_held_as text) (phase_in phases seat) at → way_of (ident_in (phase_in phases seat)) (head text) ≡ Some way
     → was ≡ is_some (row_of text (rows_at (Private way.0) p.rows)) → new ≡ moved_if Left (row_of text (rows_at (Private way.0) p.rows)) (Queue way.1) (pos 0) Right p → next ≡ turned seat (releasing (is_held_as text) (phase_in phases seat)) phases
-    → Comes (with_seats w p phases) (back (with_seats w p phases) seat (phase_in phases seat) text) (one_if was) (with_seats w new next)
+    → Realizes (with_seats w p phases) (back (with_seats w p phases) seat (phase_in phases seat) text) (one_if was) (with_seats w new next)
 back_comes w was p new phases next seat text at way found there e f g =
-    subst (λ o. Comes before o (one_if was) (with_seats w new next)) (sym (found_is phase (is_held_as text) at (λ ident. give before seat phase ident text (head text)) found)) (by_head (head text) there) where
+    subst (λ o. Realizes before o (one_if was) (with_seats w new next)) (sym (found_is phase (is_held_as text) at (λ ident. give before seat phase ident text (head text)) found)) (by_head (head text) there) where
       before : World
       before = with_seats w p phases
 
@@ -217,14 +217,14 @@ back_comes w was p new phases next seat text at way found there e f g =
       after : Phase
       after = releasing (is_held_as text) phase
 
-      by_row : (h : Head) (o : Option Row) → was ≡ is_some o → new ≡ moved_if Left o (Queue h.queue) (pos 0) Right p → Comes before (give_row seat after h o) (one_if was) (with_seats w new next)
+      by_row : (h : Head) (o : Option Row) → was ≡ is_some o → new ≡ moved_if Left o (Queue h.queue) (pos 0) Right p → Realizes before (give_row seat after h o) (one_if was) (with_seats w new next)
       by_row h None e f = record { reply_is = ap one_if e; new_is = ap₂ (with_seats w) f g }
       by_row h (Some row) e f = record { reply_is = ap one_if e; new_is = ap₂ (with_seats w) f g }
 
       same_way : (h : Head) → Some (ident_in phase, h.queue) ≡ Some way → (ident_in phase, h.queue) ≡ way
       same_way h is = cc is
 
-      by_head : (o : Option Head) → way_of (ident_in phase) o ≡ Some way → Comes before (give before seat phase (ident_in phase) text o) (one_if was) (with_seats w new next)
+      by_head : (o : Option Head) → way_of (ident_in phase) o ≡ Some way → Realizes before (give before seat phase (ident_in phase) text o) (one_if was) (with_seats w new next)
       by_head None none = absurd (cc none)
       by_head (Some h) is =
           let row : Way → Option Row = λ q. row_of text (rows_at (Private q.0) p.rows) in
@@ -233,7 +233,7 @@ back_comes w was p new phases next seat text at way found there e f g =
 -- ## What a command on keys is
 
 fetch_as : (w : World) (seat : ℕ) (phase : Phase) (ident queue : Bytes) (a : Action) → fetched_from ident a ≡ Some queue → work_as w seat phase ident a ≡ fetch w seat phase ident (Some queue)
-fetch_as w seat phase ident queue (action.Edit key e) from = absurd (cc from)
+fetch_as w seat phase ident queue (action.WriteOp key e) from = absurd (cc from)
 fetch_as w seat phase ident queue other from = ap (fetch w seat phase ident) from
 
 pub fetch_is : (w : World) (seat : ℕ) (phase : Phase) (ident own queue : Bytes) (works : List Work) (a : Action) → phase ≡ Joined own works → ident ≡ own → fetched_from own a ≡ Some queue → work w seat phase a ≡ fetch w seat phase ident (Some queue)
@@ -243,17 +243,17 @@ fetch_is w seat phase ident own queue works a joined same from = rw (joined, sam
 pub fetch_releases : (phase : Phase) (own queue : Bytes) (works : List Work) (a : Action) → phase ≡ Joined own works → fetched_from own a ≡ Some queue → releases phase a ≡ false
 fetch_releases phase own queue works a joined from = ap (λ ph. releases ph a) joined ∙ by_action a from where
   by_action : (b : Action) → fetched_from own b ≡ Some queue → releases_by own works b ≡ false
-  by_action (action.Edit key e) from = absurd (cc from)
+  by_action (action.WriteOp key e) from = absurd (cc from)
   by_action other from = refl
 
-release_as : (w : World) (seat : ℕ) (phase : Phase) (ident key text : Bytes) (e : Edit) → released_by ident key e ≡ Some text → work_edit w seat phase ident key e ≡ release_of w seat phase ident (Some text)
+release_as : (w : World) (seat : ℕ) (phase : Phase) (ident key text : Bytes) (e : WriteOp) → released_by ident key e ≡ Some text → work_edit w seat phase ident key e ≡ release_of w seat phase ident (Some text)
 release_as w seat phase ident key text (edit.Zadd pairs) from = absurd (cc from)
 release_as w seat phase ident key text other from = ap (release_of w seat phase ident) from
 
-pub release_is : (w : World) (seat : ℕ) (phase : Phase) (ident own key text : Bytes) (works : List Work) (e : Edit) (a : Action) → phase ≡ Joined own works → a ≡ action.Edit key e → ident ≡ own → released_by own key e ≡ Some text
+pub release_is : (w : World) (seat : ℕ) (phase : Phase) (ident own key text : Bytes) (works : List Work) (e : WriteOp) (a : Action) → phase ≡ Joined own works → a ≡ action.WriteOp key e → ident ≡ own → released_by own key e ≡ Some text
     → work w seat phase a ≡ release_of w seat phase ident (Some text)
 release_is w seat phase ident own key text works e a joined edits same from = rw (joined, edits, same) (release_as w seat (Joined own works) own key text e from)
 
-pub put_is : (w : World) (seat : ℕ) (phase : Phase) (own key : Bytes) (works : List Work) (pairs : List Pair) (pair : Pair) (e : Edit) (a : Action) → phase ≡ Joined own works → a ≡ action.Edit key e → e ≡ edit.Zadd pairs → only pairs ≡ Some pair
+pub put_is : (w : World) (seat : ℕ) (phase : Phase) (own key : Bytes) (works : List Work) (pairs : List Pair) (pair : Pair) (e : WriteOp) (a : Action) → phase ≡ Joined own works → a ≡ action.WriteOp key e → e ≡ edit.Zadd pairs → only pairs ≡ Some pair
     → work w seat phase a ≡ retry w seat phase (Some pair)
 put_is w seat phase own key works pairs pair e a joined edits adds one = rw (joined, edits, adds) (ap (retry w seat (Joined own works)) one)

@@ -7,9 +7,9 @@ use Rattle.sk_model.specs.Outcome.{Outcome, tells}
 use Rattle.sk_jobs.specs.declared.batches.BatchWords.{BatchWords}
 
 -- where a rule was broken that is told, and else this is done
-abbrev pub unless_told : {A : Type 0} → Result A Say → Outcome → Outcome
-unless_told (Ok kept) o = o
-unless_told (Err say) o = tells say
+abbrev pub unless_err : {A : Type 0} → Result A Say → Outcome → Outcome
+unless_err (Ok kept) o = o
+unless_err (Err say) o = tells say
 
 -- the batch that the words of `SK.BPUSH` tell of
 abbrev pub batch_in : BatchWords → Batch

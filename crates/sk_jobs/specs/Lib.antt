@@ -1,8 +1,8 @@
 pub mod Batching
-pub mod Calls
+pub mod Callbacks
 pub mod Counting
 pub mod Locking
 pub mod Rescuing
 pub mod Seated
-pub mod Sending
+pub mod Routing
 pub mod Slots

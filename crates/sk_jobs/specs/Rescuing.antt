@@ -10,7 +10,7 @@ use Rattle.sk_places.specs.declared.row.Row.{Row}
 use Rattle.sk_model.specs.Rescue.{bury_poison, left_rows}
 use Rattle.sk_model.specs.World.{World}
 use Rattle.sk_store.specs.declared.store.Store.{Store}
-use Rattle.sk_jobs.specs.Sending.{Sends}
+use Rattle.sk_jobs.specs.Routing.{Routes}
 use Rattle.sk_jobs.specs.declared.report.Report.{Report}
 
 -- the rows of a process's private list
@@ -33,4 +33,4 @@ IsNext (Some ident) w = IsFront ident w
 
 -- the row was buried, and the recoveries of the job that its head names were forgotten
 abbrev pub BuriesPoison : Store → Row → Report → Store → Type 0
-BuriesPoison old row report new = (h : Head) → head row.text ≡ Some h → Sends (λ w. bury_poison w row h.jid) old report new
+BuriesPoison old row report new = (h : Head) → head row.text ≡ Some h → Routes (λ w. bury_poison w row h.jid) old report new

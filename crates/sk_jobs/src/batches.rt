@@ -9,15 +9,16 @@ ghost use Rattle.sk_batch.specs.Faults.{add_fault, bid_fault, breaks, is_full as
 ghost use Rattle.sk_batch.specs.declared.batch_fault.BatchFault.TheVariants as fault;
 ghost use Rattle.sk_model.specs.Batches.{all_may_join, are_callbacks, batch_add, batch_of, batch_push, batch_stat, fault_say, is_callback, jids_of, join, make, may_call, may_join, or_none, push_jobs, unless};
 ghost use Rattle.sk_model.specs.Change.{perform};
-ghost use Rattle.sk_model.specs.Outcome.{Comes, Outcome, refuses};
+ghost use Rattle.sk_model.specs.Outcome.{Realizes, Outcome, refuses};
 ghost use Rattle.sk_model.specs.Room.{HasRoom, is_too_much};
-ghost use Rattle.sk_undo.specs.Steps.{edited};
+ghost use Rattle.sk_undo.specs.Versions.{edited};
 ghost use Rattle.sk_value.specs.Answer.{counted};
-ghost use Rattle.sk_jobs.specs.Batching.{batch_in, unless_told};
-ghost use Rattle.sk_jobs.specs.Calls.{AreCovered};
-ghost use Rattle.sk_store.specs.Stored.{InStep, IsReady, Runs, world};
+ghost use Rattle.sk_jobs.specs.Batching.{batch_in, unless_err};
+ghost use Rattle.sk_jobs.specs.Callbacks.{AreCovered};
+ghost use Rattle.sk_store.specs.Stored.{InStep, IsReady, Executes, world};
 
-use crate::calls::{call_all, push_job, word_of};
+use crate::callbacks::{push_callbacks, push_job, word_of};
+use sk_base::limits::LONGEST_ID;
 use sk_batch::{Batch, BatchFault, Batches, Callbacks, Firing};
 use sk_payload::{Payload, payloads_of};
 use sk_places::Origin;
@@ -176,9 +177,9 @@ impl Jobs {
 
 // The bytes are the id of a batch.
 fn is_bid(bid: &[u8]) -> bool
-    ensures { result ≡ is_name 64 bid.now }
+    ensures { result ≡ is_name LONGEST_ID bid.now }
 {
-    sk_base::is_name(bid, 64)
+    sk_base::is_name(bid, LONGEST_ID)
 }
 
 // The text of the job names the batch.
@@ -238,7 +239,7 @@ fn say_of(fault: BatchFault) -> Say
 
 // A rule of the batches is broken, as it is told.
 fn told(checked: Result<(), BatchFault>) -> Result<(), Say>
-    ensures told { (o : Outcome) → unless (result_err checked) o ≡ unless_told result o }
+    ensures told { (o : Outcome) → unless (result_err checked) o ≡ unless_err result o }
     ensures kept { OnOk result (result_err checked ≡ None) }
 {
     match checked {
@@ -249,7 +250,7 @@ fn told(checked: Result<(), BatchFault>) -> Result<(), Say>
 
 // What isn't so is refused.
 fn check(passes: bool, refusal: Refusal) -> Result<(), Say>
-    ensures told { (o : Outcome) → cond (not passes) (refuses refusal) o ≡ unless_told result o }
+    ensures told { (o : Outcome) → cond (not passes) (refuses refusal) o ≡ unless_err result o }
     ensures kept { OnOk result (passes ≡ true) }
 {
     if passes {
@@ -268,14 +269,14 @@ fn are_fit(batch: &Batch, jobs: &Jobs) -> bool
 
 // The rules on the id and the parent of a new batch.
 fn check_bid(batches: &Batches, batch: &Batch) -> Result<(), BatchFault>
-    ensures { result_err result ≡ bid_fault batch.now.bid batch.now.parent batches.now.stands None }
+    ensures { result_err result ≡ bid_fault batch.now.bid batch.now.parent batches.now.current None }
 {
     batches.check_bid(batch.bid.bytes(), batch.parent.as_ref().map(Word::bytes))
 }
 
 // The rules on the jids of a new batch, and there may be one more.
 fn check_new(batches: &Batches, bid: &[u8], jids: &[Word]) -> Result<(), BatchFault>
-    ensures { result_err result ≡ jids_fault bid.now jids.now batches.now.stands (breaks (has_most batches.now.stands) fault.Full None) }
+    ensures { result_err result ≡ jids_fault bid.now jids.now batches.now.current (breaks (has_most batches.now.current) fault.Full None) }
 {
     batches.check_jids(bid, jids)?;
     if batches.is_full() {
@@ -287,7 +288,7 @@ fn check_new(batches: &Batches, bid: &[u8], jids: &[Word]) -> Result<(), BatchFa
 
 // All rules on a new batch and its first jobs.
 fn check_push(store: &Store, batch: &Batch, jobs: &Jobs) -> Result<(), Say>
-    ensures told { batch_push (world store.now) batch.now jobs.now ≡ unless_told result (make batch.now jobs.now) }
+    ensures told { batch_push (world store.now) batch.now jobs.now ≡ unless_err result (make batch.now jobs.now) }
     ensures kept { OnOk result (make_fault batch.now.bid batch.now.parent (jids_of jobs.now) (world store.now).batches ≡ None) }
     ensures room { OnOk result (HasRoom (length jobs.now) (world store.now).tally) }
 {
@@ -301,7 +302,7 @@ fn check_push(store: &Store, batch: &Batch, jobs: &Jobs) -> Result<(), Say>
 
 // All rules on jobs that a batch gets.
 fn check_add(store: &Store, bid: &[u8], jobs: &Jobs) -> Result<(), Say>
-    ensures told { batch_add (world store.now) bid.now jobs.now ≡ unless_told result (join bid.now jobs.now) }
+    ensures told { batch_add (world store.now) bid.now jobs.now ≡ unless_err result (join bid.now jobs.now) }
     ensures kept { OnOk result (add_fault bid.now (jids_of jobs.now) (world store.now).batches ≡ None) }
     ensures room { OnOk result (HasRoom (length jobs.now) (world store.now).tally) }
 {
@@ -332,10 +333,10 @@ fn make_batch(
     batch: Batch,
     jids: Vec<Word>,
 ) -> Result<Vec<Firing>, Memory>
-    requires { make_fault batch.bid batch.parent jids.items batches.old.stands ≡ None }
+    requires { make_fault batch.bid batch.parent jids.items batches.old.current ≡ None }
     ensures fires { IfOk result (λ firings. firings.items ≡ made_fires batch jids.items) }
-    ensures ok { OnOk result (batches.new ≡ edited (made batch jids.items batches.old.stands) batches.old) }
-    ensures step { batches.new.stood ≡ batches.old.stood }
+    ensures ok { OnOk result (batches.new ≡ edited (made batch jids.items batches.old.current) batches.old) }
+    ensures step { batches.new.saved ≡ batches.old.saved }
 {
     match batches.make(alloc, batch, jids) {
         Ok(firings) => Ok(firings),
@@ -346,9 +347,9 @@ fn make_batch(
 
 // The batch gets the jobs, in the same way.
 fn add_jobs(alloc: Global, batches: &mut Batches, bid: &[u8], jids: Vec<Word>) -> Result<(), Memory>
-    requires { add_fault bid.now jids.items batches.old.stands ≡ None }
-    ensures ok { OnOk result (batches.new ≡ edited (joined bid.now jids.items batches.old.stands) batches.old) }
-    ensures step { batches.new.stood ≡ batches.old.stood }
+    requires { add_fault bid.now jids.items batches.old.current ≡ None }
+    ensures ok { OnOk result (batches.new ≡ edited (joined bid.now jids.items batches.old.current) batches.old) }
+    ensures step { batches.new.saved ≡ batches.old.saved }
 {
     match batches.add(alloc, bid, jids) {
         Ok(()) => Ok(()),
@@ -362,14 +363,14 @@ fn make_open(store: &mut Store, batch: Batch, jobs: Jobs) -> Result<Reply, Memor
     requires clear { make_fault batch.bid batch.parent (jids_of jobs) (world store.old).batches ≡ None }
     requires room { HasRoom (length jobs) (world store.old).tally }
     requires covered { AreCovered store.old }
-    ensures ok { IfOk result (λ reply. Comes (world store.old) (make batch jobs) reply (world store.new)) }
+    ensures ok { IfOk result (λ reply. Realizes (world store.old) (make batch jobs) reply (world store.new)) }
     ensures step { InStep store.old store.new }
 {
     let firings = make_batch(store.alloc, &mut store.batches, batch, jobs.jids)?;
     let _batches = store.batches.len(); // for what it says of their number
     push_jobs(store, jobs.payloads)?;
     let _pushes = store.places.push_count(); // and this of the clients' pushes
-    let fired = call_all(store, firings)?;
+    let fired = push_callbacks(store, firings)?;
     as_reply(store.alloc, fired)
 }
 
@@ -377,7 +378,7 @@ fn make_open(store: &mut Store, batch: Batch, jobs: Jobs) -> Result<Reply, Memor
 fn join_open(store: &mut Store, bid: &[u8], jobs: Jobs) -> Result<Reply, Memory>
     requires clear { add_fault bid.now (jids_of jobs) (world store.old).batches ≡ None }
     requires room { HasRoom (length jobs) (world store.old).tally }
-    ensures ok { IfOk result (λ reply. Comes (world store.old) (join bid.now jobs) reply (world store.new)) }
+    ensures ok { IfOk result (λ reply. Realizes (world store.old) (join bid.now jobs) reply (world store.new)) }
     ensures step { InStep store.old store.new }
 {
     let count = jobs.payloads.len();
@@ -400,7 +401,7 @@ fn join_open(store: &mut Store, bid: &[u8], jobs: Jobs) -> Result<Reply, Memory>
 pub fn push_batch(store: &mut Store, words: BatchWords) -> Result<Reply, Memory>
     requires ready { IsReady store.old }
     requires covered { AreCovered store.old }
-    ensures { Runs store.old (batch_push (world store.old) (batch_in words) words.texts) result store.new }
+    ensures { Executes store.old (batch_push (world store.old) (batch_in words) words.texts) result store.new }
 {
     let batch = batch_of(
         store.alloc,
@@ -428,7 +429,7 @@ pub fn push_batch(store: &mut Store, words: BatchWords) -> Result<Reply, Memory>
 /// - [`Refusal::Full`], where there are as many rows, bytes or pushes as there may be.
 pub fn add_to_batch(store: &mut Store, bid: &Word, texts: Words) -> Result<Reply, Memory>
     requires { IsReady store.old }
-    ensures { Runs store.old (batch_add (world store.old) bid.now texts) result store.new }
+    ensures { Executes store.old (batch_add (world store.old) bid.now texts) result store.new }
 {
     let jobs = Jobs::of(store.alloc, texts)?;
     if let Err(say) = check_add(store, bid.bytes(), &jobs) {
@@ -443,7 +444,7 @@ pub fn add_to_batch(store: &mut Store, bid: &Word, texts: Words) -> Result<Reply
 /// how many members of the batch and of those within it haven't returned. It is refused where there is no such batch.
 pub fn batch_stat(store: &Store, bid: &Word) -> Result<Reply, Memory>
     requires { IsReady store.now }
-    ensures { Runs store.now (batch_stat (world store.now) bid.now) result store.now }
+    ensures { Executes store.now (batch_stat (world store.now) bid.now) result store.now }
 {
     let Some(stat) = store.batches.stat(bid.bytes()) else {
         return Ok(refused(Refusal::NoBatch));

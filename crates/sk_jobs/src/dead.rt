@@ -9,12 +9,13 @@ ghost use Rattle.sk_places.specs.declared.row.Row.{Row};
 ghost use Rattle.sk_model.specs.Change.{perform};
 ghost use Rattle.sk_model.specs.Jobs.{buried_by, bury, kept_for, surplus};
 ghost use Rattle.sk_store.specs.Stored.{InStep, world};
-ghost use Rattle.sk_jobs.specs.Calls.{AreCovered, member_of};
-ghost use Rattle.sk_jobs.specs.Sending.{IsNamed, PutsDead, Sends, Takes, Trims, dead_rows, texts_of, trims};
+ghost use Rattle.sk_jobs.specs.Callbacks.{AreCovered, member_of};
+ghost use Rattle.sk_jobs.specs.Routing.{IsNamed, PutsDead, Routes, Takes, Trims, dead_rows, texts_of, trims};
 ghost use Rattle.sk_resp.specs.Spelling.{Bytes};
 
-use crate::calls::tell;
+use crate::callbacks::notify;
 use crate::report::Report;
+use sk_base::limits::{DEAD_LIFE, MOST_DEAD};
 use sk_base::{Bound, Score};
 use sk_batch::{Event, Member};
 use sk_cmd::{Scored, Side};
@@ -22,18 +23,12 @@ use sk_places::Place;
 use sk_resp::{Memory, Word};
 use sk_store::Store;
 
-// The most jobs that the dead set keeps.
-const MOST_DEAD: usize = 10_000;
-
-// How long it keeps them, in millionths of seconds: 180 days.
-const KEPT_FOR: i64 = 15_552_000_000_000;
-
 // The score of what has been there for 180 days.
 fn oldest(moment: u64) -> Score
     requires { moment ≤ last_moment }
     ensures { result +ℤ kept_for ≡ pos (moment * 1000) }
 {
-    Score::of_micros(moment as i64 * 1000 - KEPT_FOR)
+    Score::of_micros(moment as i64 * 1000 - DEAD_LIFE)
 }
 
 /// How many jobs the dead set drops. They stand in front.
@@ -101,7 +96,7 @@ fn put_dead(store: &mut Store, from: &Place, text: &Word) -> Result<(), Memory>
 pub fn bury_put(store: &mut Store, member: Option<Member>) -> Result<Report, Memory>
     requires early { store.old.moment ≤ last_moment }
     requires covered { AreCovered store.old }
-    ensures ok { IfOk result (λ report. (text : Bytes) → member ≡ member_of text → Sends (λ w. buried_by w text []) store.old report store.new) }
+    ensures ok { IfOk result (λ report. (text : Bytes) → member ≡ member_of text → Routes (λ w. buried_by w text []) store.old report store.new) }
     ensures one { IfOk result (λ report. (report.moved ≡ 0) × (report.buried ≡ 1)) }
     ensures aside { OnOk result (Takes [] store.old store.new) }
     ensures covered { OnOk result (AreCovered store.new) }
@@ -109,7 +104,7 @@ pub fn bury_put(store: &mut Store, member: Option<Member>) -> Result<Report, Mem
 {
     let count = surplus_count(store);
     let trimmed = trim_front(store, count)?;
-    let fired = tell(store, Event::Died, member)?;
+    let fired = notify(store, Event::Died, member)?;
     Ok(Report {
         moved: 0,
         buried: 1,
@@ -129,7 +124,7 @@ pub fn bury(
     requires alive { is_eq (place_cmp (Set Dead) from.now) ≡ false }
     requires member { member ≡ member_of text.now }
     requires covered { AreCovered store.old }
-    ensures ok { IfOk result (λ report. (row : Row) → IsNamed text.now from.now store.old row → Sends (λ w. bury w row) store.old report store.new) }
+    ensures ok { IfOk result (λ report. (row : Row) → IsNamed text.now from.now store.old row → Routes (λ w. bury w row) store.old report store.new) }
     ensures one { IfOk result (λ report. (report.moved ≡ 0) × (report.buried ≡ 1)) }
     ensures left { OnOk result ((row : Row) → IsNamed text.now from.now store.old row → Takes (row ∷ []) store.old store.new) }
     ensures covered { OnOk result (AreCovered store.new) }

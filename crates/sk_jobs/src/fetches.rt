@@ -4,7 +4,7 @@ ghost use Rattle.sk_seats.specs.Phases.{is_plain, works_of};
 ghost use Rattle.sk_seats.specs.Works.{most_works};
 ghost use Rattle.sk_model.specs.Workers.{fetch};
 ghost use Rattle.sk_model.specs.World.{phase_of};
-ghost use Rattle.sk_store.specs.Stored.{IsReady, Runs, world};
+ghost use Rattle.sk_store.specs.Stored.{IsReady, Executes, world};
 
 use sk_base::Score;
 use sk_cmd::Side;
@@ -30,7 +30,7 @@ fn are_hands_full(phase: &Phase) -> bool
 pub fn fetch(store: &mut Store, seat: u32, ident: Word, queue: Text) -> Result<Reply, Memory>
     requires ready { IsReady store.old }
     requires joined { is_plain (phase_of (world store.old) seat) ≡ false }
-    ensures { Runs store.old (fetch (world store.old) seat (phase_of (world store.old) seat) ident (Some queue)) result store.new }
+    ensures { Executes store.old (fetch (world store.old) seat (phase_of (world store.old) seat) ident (Some queue)) result store.new }
 {
     if are_hands_full(store.seats.get(seat)) {
         return Ok(refused(Refusal::HandsFull));

@@ -3,13 +3,14 @@
 
 mod batches;
 mod burials;
-mod calls;
+mod callbacks;
 mod dead;
 mod fetches;
-mod hands;
+mod in_flight;
 mod locking;
 mod periodic;
 mod processes;
+mod promotion;
 mod releases;
 mod report;
 mod rescues;
@@ -17,7 +18,6 @@ mod retries;
 mod room;
 mod runs;
 mod scripts;
-mod sending;
 mod status;
 mod unique;
 mod workers;

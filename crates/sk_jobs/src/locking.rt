@@ -10,7 +10,7 @@ ghost use Rattle.sk_store.specs.Stored.{IsReady, world};
 ghost use Rattle.sk_jobs.specs.Locking.{lets_go, wanted};
 ghost use Rattle.sk_jobs.specs.Seated.{IsFound};
 
-use crate::calls::word_of;
+use crate::callbacks::word_of;
 use sk_payload::{Head, Payload, Until, digest};
 use sk_resp::{Memory, Text, Word};
 use sk_seats::Phase;

@@ -4,16 +4,17 @@ ghost use Rattle.std.specs.Prelude.{◌≡◌, ◌≤◌, ℕ, nat_abs, IfOk};
 ghost use Rattle.sk_base.specs.Score.{last_moment};
 ghost use Rattle.sk_places.specs.Totals.{IsCountable};
 ghost use Rattle.sk_places.specs.declared.origin.Origin.TheVariants.{Outside};
-ghost use Rattle.sk_model.specs.Outcome.{Comes};
+ghost use Rattle.sk_model.specs.Outcome.{Realizes};
 ghost use Rattle.sk_model.specs.Periodic.{cron, has_loop, is_above, is_in_time, is_process, lead, push_slot};
 ghost use Rattle.sk_model.specs.Seats.{where_plain};
 ghost use Rattle.sk_model.specs.World.{phase_of};
-ghost use Rattle.sk_store.specs.Stored.{InStep, IsReady, Runs, world};
+ghost use Rattle.sk_store.specs.Stored.{InStep, IsReady, Executes, world};
 ghost use Rattle.sk_jobs.specs.Slots.{slotted, unless_refused};
 
 use crate::batches::may_call;
-use crate::calls::push_job;
+use crate::callbacks::push_job;
 use crate::room::is_too_much;
+use sk_base::limits::{MOST_LOOPS, SLOT_LIFE};
 use sk_key::is_name;
 use sk_payload::Payload;
 use sk_places::Origin;
@@ -21,12 +22,6 @@ use sk_resp::{Memory, Refusal, Reply, Say, Word};
 use sk_seats::Phase;
 use sk_store::Store;
 use sk_value::{one_if, refused};
-
-// So many periodic jobs have a last slot at most.
-const MOST_LOOPS: u64 = 10_000;
-
-// How long a slot is open, in milliseconds: ten minutes.
-const SLOT_LIFE: u64 = 600_000;
 
 // The word is the name of a process whose heartbeat stands.
 fn is_process(store: &Store, ident: &Word) -> bool
@@ -39,7 +34,7 @@ fn is_process(store: &Store, ident: &Word) -> bool
 /// process that is alive is refused.
 pub fn lead(store: &mut Store, seat: u32, ident: &Word) -> Result<Reply, Memory>
     requires { IsReady store.old }
-    ensures { Runs store.old (where_plain (phase_of (world store.old) seat) (lead (world store.old) ident.now)) result store.new }
+    ensures { Executes store.old (where_plain (phase_of (world store.old) seat) (lead (world store.old) ident.now)) result store.new }
 {
     match store.seats.get(seat) {
         Phase::Plain => {
@@ -118,7 +113,7 @@ fn check_slot(
 // The loop gets the slot, and the job is pushed. After want of memory a part of it is done.
 fn push_open(store: &mut Store, name: Word, slot: u64, payload: Payload) -> Result<Reply, Memory>
     requires { IsCountable Outside (world store.old).tally }
-    ensures ok { IfOk result (λ reply. Comes (world store.old) (slotted name slot payload) reply (world store.new)) }
+    ensures ok { IfOk result (λ reply. Realizes (world store.old) (slotted name slot payload) reply (world store.new)) }
     ensures step { InStep store.old store.new }
 {
     store.leases.mark(name, slot)?;
@@ -135,7 +130,7 @@ fn push_slot(
     text: Word,
 ) -> Result<Reply, Memory>
     requires { IsReady store.old }
-    ensures { Runs store.old (cron (world store.old) ident.now name slot text) result store.new }
+    ensures { Executes store.old (cron (world store.old) ident.now name slot text) result store.new }
 {
     let payload = Payload::of(store.alloc, text)?;
     if let Err(refusal) = check_slot(store, ident, &name, slot, &payload) {
@@ -166,7 +161,7 @@ pub fn cron(
     text: Word,
 ) -> Result<Reply, Memory>
     requires { IsReady store.old }
-    ensures { Runs store.old (where_plain (phase_of (world store.old) seat) (cron (world store.old) ident.now name (nat_abs slot) text)) result store.new }
+    ensures { Executes store.old (where_plain (phase_of (world store.old) seat) (cron (world store.old) ident.now name (nat_abs slot) text)) result store.new }
 {
     match store.seats.get(seat) {
         Phase::Plain => push_slot(store, ident, name, slot.unsigned_abs(), text),

@@ -3,7 +3,7 @@ ghost use Rattle.std.specs.Prelude.{◌≡◌};
 ghost use Rattle.sk_model.specs.Seats.{where_plain};
 ghost use Rattle.sk_model.specs.Workers.{beat, join};
 ghost use Rattle.sk_model.specs.World.{phase_of};
-ghost use Rattle.sk_store.specs.Stored.{IsReady, Runs, world};
+ghost use Rattle.sk_store.specs.Stored.{IsReady, Executes, world};
 
 use sk_key::{is_name, name_text};
 use sk_resp::{Memory, Refusal, Reply, Say, Word};
@@ -14,7 +14,7 @@ use sk_value::refused;
 /// SK.BEAT: the process's heartbeat stands for a minute from this moment on. A word that is no name is refused.
 pub fn beat(store: &mut Store, ident: &Word) -> Result<Reply, Memory>
     requires { IsReady store.old }
-    ensures { Runs store.old (beat ident.now) result store.new }
+    ensures { Executes store.old (beat ident.now) result store.new }
 {
     if !is_name(ident.bytes()) {
         return Ok(refused(Refusal::NoProcess));
@@ -26,7 +26,7 @@ pub fn beat(store: &mut Store, ident: &Word) -> Result<Reply, Memory>
 /// SK.JOIN: the seat is one of the process's, whose heartbeat stands.
 pub fn join(store: &mut Store, seat: u32, ident: Word) -> Result<Reply, Memory>
     requires { IsReady store.old }
-    ensures { Runs store.old (where_plain (phase_of (world store.old) seat) (join (world store.old) seat ident)) result store.new }
+    ensures { Executes store.old (where_plain (phase_of (world store.old) seat) (join (world store.old) seat ident)) result store.new }
 {
     match store.seats.get(seat) {
         Phase::Plain => {

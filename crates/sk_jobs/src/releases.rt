@@ -2,18 +2,18 @@
 ghost use Rattle.std.specs.Prelude.{◌≡◌, IfOk, List, None, option_map};
 ghost use Rattle.sk_payload.specs.Head.{head};
 ghost use Rattle.sk_seats.specs.Works.{is_held_as};
-ghost use Rattle.sk_model.specs.Outcome.{Comes};
+ghost use Rattle.sk_model.specs.Outcome.{Realizes};
 ghost use Rattle.sk_model.specs.Workers.{back};
 ghost use Rattle.sk_model.specs.World.{phase_of};
 ghost use Rattle.sk_seats.specs.declared.phase.Phase.TheVariants as Phase;
 ghost use Rattle.sk_seats.specs.declared.work.Work.{Work};
 ghost use Rattle.sk_model.specs.Change.{ending_of};
-ghost use Rattle.sk_undo.specs.Steps.{edited};
-ghost use Rattle.sk_store.specs.Stored.{IsReady, Runs, world};
+ghost use Rattle.sk_undo.specs.Versions.{edited};
+ghost use Rattle.sk_store.specs.Stored.{IsReady, Executes, world};
 ghost use Rattle.sk_jobs.specs.Seated.{IsFound, ended_by, ident_in, released};
 
-use crate::calls::word_of;
-use crate::hands::find_held;
+use crate::callbacks::word_of;
+use crate::in_flight::find_held;
 use sk_base::Score;
 use sk_cmd::Side;
 use sk_places::{Ending, Place, Places};
@@ -35,8 +35,8 @@ fn ending_of(end: End) -> Ending
 
 // A seat that is done with a job ends it.
 fn end_job(places: &mut Places, work: &Work)
-    requires { places.old.stood ≡ None }
-    ensures { places.new ≡ edited (ended_by work.now places.old.stands) places.old }
+    requires { places.old.saved ≡ None }
+    ensures { places.new ≡ edited (ended_by work.now places.old.current) places.old }
 {
     if let Stage::Settled(end) = work.stage {
         places.end_job(&work.payload, ending_of(end));
@@ -49,7 +49,7 @@ fn end_job(places: &mut Places, work: &Work)
 pub fn release(store: &mut Store, seat: u32, ident: Word, text: &Word) -> Reply
     requires ready { IsReady store.old }
     requires joined { (works : List Work) × (phase_of (world store.old) seat ≡ Phase.Joined ident works) }
-    ensures done { Comes (world store.old) (released (world store.old) seat ident text.now) result (world store.new) }
+    ensures done { Realizes (world store.old) (released (world store.old) seat ident text.now) result (world store.new) }
     ensures ready { IsReady store.new }
 {
     let Phase::Joined(_, works) = store.seats.get(seat) else {
@@ -89,7 +89,7 @@ fn way_back(
 /// head. The answer tells whether it was still in the private list.
 pub fn back(store: &mut Store, seat: u32, text: &Word) -> Result<Reply, Memory>
     requires { IsReady store.old }
-    ensures { Runs store.old (back (world store.old) seat (phase_of (world store.old) seat) text.now) result store.new }
+    ensures { Executes store.old (back (world store.old) seat (phase_of (world store.old) seat) text.now) result store.new }
 {
     let at = match find_held(store.seats.get(seat), text) {
         Ok(at) => at,

@@ -1,9 +1,9 @@
 // What came of jobs that were sent on.
 ghost use Rattle.std.specs.Prelude.{◌≡◌, ◌+◌, ◌<◌, ◌^◌, ◌++◌, [], IfOk, OnOk};
-ghost use Rattle.sk_model.specs.Jobs.{Sent, reports};
-ghost use Rattle.sk_model.specs.Outcome.{Comes};
+ghost use Rattle.sk_model.specs.Jobs.{Routed, reports};
+ghost use Rattle.sk_model.specs.Outcome.{Realizes};
 ghost use Rattle.sk_model.specs.World.{World};
-ghost use Rattle.sk_jobs.specs.Sending.{IsSent};
+ghost use Rattle.sk_jobs.specs.Routing.{IsRouted};
 
 use sk_resp::{Memory, Replies, Reply, Word};
 use sk_value::{as_reply, counted};
@@ -65,9 +65,9 @@ impl Report {
     }
 
     /// How many were moved and buried, what was fired, and the texts that the dead set dropped.
-    pub fn told(self, alloc: Global) -> Result<Reply, Memory>
+    pub fn into_reply(self, alloc: Global) -> Result<Reply, Memory>
         requires { self.moved + self.buried < 2 ^ 63 }
-        ensures { IfOk result (λ reply. (old new : World) (sent : Sent) → IsSent old new self sent → Comes old (reports sent) reply new) }
+        ensures { IfOk result (λ reply. (old new : World) (sent : Routed) → IsRouted old new self sent → Realizes old (reports sent) reply new) }
     {
         let mut parts = Vec::with_capacity(alloc, 4)?;
         parts.push(counted(self.moved))?;

@@ -7,25 +7,23 @@ ghost use Rattle.sk_places.specs.Rows.{place_cmp, rows_at};
 ghost use Rattle.sk_places.specs.declared.row.Place.TheVariants.{Set};
 ghost use Rattle.sk_places.specs.declared.row.Row.{Row};
 ghost use Rattle.sk_model.specs.Jobs.{each};
-ghost use Rattle.sk_model.specs.Outcome.{Comes};
+ghost use Rattle.sk_model.specs.Outcome.{Realizes};
 ghost use Rattle.sk_model.specs.Rescue.{left_rows, rescue, rescue_row};
 ghost use Rattle.sk_store.specs.Stored.{InStep, world};
-ghost use Rattle.sk_jobs.specs.Calls.{AreCovered};
+ghost use Rattle.sk_jobs.specs.Callbacks.{AreCovered};
 ghost use Rattle.sk_jobs.specs.Rescuing.{BuriesPoison, IsNext, IsPassed, own_rows};
-ghost use Rattle.sk_jobs.specs.Sending.{IsNamed, Sends, SendsFirst, Takes, TakesFirst};
+ghost use Rattle.sk_jobs.specs.Routing.{IsNamed, Routes, RoutesFirst, Takes, TakesFirst};
 
-use crate::calls::member_of;
+use crate::callbacks::member_of;
 use crate::dead::bury;
+use crate::promotion::promote_to;
 use crate::report::Report;
-use crate::sending::send_on;
+use sk_base::limits::MOST_RECOVERIES;
 use sk_cmd::Side;
 use sk_payload::Payload;
 use sk_places::Place;
 use sk_resp::{Memory, Reply, Word};
 use sk_store::Store;
-
-// How often a job is recovered within 72 hours before it is buried.
-const MOST_RECOVERIES: u64 = 3;
 
 // A job that was recovered too often is buried, and its recoveries are forgotten.
 fn bury_poison(store: &mut Store, list: &Place, payload: &Payload) -> Result<Report, Memory>
@@ -52,7 +50,7 @@ fn rescue_first(store: &mut Store, list: &Place) -> Result<Report, Memory>
     requires alive { is_eq (place_cmp (Set Dead) list.now) ≡ false }
     requires some { 0 < length (rows_at list.now (world store.old).rows) }
     requires covered { AreCovered store.old }
-    ensures ok { IfOk result (λ report. SendsFirst rescue_row list.now store.old report store.new) }
+    ensures ok { IfOk result (λ report. RoutesFirst rescue_row list.now store.old report store.new) }
     ensures one { IfOk result (λ report. report.moved + report.buried ≡ 1) }
     ensures left { OnOk result (TakesFirst list.now store.old store.new) }
     ensures covered { OnOk result (AreCovered store.new) }
@@ -71,7 +69,7 @@ fn rescue_first(store: &mut Store, list: &Place) -> Result<Report, Memory>
         return bury_poison(store, list, &payload);
     }
     let queue = head.queue.copy()?;
-    send_on(store, list, queue, Side::Right)?;
+    promote_to(store, list, queue, Side::Right)?;
     Ok(Report::one_moved(store.alloc))
 }
 
@@ -79,7 +77,7 @@ fn rescue_first(store: &mut Store, list: &Place) -> Result<Report, Memory>
 fn rescue_list(store: &mut Store, ident: Word) -> Result<Report, Memory>
     requires early { store.old.moment ≤ last_moment }
     requires covered { AreCovered store.old }
-    ensures ok { IfOk result (λ report. Sends (λ w. each rescue_row w (own_rows ident w)) store.old report store.new) }
+    ensures ok { IfOk result (λ report. Routes (λ w. each rescue_row w (own_rows ident w)) store.old report store.new) }
     ensures few { IfOk result (λ report. report.moved + report.buried ≡ length (own_rows ident (world store.old))) }
     ensures left { OnOk result (Takes (own_rows ident (world store.old)) store.old store.new) }
     ensures covered { OnOk result (AreCovered store.new) }
@@ -117,7 +115,7 @@ fn next_gone(store: &Store, after: &mut Option<Word>) -> Result<Option<Word>, Me
 fn rescue_all(store: &mut Store) -> Result<Report, Memory>
     requires early { store.old.moment ≤ last_moment }
     requires covered { AreCovered store.old }
-    ensures ok { IfOk result (λ report. Sends (λ w. each rescue_row w (left_rows w)) store.old report store.new) }
+    ensures ok { IfOk result (λ report. Routes (λ w. each rescue_row w (left_rows w)) store.old report store.new) }
     ensures few { IfOk result (λ report. report.moved + report.buried < 2 ^ 63) }
     ensures step { InStep store.old store.new }
 {
@@ -135,9 +133,9 @@ fn rescue_all(store: &mut Store) -> Result<Report, Memory>
 pub fn rescue_open(store: &mut Store) -> Result<Reply, Memory>
     requires early { store.old.moment ≤ last_moment }
     requires covered { AreCovered store.old }
-    ensures ok { IfOk result (λ reply. Comes (world store.old) (rescue (world store.old)) reply (world store.new)) }
+    ensures ok { IfOk result (λ reply. Realizes (world store.old) (rescue (world store.old)) reply (world store.new)) }
     ensures step { InStep store.old store.new }
 {
     let report = rescue_all(store)?;
-    report.told(store.alloc)
+    report.into_reply(store.alloc)
 }

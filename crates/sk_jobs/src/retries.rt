@@ -7,10 +7,10 @@ ghost use Rattle.sk_seats.specs.Phases.{is_plain};
 ghost use Rattle.sk_model.specs.Sets.{put_back};
 ghost use Rattle.sk_model.specs.Workers.{retry};
 ghost use Rattle.sk_model.specs.World.{phase_of};
-ghost use Rattle.sk_store.specs.Stored.{InStep, IsReady, Runs, world};
-ghost use Rattle.sk_jobs.specs.Sending.{set_rows};
+ghost use Rattle.sk_store.specs.Stored.{InStep, IsReady, Executes, world};
+ghost use Rattle.sk_jobs.specs.Routing.{set_rows};
 
-use crate::hands::find_retried;
+use crate::in_flight::find_retried;
 use sk_base::Score;
 use sk_cmd::{Scored, Side};
 use sk_payload::Payload;
@@ -47,7 +47,7 @@ pub fn put_back(
 pub fn retry(store: &mut Store, seat: u32, pair: (Score, Word)) -> Result<Reply, Memory>
     requires ready { IsReady store.old }
     requires joined { is_plain (phase_of (world store.old) seat) ≡ false }
-    ensures { Runs store.old (retry (world store.old) seat (phase_of (world store.old) seat) (Some pair)) result store.new }
+    ensures { Executes store.old (retry (world store.old) seat (phase_of (world store.old) seat) (Some pair)) result store.new }
 {
     let (score, text) = pair;
     let payload = Payload::of(store.alloc, text)?;

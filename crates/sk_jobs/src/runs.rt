@@ -1,16 +1,16 @@
 // What a worker tells of the run of its job: SK.START payload, SK.FAIL payload, SK.OK payload, SK.DROP payload.
 ghost use Rattle.std.specs.Prelude.{◌≡◌, ◌≤◌, IfOk};
 ghost use Rattle.sk_base.specs.Score.{last_moment};
-ghost use Rattle.sk_model.specs.Outcome.{Comes};
+ghost use Rattle.sk_model.specs.Outcome.{Realizes};
 ghost use Rattle.sk_model.specs.Workers.{drop, fail, ok, start};
 ghost use Rattle.sk_model.specs.World.{phase_of};
 ghost use Rattle.sk_seats.specs.Works.{is_held_as};
-ghost use Rattle.sk_store.specs.Stored.{InStep, IsReady, Runs, world};
-ghost use Rattle.sk_jobs.specs.Calls.{AreCovered, member_of, run_failed, run_returned};
+ghost use Rattle.sk_store.specs.Stored.{InStep, IsReady, Executes, world};
+ghost use Rattle.sk_jobs.specs.Callbacks.{AreCovered, member_of, run_failed, run_returned};
 ghost use Rattle.sk_jobs.specs.Seated.{IsFound};
 
-use crate::calls::{member_of, tell};
-use crate::hands::find_held;
+use crate::callbacks::{member_of, notify};
+use crate::in_flight::find_held;
 use crate::locking::{held_lock_at, let_go};
 use sk_batch::{Event, Member};
 use sk_counters::Counted;
@@ -23,7 +23,7 @@ use sk_value::{as_reply, refused};
 /// SK.START: a job that the seat holds is about to run. It lets go of a lock that it holds until then.
 pub fn start(store: &mut Store, seat: u32, text: &Word) -> Result<Reply, Memory>
     requires { IsReady store.old }
-    ensures { Runs store.old (start (phase_of (world store.old) seat) text.now) result store.new }
+    ensures { Executes store.old (start (phase_of (world store.old) seat) text.now) result store.new }
 {
     let at = match find_held(store.seats.get(seat), text) {
         Ok(at) => at,
@@ -50,13 +50,13 @@ fn fail_open(store: &mut Store, seat: u32, text: &Word, at: usize) -> Result<Rep
     requires early { store.old.moment ≤ last_moment }
     requires covered { AreCovered store.old }
     requires found { IsFound (is_held_as text.now) (phase_of (world store.old) seat) at }
-    ensures ok { IfOk result (λ reply. Comes (world store.old) (run_failed text.now (world store.old)) reply (world store.new)) }
+    ensures ok { IfOk result (λ reply. Realizes (world store.old) (run_failed text.now (world store.old)) reply (world store.new)) }
     ensures step { InStep store.old store.new }
 {
     let member = member_at(store, seat, text, at)?;
     store.counters.raise(Counted::Processed, store.moment)?;
     store.counters.raise(Counted::Failed, store.moment)?;
-    let fired = tell(store, Event::Reported, member)?;
+    let fired = notify(store, Event::Reported, member)?;
     as_reply(store.alloc, fired)
 }
 
@@ -64,7 +64,7 @@ fn fail_open(store: &mut Store, seat: u32, text: &Word, at: usize) -> Result<Rep
 pub fn fail(store: &mut Store, seat: u32, text: &Word) -> Result<Reply, Memory>
     requires ready { IsReady store.old }
     requires covered { AreCovered store.old }
-    ensures { Runs store.old (fail (world store.old) (phase_of (world store.old) seat) text.now) result store.new }
+    ensures { Executes store.old (fail (world store.old) (phase_of (world store.old) seat) text.now) result store.new }
 {
     let at = match find_held(store.seats.get(seat), text) {
         Ok(at) => at,
@@ -80,12 +80,12 @@ fn succeed_open(store: &mut Store, seat: u32, text: &Word, at: usize) -> Result<
     requires early { store.old.moment ≤ last_moment }
     requires covered { AreCovered store.old }
     requires found { IsFound (is_held_as text.now) (phase_of (world store.old) seat) at }
-    ensures ok { IfOk result (λ reply. Comes (world store.old) (run_returned text.now (world store.old)) reply (world store.new)) }
+    ensures ok { IfOk result (λ reply. Realizes (world store.old) (run_returned text.now (world store.old)) reply (world store.new)) }
     ensures step { InStep store.old store.new }
 {
     let member = member_at(store, seat, text, at)?;
     store.counters.raise(Counted::Processed, store.moment)?;
-    let fired = tell(store, Event::Returned, member)?;
+    let fired = notify(store, Event::Returned, member)?;
     as_reply(store.alloc, fired)
 }
 
@@ -94,7 +94,7 @@ fn succeed_open(store: &mut Store, seat: u32, text: &Word, at: usize) -> Result<
 pub fn succeed(store: &mut Store, seat: u32, text: &Word) -> Result<Reply, Memory>
     requires ready { IsReady store.old }
     requires covered { AreCovered store.old }
-    ensures { Runs store.old (ok (world store.old) seat (phase_of (world store.old) seat) text.now) result store.new }
+    ensures { Executes store.old (ok (world store.old) seat (phase_of (world store.old) seat) text.now) result store.new }
 {
     let at = match find_held(store.seats.get(seat), text) {
         Ok(at) => at,
@@ -112,7 +112,7 @@ pub fn succeed(store: &mut Store, seat: u32, text: &Word) -> Result<Reply, Memor
 /// SK.DROP: the first job of this text that the seat holds is given up, and the seat has still to release it. Takes no memory.
 pub fn discard(store: &mut Store, seat: u32, text: &Word) -> Reply
     requires { IsReady store.old }
-    ensures done { Comes (world store.old) (drop seat (phase_of (world store.old) seat) text.now) result (world store.new) }
+    ensures done { Realizes (world store.old) (drop seat (phase_of (world store.old) seat) text.now) result (world store.new) }
     ensures ready { IsReady store.new }
 {
     let at = match find_held(store.seats.get(seat), text) {

@@ -7,19 +7,19 @@ ghost use Rattle.sk_cmd.specs.declared.argument.Scored.TheVariants.{Dead};
 ghost use Rattle.sk_places.specs.Rows.{place_cmp};
 ghost use Rattle.sk_places.specs.declared.row.Place.TheVariants.{Set};
 ghost use Rattle.sk_model.specs.Jobs.{due, kill, revive};
-ghost use Rattle.sk_model.specs.Outcome.{Comes};
+ghost use Rattle.sk_model.specs.Outcome.{Realizes};
 ghost use Rattle.sk_model.specs.Rescue.{rescue};
 ghost use Rattle.sk_model.specs.Seats.{where_plain};
 ghost use Rattle.sk_model.specs.World.{phase_of};
-ghost use Rattle.sk_store.specs.Stored.{InStep, IsReady, Runs, world};
-ghost use Rattle.sk_jobs.specs.Calls.{AreCovered};
-ghost use Rattle.sk_jobs.specs.Sending.{due_in, due_sent, killed_in, set_rows};
+ghost use Rattle.sk_store.specs.Stored.{InStep, IsReady, Executes, world};
+ghost use Rattle.sk_jobs.specs.Callbacks.{AreCovered};
+ghost use Rattle.sk_jobs.specs.Routing.{due_in, due_sent, killed_in, set_rows};
 
-use crate::calls::member_of;
+use crate::callbacks::member_of;
 use crate::dead::bury;
+use crate::promotion::promote_front;
 use crate::report::Report;
 use crate::rescues::rescue_open;
-use crate::sending::send_front;
 use sk_base::{Bound, Score};
 use sk_cmd::{Scored, Side};
 use sk_places::Place;
@@ -42,30 +42,30 @@ fn due_count(store: &Store, set: Scored, limit: i64) -> usize
 }
 
 // Jobs whose moment has come go to their queues, at most so many.
-fn send_due(store: &mut Store, set: Scored, limit: i64) -> Result<Reply, Memory>
+fn promote_due(store: &mut Store, set: Scored, limit: i64) -> Result<Reply, Memory>
     requires early { store.old.moment ≤ last_moment }
     requires alive { is_eq (place_cmp (Set Dead) (Set set)) ≡ false }
     requires covered { AreCovered store.old }
-    ensures ok { IfOk result (λ reply. Comes (world store.old) (due_sent set (nat_abs limit) (world store.old)) reply (world store.new)) }
+    ensures ok { IfOk result (λ reply. Realizes (world store.old) (due_sent set (nat_abs limit) (world store.old)) reply (world store.new)) }
     ensures step { InStep store.old store.new }
 {
     let _count = store.places.len(&Place::Set(set)); // for what it says of their number
     let count = due_count(store, set, limit);
-    let report = send_front(store, set, count)?;
-    report.told(store.alloc)
+    let report = promote_front(store, set, count)?;
+    report.into_reply(store.alloc)
 }
 
 // Jobs of the dead set wait for no moment.
 fn due_open(store: &mut Store, set: Scored, limit: i64) -> Result<Reply, Memory>
     requires early { store.old.moment ≤ last_moment }
     requires covered { AreCovered store.old }
-    ensures ok { IfOk result (λ reply. Comes (world store.old) (due (world store.old) set (nat_abs limit)) reply (world store.new)) }
+    ensures ok { IfOk result (λ reply. Realizes (world store.old) (due (world store.old) set (nat_abs limit)) reply (world store.new)) }
     ensures step { InStep store.old store.new }
 {
     match set {
-        Scored::Schedule => send_due(store, Scored::Schedule, limit),
-        Scored::Retry => send_due(store, Scored::Retry, limit),
-        Scored::Dead => Report::nothing(store.alloc).told(store.alloc),
+        Scored::Schedule => promote_due(store, Scored::Schedule, limit),
+        Scored::Retry => promote_due(store, Scored::Retry, limit),
+        Scored::Dead => Report::nothing(store.alloc).into_reply(store.alloc),
     }
 }
 
@@ -74,7 +74,7 @@ fn due_open(store: &mut Store, set: Scored, limit: i64) -> Result<Reply, Memory>
 pub fn due(store: &mut Store, seat: u32, set: Scored, limit: i64) -> Result<Reply, Memory>
     requires ready { IsReady store.old }
     requires covered { AreCovered store.old }
-    ensures { Runs store.old (where_plain (phase_of (world store.old) seat) (due (world store.old) set (nat_abs limit))) result store.new }
+    ensures { Executes store.old (where_plain (phase_of (world store.old) seat) (due (world store.old) set (nat_abs limit))) result store.new }
 {
     match store.seats.get(seat) {
         Phase::Plain => {
@@ -93,29 +93,29 @@ fn bury_one(store: &mut Store, set: Scored, text: &Word) -> Result<Reply, Memory
     requires early { store.old.moment ≤ last_moment }
     requires alive { is_eq (place_cmp (Set Dead) (Set set)) ≡ false }
     requires covered { AreCovered store.old }
-    ensures ok { IfOk result (λ reply. Comes (world store.old) (killed_in set text.now (world store.old)) reply (world store.new)) }
+    ensures ok { IfOk result (λ reply. Realizes (world store.old) (killed_in set text.now (world store.old)) reply (world store.new)) }
     ensures step { InStep store.old store.new }
 {
     let place = Place::Set(set);
     let Some((_, payload)) = store.places.find(&place, text.bytes()) else {
-        return Report::nothing(store.alloc).told(store.alloc);
+        return Report::nothing(store.alloc).into_reply(store.alloc);
     };
     let member = member_of(store.alloc, payload)?;
     let report = bury(store, &place, text, member)?;
-    report.told(store.alloc)
+    report.into_reply(store.alloc)
 }
 
 // Jobs of the dead set are there already.
 fn kill_open(store: &mut Store, set: Scored, text: &Word) -> Result<Reply, Memory>
     requires early { store.old.moment ≤ last_moment }
     requires covered { AreCovered store.old }
-    ensures ok { IfOk result (λ reply. Comes (world store.old) (kill (world store.old) set text.now) reply (world store.new)) }
+    ensures ok { IfOk result (λ reply. Realizes (world store.old) (kill (world store.old) set text.now) reply (world store.new)) }
     ensures step { InStep store.old store.new }
 {
     match set {
         Scored::Schedule => bury_one(store, Scored::Schedule, text),
         Scored::Retry => bury_one(store, Scored::Retry, text),
-        Scored::Dead => Report::nothing(store.alloc).told(store.alloc),
+        Scored::Dead => Report::nothing(store.alloc).into_reply(store.alloc),
     }
 }
 
@@ -123,7 +123,7 @@ fn kill_open(store: &mut Store, set: Scored, text: &Word) -> Result<Reply, Memor
 pub fn kill(store: &mut Store, seat: u32, set: Scored, text: &Word) -> Result<Reply, Memory>
     requires ready { IsReady store.old }
     requires covered { AreCovered store.old }
-    ensures { Runs store.old (where_plain (phase_of (world store.old) seat) (kill (world store.old) set text.now)) result store.new }
+    ensures { Executes store.old (where_plain (phase_of (world store.old) seat) (kill (world store.old) set text.now)) result store.new }
 {
     match store.seats.get(seat) {
         Phase::Plain => {
@@ -140,7 +140,7 @@ pub fn kill(store: &mut Store, seat: u32, set: Scored, text: &Word) -> Result<Re
 // The first job of the text goes from the set to the left end of its queue.
 fn revive_one(store: &mut Store, set: Scored, text: &Word) -> Result<Reply, Memory>
     requires { IsReady store.old }
-    ensures { Runs store.old (revive (world store.old) set text.now) result store.new }
+    ensures { Executes store.old (revive (world store.old) set text.now) result store.new }
 {
     let place = Place::Set(set);
     let Some((_, payload)) = store.places.find(&place, text.bytes()) else {
@@ -161,7 +161,7 @@ fn revive_one(store: &mut Store, set: Scored, text: &Word) -> Result<Reply, Memo
 /// many went.
 pub fn revive(store: &mut Store, seat: u32, set: Scored, text: &Word) -> Result<Reply, Memory>
     requires { IsReady store.old }
-    ensures { Runs store.old (where_plain (phase_of (world store.old) seat) (revive (world store.old) set text.now)) result store.new }
+    ensures { Executes store.old (where_plain (phase_of (world store.old) seat) (revive (world store.old) set text.now)) result store.new }
 {
     match store.seats.get(seat) {
         Phase::Plain => revive_one(store, set, text),
@@ -176,7 +176,7 @@ pub fn revive(store: &mut Store, seat: u32, set: Scored, text: &Word) -> Result<
 pub fn rescue(store: &mut Store, seat: u32) -> Result<Reply, Memory>
     requires ready { IsReady store.old }
     requires covered { AreCovered store.old }
-    ensures { Runs store.old (where_plain (phase_of (world store.old) seat) (rescue (world store.old))) result store.new }
+    ensures { Executes store.old (where_plain (phase_of (world store.old) seat) (rescue (world store.old))) result store.new }
 {
     match store.seats.get(seat) {
         Phase::Plain => {

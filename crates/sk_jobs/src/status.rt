@@ -4,9 +4,9 @@ ghost use Rattle.sk_counters.specs.Counters.{count_in};
 ghost use Rattle.sk_places.specs.Rows.{rows_at};
 ghost use Rattle.sk_places.specs.declared.row.Place.TheVariants.{Queue};
 ghost use Rattle.sk_model.specs.Life.{rows_of};
-ghost use Rattle.sk_model.specs.Outcome.{Comes, says};
+ghost use Rattle.sk_model.specs.Outcome.{Realizes, says};
 ghost use Rattle.sk_model.specs.Status.{numbers, status};
-ghost use Rattle.sk_store.specs.Stored.{IsReady, Runs, world};
+ghost use Rattle.sk_store.specs.Stored.{IsReady, Executes, world};
 ghost use Rattle.sk_value.specs.Answer.{counted};
 ghost use Rattle.sk_jobs.specs.Counting.{tally_of, waiting};
 
@@ -21,7 +21,7 @@ use std::alloc::Global;
 
 // What a counter counts. One that was never raised counts nothing.
 fn count_of(counters: &Counters, name: &[u8]) -> u64
-    ensures { result ≡ unwrap_or (count_in counters.now.stands name.now) 0 }
+    ensures { result ≡ unwrap_or (count_in counters.now.current name.now) 0 }
 {
     counters.get(name).unwrap_or(0)
 }
@@ -36,7 +36,7 @@ fn text_of(alloc: Global, name: &str) -> Result<Text, Memory>
 // A queue, and how many jobs wait there.
 fn queue_count(alloc: Global, places: &Places, queue: &str) -> Result<(Text, u64), Memory>
     ensures name { IfOk result (λ count. count.0 ≡ queue.now) }
-    ensures number { IfOk result (λ count. count.1 ≡ length (rows_at (Queue queue.now) places.now.stands.rows)) }
+    ensures number { IfOk result (λ count. count.1 ≡ length (rows_at (Queue queue.now) places.now.current.rows)) }
 {
     let place = Place::Queue(text_of(alloc, queue)?);
     Ok((text_of(alloc, queue)?, places.len(&place) as u64))
@@ -44,7 +44,7 @@ fn queue_count(alloc: Global, places: &Places, queue: &str) -> Result<(Text, u64
 
 // The queues in the order of their names' bytes, each with how many jobs wait there.
 fn queue_counts(alloc: Global, places: &Places) -> Result<Counts, Memory>
-    ensures { IfOk result (λ counts. counts ≡ map (waiting places.now.stands.rows) places.now.stands.names) }
+    ensures { IfOk result (λ counts. counts ≡ map (waiting places.now.current.rows) places.now.current.names) }
 {
     let count = places.name_count();
     let mut list = Vec::with_capacity(alloc, count)?;
@@ -79,7 +79,7 @@ pub fn numbers(store: &Store) -> Result<Numbers, Memory>
 /// SK.STATUS: the numbers that the store tells of itself, as a page.
 pub fn status_page(store: &Store) -> Result<Reply, Memory>
     requires { IsReady store.now }
-    ensures { Runs store.now (status (world store.now)) result store.now }
+    ensures { Executes store.now (status (world store.now)) result store.now }
 {
     let numbers = numbers(store)?;
     let text = page(store.alloc, &numbers)?;
@@ -107,7 +107,7 @@ pub fn tally(store: &Store) -> Tally
 
 /// SK.WHERE: how many rows name the job. Takes no memory.
 pub fn locate(store: &Store, jid: &Word) -> Reply
-    ensures { Comes (world store.now) (says (counted (rows_of jid.now (world store.now)))) result (world store.now) }
+    ensures { Realizes (world store.now) (says (counted (rows_of jid.now (world store.now)))) result (world store.now) }
 {
     counted(store.places.count_of(jid.bytes()))
 }

@@ -6,13 +6,13 @@ ghost use Rattle.sk_places.specs.Totals.{IsCountable};
 ghost use Rattle.sk_places.specs.declared.origin.Origin.TheVariants.{Outside};
 ghost use Rattle.sk_cmd.specs.declared.argument.Scored.TheVariants.{Schedule};
 ghost use Rattle.sk_model.specs.Change.{changed, perform};
-ghost use Rattle.sk_model.specs.Outcome.{Comes};
+ghost use Rattle.sk_model.specs.Outcome.{Realizes};
 ghost use Rattle.sk_model.specs.Sets.{add_one};
 ghost use Rattle.sk_model.specs.Unique.{push_or_schedule, unique_push};
-ghost use Rattle.sk_store.specs.Stored.{InStep, IsReady, Runs, world};
+ghost use Rattle.sk_store.specs.Stored.{InStep, IsReady, Executes, world};
 ghost use Rattle.sk_jobs.specs.Locking.{push_wanted};
 
-use crate::calls::{push_job, word_of};
+use crate::callbacks::{push_job, word_of};
 use crate::locking::{WantedLock, wanted_lock};
 use crate::room::is_too_much;
 use sk_base::Score;
@@ -65,7 +65,7 @@ fn push_open(
 ) -> Result<Reply, Memory>
     requires early { store.old.moment ≤ last_moment }
     requires room { IsCountable Outside (world store.old).tally }
-    ensures ok { IfOk result (λ reply. Comes (world store.old) (push_wanted (world store.old) payload score lock) reply (world store.new)) }
+    ensures ok { IfOk result (λ reply. Realizes (world store.old) (push_wanted (world store.old) payload score lock) reply (world store.new)) }
     ensures step { InStep store.old store.new }
 {
     let holder = store
@@ -85,7 +85,7 @@ fn push_open(
 /// - [`Refusal::Full`], where there are as many rows, bytes or pushes as there may be, whoever holds the lock.
 pub fn push_unique(store: &mut Store, text: Word, score: Option<Score>) -> Result<Reply, Memory>
     requires { IsReady store.old }
-    ensures { Runs store.old (unique_push (world store.old) text score) result store.new }
+    ensures { Executes store.old (unique_push (world store.old) text score) result store.new }
 {
     let payload = Payload::of(store.alloc, text)?;
     let Some(lock) = wanted_lock(store.alloc, &payload)? else {

@@ -4,7 +4,7 @@ ghost use Rattle.std.specs.Option.{MatchOption};
 ghost use Rattle.sk_model.specs.Seats.{fetched_from, only, released_by, releases};
 ghost use Rattle.sk_model.specs.Workers.{work};
 ghost use Rattle.sk_model.specs.World.{phase_of};
-ghost use Rattle.sk_store.specs.Stored.{IsReady, Runs, world};
+ghost use Rattle.sk_store.specs.Stored.{IsReady, Executes, world};
 
 use crate::fetches::fetch;
 use crate::releases::release;
@@ -15,7 +15,7 @@ use sk_key::{ident_of, is_list_of, is_queue, queue_of};
 use sk_resp::{Memory, Refusal, Reply, Text, Word};
 use sk_seats::Phase;
 use sk_store::Store;
-use sk_value::{Action, Edit, refused};
+use sk_value::{Action, WriteOp, refused};
 
 // LMOVE queue:name sq:ident RIGHT LEFT, where the identity is that of the seat's process: the identity and the name.
 fn fetched_from(ident: &Text, action: Action) -> Option<(Word, Text)>
@@ -43,10 +43,10 @@ fn only(pairs: Scores) -> Option<(Score, Word)>
 }
 
 // LREM sq:ident 1 text, where the identity is that of the seat's process: the identity and the text. Takes no memory.
-fn released_by(ident: &Text, key: Word, edit: Edit) -> Option<(Word, Word)>
+fn released_by(ident: &Text, key: Word, edit: WriteOp) -> Option<(Word, Word)>
     ensures { MatchOption result (released_by ident.now key edit ≡ None) (λ r. (r.0 ≡ ident.now) × (released_by ident.now key edit ≡ Some r.1)) }
 {
-    let Edit::Lrem(count, text) = edit else {
+    let WriteOp::Lrem(count, text) = edit else {
         return None;
     };
     if count == 1 && is_list_of(ident.text().as_bytes(), key.bytes()) {
@@ -59,19 +59,19 @@ fn released_by(ident: &Text, key: Word, edit: Edit) -> Option<(Word, Word)>
 /// Does what a worker's command on keys does. A release takes no memory.
 pub fn work(store: &mut Store, seat: u32, action: Action) -> Result<Reply, Memory>
     requires { IsReady store.old }
-    ensures ran { Runs store.old (work (world store.old) seat (phase_of (world store.old) seat) action) result store.new }
+    ensures ran { Executes store.old (work (world store.old) seat (phase_of (world store.old) seat) action) result store.new }
     ensures release { OnErr result (releases (phase_of (world store.old) seat) action ≡ false) }
 {
     let Phase::Joined(ident, _) = store.seats.get(seat) else {
         return Ok(refused(Refusal::NotWorker));
     };
-    let Action::Edit(key, edit) = action else {
+    let Action::WriteOp(key, edit) = action else {
         return match fetched_from(ident, action) {
             Some((ident, queue)) => fetch(store, seat, ident, queue),
             None => Ok(refused(Refusal::OutOfTurn)),
         };
     };
-    let Edit::Zadd(pairs) = edit else {
+    let WriteOp::Zadd(pairs) = edit else {
         return match released_by(ident, key, edit) {
             Some((ident, text)) => Ok(release(store, seat, ident, &text)),
             None => Ok(refused(Refusal::OutOfTurn)),

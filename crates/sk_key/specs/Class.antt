@@ -2,6 +2,7 @@
 use Rattle.std.specs.Prelude.{Option, Some, None, Bool, true, false, ◌++◌, cond, codes, drop, nat_eq}
 use Rattle.std.specs.List.{starts_with}
 use Rattle.std.specs.Str.{bytes_eq}
+use Rattle.sk_base.specs.declared.limits.TheConstants.{LONGEST_NAME}
 use Rattle.sk_cmd.specs.declared.argument.Scored.{Scored}
 use Rattle.sk_cmd.specs.declared.argument.Scored.TheVariants.{Schedule, Retry, Dead}
 use Rattle.sk_resp.specs.Spelling.{Bytes}
@@ -34,8 +35,8 @@ class_by None = Plain
 class_by (Some set) = Jobs set
 
 unfoldable pub class_of : Bytes → KeyClass
-class_of key = cond (starts_with nat_eq key (codes "queue:")) (cond (is_name 255 (queue_of key)) Queue NoQueue)
-    (cond (starts_with nat_eq key (codes "sq:")) (cond (is_name 255 (ident_of key)) Private NoPrivate)
+class_of key = cond (starts_with nat_eq key (codes "queue:")) (cond (is_name LONGEST_NAME (queue_of key)) Queue NoQueue)
+    (cond (starts_with nat_eq key (codes "sq:")) (cond (is_name LONGEST_NAME (ident_of key)) Private NoPrivate)
     (cond (bytes_eq key (codes "queues")) Queues (cond (bytes_eq key (codes "processes")) Processes
     (cond (starts_with nat_eq key (codes "stat:")) Counter (class_by (set_of key))))))
 

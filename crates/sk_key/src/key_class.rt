@@ -4,6 +4,7 @@ ghost use Rattle.sk_key.specs.Class.{class_of, counter_of, ident_of, is_queue as
 ghost use Rattle.std.specs.Str.{bytes_eq};
 ghost use Rattle.sk_payload.specs.Member.{is_name};
 
+use sk_base::limits::LONGEST_NAME;
 use sk_cmd::Scored;
 use sk_resp::{Text, Word};
 
@@ -32,9 +33,9 @@ pub enum KeyClass {
 
 /// A name of a queue or the identity of a process: 1 to 255 bytes of UTF-8 text without control characters.
 pub fn is_name(name: &[u8]) -> bool
-    ensures { result ≡ is_name 255 name.now }
+    ensures { result ≡ is_name LONGEST_NAME name.now }
 {
-    sk_base::is_name(name, 255)
+    sk_base::is_name(name, LONGEST_NAME)
 }
 
 // The set of jobs that a key names.
@@ -103,7 +104,7 @@ fn behind(key: Word, count: usize) -> Word
 /// A name as text. Takes no memory.
 #[tactic(auto, using(crate::proofs::Named::name_is_text))]
 pub fn name_text(name: Word) -> Text
-    requires { is_name 255 name ≡ true }
+    requires { is_name LONGEST_NAME name ≡ true }
     ensures { result ≡ name }
 {
     match String::from_utf8(name.into_bytes()) {

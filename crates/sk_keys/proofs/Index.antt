@@ -12,15 +12,15 @@ use Rattle.sk_resp.specs.Spelling.{Bytes}
 use Rattle.sk_value.specs.declared.entry.Entry.{Entry}
 use Rattle.sk_resp.specs.WordOrder.{text_cmp}
 use Rattle.sk_value.specs.Keys.{Keys, at}
-use Rattle.sk_keys.specs.Index.{Due, due_cmp, has, is_moment, goes_at, HasDue, SetsDue, AddsDue, DropsDue, IsIndexed}
+use Rattle.sk_keys.specs.Index.{Expiry, expiry_cmp, has, is_moment, goes_at, HasExpiry, SetsExpiry, AddsExpiry, DropsExpiry, IsIndexed}
 
 pub equal_at : (o : Ordering) → is_eq o ≡ true → o ≡ Equal
 equal_at Less is = grind (arith, is)
 equal_at Equal is = refl
 equal_at Greater is = grind (arith, is)
 
-pub due_at : (deadline moment : ℕ) (name other : Bytes) → is_at (due_cmp (deadline, name)) (moment, other) ≡ is_at (text_cmp name) other && (deadline == moment)
-due_at deadline moment name other = grind arith
+pub expiry_at : (deadline moment : ℕ) (name other : Bytes) → is_at (expiry_cmp (deadline, name)) (moment, other) ≡ is_at (text_cmp name) other && (deadline == moment)
+expiry_at deadline moment name other = grind arith
 
 pub first_below : (a d : ℕ) (o : Ordering) → is_gt (ordering_then (nat_cmp a d) o) ≡ false → a ≤ d
 first_below a d o h = grind (arith, h)
@@ -37,21 +37,21 @@ same_moment None (Some to) moment same = grind (arith, same)
 same_moment (Some from) None moment same = grind (arith, same)
 same_moment (Some from) (Some to) moment same = grind (arith, same)
 
-pub has_at : (moment : ℕ) (name other : Bytes) (dues : BTreeSet Due) → is_at (text_cmp name) other ≡ true → has moment other dues ≡ has moment name dues
-has_at moment name other dues same = ap (λ n. has moment n dues) (sym (exact_bytes name other (equal_at _ same)))
+pub has_at : (moment : ℕ) (name other : Bytes) (expiries : BTreeSet Expiry) → is_at (text_cmp name) other ≡ true → has moment other expiries ≡ has moment name expiries
+has_at moment name other expiries same = ap (λ n. has moment n expiries) (sym (exact_bytes name other (equal_at _ same)))
 
 -- a name has no deadline but this one, so this one is its own again
-pub set_same : (name : Bytes) (from to : Option ℕ) (dues : BTreeSet Due) → HasDue name from dues → option_eq nat_eq from to ≡ true → SetsDue name to dues dues
-set_same name from to dues before same = λ moment other. at_other moment other (is_at (text_cmp name) other) refl where
-  at_other : (moment : ℕ) (other : Bytes) (b : Bool) → is_at (text_cmp name) other ≡ b → has moment other dues ≡ cond b (is_moment moment to) (has moment other dues)
+pub set_same : (name : Bytes) (from to : Option ℕ) (expiries : BTreeSet Expiry) → HasExpiry name from expiries → option_eq nat_eq from to ≡ true → SetsExpiry name to expiries expiries
+set_same name from to expiries before same = λ moment other. at_other moment other (is_at (text_cmp name) other) refl where
+  at_other : (moment : ℕ) (other : Bytes) (b : Bool) → is_at (text_cmp name) other ≡ b → has moment other expiries ≡ cond b (is_moment moment to) (has moment other expiries)
   at_other moment other false is = refl
-  at_other moment other true is = grind (arith, has_at moment name other dues is, before moment, same_moment from to moment same)
+  at_other moment other true is = grind (arith, has_at moment name other expiries is, before moment, same_moment from to moment same)
 
-pub set_from_other : (name : Bytes) (from to : Option ℕ) (dues between after : BTreeSet Due) → HasDue name from dues → option_eq nat_eq from to ≡ false → AddsDue name to dues between → DropsDue name from between after → SetsDue name to dues after
-set_from_other name from to dues between after before apart adds drops = λ moment other. at_other moment other (is_at (text_cmp name) other) refl where
-  at_other : (moment : ℕ) (other : Bytes) (b : Bool) → is_at (text_cmp name) other ≡ b → has moment other after ≡ cond b (is_moment moment to) (has moment other dues)
+pub set_from_other : (name : Bytes) (from to : Option ℕ) (expiries between after : BTreeSet Expiry) → HasExpiry name from expiries → option_eq nat_eq from to ≡ false → AddsExpiry name to expiries between → DropsExpiry name from between after → SetsExpiry name to expiries after
+set_from_other name from to expiries between after before apart adds drops = λ moment other. at_other moment other (is_at (text_cmp name) other) refl where
+  at_other : (moment : ℕ) (other : Bytes) (b : Bool) → is_at (text_cmp name) other ≡ b → has moment other after ≡ cond b (is_moment moment to) (has moment other expiries)
   at_other moment other false is = grind (arith, is, adds moment other, drops moment other)
-  at_other moment other true is = grind (arith, is, adds moment other, drops moment other, has_at moment name other dues is, before moment, one_moment from to moment apart)
+  at_other moment other true is = grind (arith, is, adds moment other, drops moment other, has_at moment name other expiries is, before moment, one_moment from to moment apart)
 
 -- ## The keys and their index
 
@@ -62,8 +62,8 @@ Holds name held before after = (other : Bytes) → at other after ≡ cond (is_a
 pub at_same : (name other : Bytes) (keys : Keys) → is_at (text_cmp name) other ≡ true → at other keys ≡ at name keys
 at_same name other keys same = ap (λ n. at n keys) (sym (exact_bytes name other (equal_at _ same)))
 
-pub has_due : (name : Bytes) (entry : Entry) (keys : Keys) (dues : BTreeSet Due) → IsIndexed keys dues → at name keys ≡ Some entry → HasDue name entry.deadline dues
-has_due name entry keys dues indexed there = λ moment. indexed moment name ∙ ap (goes_at moment) there
+pub has_expiry : (name : Bytes) (entry : Entry) (keys : Keys) (expiries : BTreeSet Expiry) → IsIndexed keys expiries → at name keys ≡ Some entry → HasExpiry name entry.deadline expiries
+has_expiry name entry keys expiries indexed there = λ moment. indexed moment name ∙ ap (goes_at moment) there
 
 one_deadline : (held : Option Entry) (first moment : ℕ) → goes_at first held ≡ true → goes_at moment held ≡ is_moment moment (Some first)
 one_deadline None first moment goes = grind (arith, goes)
@@ -72,41 +72,41 @@ one_deadline (Some entry) first moment goes = by_deadline entry.deadline goes wh
   by_deadline None is = grind (arith, is)
   by_deadline (Some deadline) is = grind (arith, is)
 
-pub has_member : (name : Bytes) (first : ℕ) (keys : Keys) (dues : BTreeSet Due) → IsIndexed keys dues → has first name dues ≡ true → HasDue name (Some first) dues
-has_member name first keys dues indexed member = λ moment. indexed moment name ∙ one_deadline (at name keys) first moment (sym (indexed first name) ∙ member)
+pub has_member : (name : Bytes) (first : ℕ) (keys : Keys) (expiries : BTreeSet Expiry) → IsIndexed keys expiries → has first name expiries ≡ true → HasExpiry name (Some first) expiries
+has_member name first keys expiries indexed member = λ moment. indexed moment name ∙ one_deadline (at name keys) first moment (sym (indexed first name) ∙ member)
 
-pub drops_first : (name : Bytes) (first : ℕ) (before after : BTreeSet Due) → ((due : Due) → has due.0 due.1 after ≡ cond (is_at (due_cmp (first, name)) due) false (has due.0 due.1 before)) → DropsDue name (Some first) before after
-drops_first name first before after removes = λ moment other. grind (arith, removes (moment, other), due_at first moment name other)
+pub drops_first : (name : Bytes) (first : ℕ) (before after : BTreeSet Expiry) → ((expiry : Expiry) → has expiry.0 expiry.1 after ≡ cond (is_at (expiry_cmp (first, name)) expiry) false (has expiry.0 expiry.1 before)) → DropsExpiry name (Some first) before after
+drops_first name first before after removes = λ moment other. grind (arith, removes (moment, other), expiry_at first moment name other)
 
 -- the key goes with its pair
-pub index_removed : (name : Bytes) (deadline : Option ℕ) (keys after : Keys) (dues left : BTreeSet Due) → IsIndexed keys dues → HasDue name deadline dues → Holds name None keys after → DropsDue name deadline dues left → IsIndexed after left
-index_removed name deadline keys after dues left indexed due holds drops = λ moment other. at_other moment other (is_at (text_cmp name) other) refl where
+pub index_removed : (name : Bytes) (deadline : Option ℕ) (keys after : Keys) (expiries left : BTreeSet Expiry) → IsIndexed keys expiries → HasExpiry name deadline expiries → Holds name None keys after → DropsExpiry name deadline expiries left → IsIndexed after left
+index_removed name deadline keys after expiries left indexed expiry holds drops = λ moment other. at_other moment other (is_at (text_cmp name) other) refl where
   at_other : (moment : ℕ) (other : Bytes) (b : Bool) → is_at (text_cmp name) other ≡ b → has moment other left ≡ goes_at moment (at other after)
   at_other moment other false is = grind (arith, is, holds other, drops moment other, indexed moment other)
-  at_other moment other true is = grind (arith, is, holds other, drops moment other, has_at moment name other dues is, due moment)
+  at_other moment other true is = grind (arith, is, holds other, drops moment other, has_at moment name other expiries is, expiry moment)
 
 -- a new key comes with its pair
-pub index_added : (name : Bytes) (entry : Entry) (keys after : Keys) (dues more : BTreeSet Due) → IsIndexed keys dues → at name keys ≡ None → Holds name (Some entry) keys after → AddsDue name entry.deadline dues more → IsIndexed after more
-index_added name entry keys after dues more indexed absent holds adds = λ moment other. at_other moment other (is_at (text_cmp name) other) refl where
+pub index_added : (name : Bytes) (entry : Entry) (keys after : Keys) (expiries more : BTreeSet Expiry) → IsIndexed keys expiries → at name keys ≡ None → Holds name (Some entry) keys after → AddsExpiry name entry.deadline expiries more → IsIndexed after more
+index_added name entry keys after expiries more indexed absent holds adds = λ moment other. at_other moment other (is_at (text_cmp name) other) refl where
   at_other : (moment : ℕ) (other : Bytes) (b : Bool) → is_at (text_cmp name) other ≡ b → has moment other more ≡ goes_at moment (at other after)
   at_other moment other false is = grind (arith, is, holds other, adds moment other, indexed moment other)
-  at_other moment other true is = grind (arith, is, holds other, adds moment other, has_at moment name other dues is, indexed moment name, absent)
+  at_other moment other true is = grind (arith, is, holds other, adds moment other, has_at moment name other expiries is, indexed moment name, absent)
 
 -- a pair that comes and goes again leaves the index as it was
-pub index_restored : (name : Bytes) (deadline : Option ℕ) (keys : Keys) (dues more left : BTreeSet Due) → IsIndexed keys dues → at name keys ≡ None → AddsDue name deadline dues more → DropsDue name deadline more left → IsIndexed keys left
-index_restored name deadline keys dues more left indexed absent adds drops = λ moment other. at_other moment other (is_at (text_cmp name) other) refl where
+pub index_restored : (name : Bytes) (deadline : Option ℕ) (keys : Keys) (expiries more left : BTreeSet Expiry) → IsIndexed keys expiries → at name keys ≡ None → AddsExpiry name deadline expiries more → DropsExpiry name deadline more left → IsIndexed keys left
+index_restored name deadline keys expiries more left indexed absent adds drops = λ moment other. at_other moment other (is_at (text_cmp name) other) refl where
   at_other : (moment : ℕ) (other : Bytes) (b : Bool) → is_at (text_cmp name) other ≡ b → has moment other left ≡ goes_at moment (at other keys)
   at_other moment other false is = grind (arith, is, adds moment other, drops moment other, indexed moment other)
-  at_other moment other true is = grind (arith, is, adds moment other, drops moment other, has_at moment name other dues is, at_same name other keys is, indexed moment name, absent)
+  at_other moment other true is = grind (arith, is, adds moment other, drops moment other, has_at moment name other expiries is, at_same name other keys is, indexed moment name, absent)
 
 -- a value that is edited keeps its key's pair
-pub index_edited : (name : Bytes) (old new : Entry) (keys after : Keys) (dues : BTreeSet Due) → IsIndexed keys dues → at name keys ≡ Some old → new.deadline ≡ old.deadline → Holds name (Some new) keys after → IsIndexed after dues
-index_edited name old new keys after dues indexed there stays holds = λ moment other. at_other moment other (is_at (text_cmp name) other) refl where
-  at_other : (moment : ℕ) (other : Bytes) (b : Bool) → is_at (text_cmp name) other ≡ b → has moment other dues ≡ goes_at moment (at other after)
+pub index_edited : (name : Bytes) (old new : Entry) (keys after : Keys) (expiries : BTreeSet Expiry) → IsIndexed keys expiries → at name keys ≡ Some old → new.deadline ≡ old.deadline → Holds name (Some new) keys after → IsIndexed after expiries
+index_edited name old new keys after expiries indexed there stays holds = λ moment other. at_other moment other (is_at (text_cmp name) other) refl where
+  at_other : (moment : ℕ) (other : Bytes) (b : Bool) → is_at (text_cmp name) other ≡ b → has moment other expiries ≡ goes_at moment (at other after)
   at_other moment other false is = grind (arith, is, holds other, indexed moment other)
   at_other moment other true is = holding (ap (λ held. goes_at moment held) (holds other)) where
-    holding : goes_at moment (at other after) ≡ goes_at moment (cond (is_at (text_cmp name) other) (Some new) (at other keys)) → has moment other dues ≡ goes_at moment (at other after)
-    holding e = grind (arith, e, is, stays, has_at moment name other dues is, indexed moment name, there)
+    holding : goes_at moment (at other after) ≡ goes_at moment (cond (is_at (text_cmp name) other) (Some new) (at other keys)) → has moment other expiries ≡ goes_at moment (at other after)
+    holding e = grind (arith, e, is, stays, has_at moment name other expiries is, indexed moment name, there)
 
-pub index_written : (name : Bytes) (old new : Entry) (before after : BTreeMap Bytes Entry) (dues : BTreeSet Due) → IsIndexed before.entries dues → Some old ≡ at name before.entries → new.deadline ≡ old.deadline → WritesThrough text_cmp (text_cmp name) before new after → IsIndexed after.entries dues
-index_written name old new before after dues indexed there stays writes = index_edited name old new before.entries after.entries dues indexed (sym there) stays ((writes.3 (subst (λ (held : Option Entry). IsSome held) there refl)).0)
+pub index_written : (name : Bytes) (old new : Entry) (before after : BTreeMap Bytes Entry) (expiries : BTreeSet Expiry) → IsIndexed before.entries expiries → Some old ≡ at name before.entries → new.deadline ≡ old.deadline → WritesThrough text_cmp (text_cmp name) before new after → IsIndexed after.entries expiries
+index_written name old new before after expiries indexed there stays writes = index_edited name old new before.entries after.entries expiries indexed (sym there) stays ((writes.3 (subst (λ (held : Option Entry). IsSome held) there refl)).0)

@@ -10,7 +10,7 @@ use Rattle.sk_resp.specs.Spelling.{Bytes}
 use Rattle.sk_value.specs.declared.entry.Entry.{Entry}
 use Rattle.sk_resp.specs.WordOrder.{text_cmp}
 use Rattle.sk_value.specs.Keys.{Keys, at, without, is_over, purged}
-use Rattle.sk_keys.specs.Index.{Due, IsIndexed, IsClear, has, is_moment, goes_at}
+use Rattle.sk_keys.specs.Index.{Expiry, IsIndexed, IsClear, has, is_moment, goes_at}
 
 -- a key whose deadline is over goes in a purge anyway
 pub purge_without : (now : ℕ) (name : Bytes) (entry : Entry) (keys : Keys) → at name keys ≡ Some entry → is_over now entry.deadline ≡ true → purged now (without name keys) ≡ purged now keys
@@ -21,8 +21,8 @@ over_at : (now moment : ℕ) (deadline : Option ℕ) → is_moment moment deadli
 over_at now moment None is over = grind (arith, is)
 over_at now moment (Some deadline) is over = grind (arith, is, over)
 
-pub purge_due : (now moment : ℕ) (name : Bytes) (keys : Keys) → goes_at moment (at name keys) ≡ true → nat_lt now moment ≡ false → purged now (without name keys) ≡ purged now keys
-purge_due now moment name keys goes over = by_entry (at name keys) refl where
+pub purge_expired : (now moment : ℕ) (name : Bytes) (keys : Keys) → goes_at moment (at name keys) ≡ true → nat_lt now moment ≡ false → purged now (without name keys) ≡ purged now keys
+purge_expired now moment name keys goes over = by_entry (at name keys) refl where
   by_entry : (held : Option Entry) → at name keys ≡ held → purged now (without name keys) ≡ purged now keys
   by_entry None is = grind (arith, is, goes)
   by_entry (Some entry) is = purge_without now name entry keys is (over_at now moment entry.deadline (sym (ap (goes_at moment) is) ∙ goes) over)
@@ -31,12 +31,12 @@ purge_nothing : (now : ℕ) (keys : Keys) → ((i : ℕ) (key : Bytes × Entry) 
 purge_nothing now [] ahead = refl
 purge_nothing now (key ∷ keys) ahead = grind (arith, ahead 0 key refl, purge_nothing now keys (λ i other is. ahead (suc i) other is))
 
-not_over : (now : ℕ) (name : Bytes) (deadline : Option ℕ) (dues : BTreeSet Due) → IsClear now dues → ((moment : ℕ) → has moment name dues ≡ is_moment moment deadline) → is_over now deadline ≡ false
-not_over now name None dues clear is = refl
-not_over now name (Some deadline) dues clear is = let ahead = clear deadline name (grind (arith, is deadline)) in grind (arith, ahead)
+not_over : (now : ℕ) (name : Bytes) (deadline : Option ℕ) (expiries : BTreeSet Expiry) → IsClear now expiries → ((moment : ℕ) → has moment name expiries ≡ is_moment moment deadline) → is_over now deadline ≡ false
+not_over now name None expiries clear is = refl
+not_over now name (Some deadline) expiries clear is = let ahead = clear deadline name (grind (arith, is deadline)) in grind (arith, ahead)
 
 -- where each deadline is ahead, a purge leaves all
-pub purge_clear : (now : ℕ) (entries : BTreeMap Bytes Entry) (dues : BTreeSet Due) → tree.IsOrdered text_cmp entries → IsIndexed entries.entries dues → IsClear now dues → purged now entries.entries ≡ entries.entries
-purge_clear now entries dues ordered indexed clear = purge_nothing now entries.entries (λ i key is.
+pub purge_clear : (now : ℕ) (entries : BTreeMap Bytes Entry) (expiries : BTreeSet Expiry) → tree.IsOrdered text_cmp entries → IsIndexed entries.entries expiries → IsClear now expiries → purged now entries.entries ≡ entries.entries
+purge_clear now entries expiries ordered indexed clear = purge_nothing now entries.entries (λ i key is.
     let there : at key.0 entries.entries ≡ Some key.1 = btree_map_get_place nat_list_cmp_total entries i key.0 key.1 ordered is in
-    not_over now key.0 key.1.deadline dues clear (λ moment. indexed moment key.0 ∙ ap (goes_at moment) there))
+    not_over now key.0 key.1.deadline expiries clear (λ moment. indexed moment key.0 ∙ ap (goes_at moment) there))

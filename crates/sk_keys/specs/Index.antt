@@ -9,15 +9,15 @@ use Rattle.sk_value.specs.declared.entry.Entry.{Entry}
 use Rattle.sk_resp.specs.WordOrder.{text_cmp}
 use Rattle.sk_value.specs.Keys.{Keys, at}
 
-abbrev pub Due : Type 0
-Due = ℕ × Bytes
+abbrev pub Expiry : Type 0
+Expiry = ℕ × Bytes
 
 -- by the moment, and by the name where that is one
-abbrev pub due_cmp : Due → Due → Ordering
-due_cmp x y = ordering_then (nat_cmp x.0 y.0) (text_cmp x.1 y.1)
+abbrev pub expiry_cmp : Expiry → Expiry → Ordering
+expiry_cmp x y = ordering_then (nat_cmp x.0 y.0) (text_cmp x.1 y.1)
 
-abbrev pub has : ℕ → Bytes → BTreeSet Due → Bool
-has moment name dues = contains due_cmp dues (moment, name)
+abbrev pub has : ℕ → Bytes → BTreeSet Expiry → Bool
+has moment name expiries = contains expiry_cmp expiries (moment, name)
 
 -- the deadline is that moment
 abbrev pub is_moment : ℕ → Option ℕ → Bool
@@ -30,8 +30,8 @@ goes_at moment None = false
 goes_at moment (Some entry) = is_moment moment entry.deadline
 
 -- The index has exactly the deadlines of the keys.
-abbrev pub IsIndexed : Keys → BTreeSet Due → Type 0
-IsIndexed keys dues = (moment : ℕ) (name : Bytes) → has moment name dues ≡ goes_at moment (at name keys)
+abbrev pub IsIndexed : Keys → BTreeSet Expiry → Type 0
+IsIndexed keys expiries = (moment : ℕ) (name : Bytes) → has moment name expiries ≡ goes_at moment (at name keys)
 
 -- ## One name
 
@@ -39,27 +39,27 @@ IsIndexed keys dues = (moment : ℕ) (name : Bytes) → has moment name dues ≡
 abbrev pub is_pair : Bytes → Option ℕ → ℕ → Bytes → Bool
 is_pair name deadline moment other = is_at (text_cmp name) other && is_moment moment deadline
 
-abbrev pub AddsDue : Bytes → Option ℕ → BTreeSet Due → BTreeSet Due → Type 0
-AddsDue name deadline before after = (moment : ℕ) (other : Bytes) → has moment other after ≡ is_pair name deadline moment other || has moment other before
+abbrev pub AddsExpiry : Bytes → Option ℕ → BTreeSet Expiry → BTreeSet Expiry → Type 0
+AddsExpiry name deadline before after = (moment : ℕ) (other : Bytes) → has moment other after ≡ is_pair name deadline moment other || has moment other before
 
-abbrev pub DropsDue : Bytes → Option ℕ → BTreeSet Due → BTreeSet Due → Type 0
-DropsDue name deadline before after = (moment : ℕ) (other : Bytes) → has moment other after ≡ not (is_pair name deadline moment other) && has moment other before
+abbrev pub DropsExpiry : Bytes → Option ℕ → BTreeSet Expiry → BTreeSet Expiry → Type 0
+DropsExpiry name deadline before after = (moment : ℕ) (other : Bytes) → has moment other after ≡ not (is_pair name deadline moment other) && has moment other before
 
 -- The index has this deadline of the name, and no other.
-abbrev pub HasDue : Bytes → Option ℕ → BTreeSet Due → Type 0
-HasDue name deadline dues = (moment : ℕ) → has moment name dues ≡ is_moment moment deadline
+abbrev pub HasExpiry : Bytes → Option ℕ → BTreeSet Expiry → Type 0
+HasExpiry name deadline expiries = (moment : ℕ) → has moment name expiries ≡ is_moment moment deadline
 
 -- Afterwards it has this one, and what it had of other names.
-abbrev pub SetsDue : Bytes → Option ℕ → BTreeSet Due → BTreeSet Due → Type 0
-SetsDue name deadline before after = (moment : ℕ) (other : Bytes) → has moment other after ≡ cond (is_at (text_cmp name) other) (is_moment moment deadline) (has moment other before)
+abbrev pub SetsExpiry : Bytes → Option ℕ → BTreeSet Expiry → BTreeSet Expiry → Type 0
+SetsExpiry name deadline before after = (moment : ℕ) (other : Bytes) → has moment other after ≡ cond (is_at (text_cmp name) other) (is_moment moment deadline) (has moment other before)
 
 -- ## Time
 
 -- the moment has reached the first deadline
-abbrev pub is_first_over : ℕ → List Due → Bool
+abbrev pub is_first_over : ℕ → List Expiry → Bool
 is_first_over now [] = false
-is_first_over now (due ∷ dues) = not (nat_lt now due.0)
+is_first_over now (expiry ∷ expiries) = not (nat_lt now expiry.0)
 
 -- Each deadline is ahead.
-abbrev pub IsClear : ℕ → BTreeSet Due → Type 0
-IsClear now dues = (moment : ℕ) (name : Bytes) → has moment name dues ≡ true → now < moment
+abbrev pub IsClear : ℕ → BTreeSet Expiry → Type 0
+IsClear now expiries = (moment : ℕ) (name : Bytes) → has moment name expiries ≡ true → now < moment

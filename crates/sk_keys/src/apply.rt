@@ -1,13 +1,13 @@
 // What each command does to the keys that it names.
 ghost use Rattle.std.specs.Prelude.{◌≡◌, OnErr, OnOk};
-ghost use Rattle.sk_value.specs.Answer.{Gives};
+ghost use Rattle.sk_value.specs.Answer.{AnswersWith};
 ghost use Rattle.sk_value.specs.Apply.{applied};
 ghost use Rattle.sk_keys.specs.Index.{IsIndexed};
 
 use crate::delete::{clear, delete, exists};
-use crate::dues::Dues;
 use crate::edit::edit;
 use crate::expire::expire;
+use crate::expiries::Expiries;
 use crate::keys::Entries;
 use crate::look::look;
 use crate::move_list::move_text;
@@ -20,31 +20,31 @@ use std::alloc::Global;
 pub fn act(
     alloc: Global,
     entries: &mut Entries,
-    dues: &mut Dues,
+    expiries: &mut Expiries,
     now: u64,
     action: Action,
 ) -> Result<Reply, KeysFault>
-    requires { IsIndexed entries.old.entries dues.old }
-    ensures answer { Gives (applied now action entries.old.entries).answer result }
+    requires { IsIndexed entries.old.entries expiries.old }
+    ensures answer { AnswersWith (applied now action entries.old.entries).answer result }
     ensures ok { OnOk result (entries.new.entries ≡ (applied now action entries.old.entries).keys) }
     ensures err { OnErr result (entries.new.entries ≡ entries.old.entries) }
-    ensures indexed { IsIndexed entries.new.entries dues.new }
+    ensures indexed { IsIndexed entries.new.entries expiries.new }
 {
     match action {
         Action::Ping => Ok(Reply::Say(Say::Pong)),
         Action::Echo(text) => Ok(Reply::Bulk(text)),
         Action::Quit => Ok(Reply::Say(Say::Ok)),
-        Action::Look(name, command) => look(alloc, entries, now, &name, &command),
-        Action::Edit(name, command) => edit(alloc, entries, dues, name, command),
-        Action::Set(name, text, options) => set(entries, dues, now, name, text, options),
-        Action::Expire(name, millis) => expire(entries, dues, now, name, millis),
+        Action::ReadOp(name, command) => look(alloc, entries, now, &name, &command),
+        Action::WriteOp(name, command) => edit(alloc, entries, expiries, name, command),
+        Action::Set(name, text, options) => set(entries, expiries, now, name, text, options),
+        Action::Expire(name, millis) => expire(entries, expiries, now, name, millis),
         Action::Exists(names) => Ok(exists(entries, &names)),
-        Action::Delete(names) => Ok(delete(entries, dues, &names)),
+        Action::Delete(names) => Ok(delete(entries, expiries, &names)),
         Action::Move(source, destination, from, to) => {
-            move_text(alloc, entries, dues, source, destination, from, to)
+            move_text(alloc, entries, expiries, source, destination, from, to)
         }
         Action::Flush => {
-            clear(entries, dues);
+            clear(entries, expiries);
             Ok(Reply::Say(Say::Ok))
         }
     }

@@ -5,45 +5,45 @@ ghost use Rattle.sk_value.specs.Answer.{counted};
 ghost use Rattle.sk_value.specs.Keys.{at, how_many, without, without_all};
 ghost use Rattle.sk_keys.specs.Index.{IsIndexed};
 
-use crate::dues::{Dues, drop_due};
+use crate::expiries::{Expiries, drop_expiry};
 use crate::keys::Entries;
 use sk_resp::{Reply, Word, Words};
 use sk_value::counted;
 
 /// Removes a key with its deadline, and answers whether it was there.
-pub fn remove(entries: &mut Entries, dues: &mut Dues, name: &Word) -> bool
-    requires { IsIndexed entries.old.entries dues.old }
+pub fn remove(entries: &mut Entries, expiries: &mut Expiries, name: &Word) -> bool
+    requires { IsIndexed entries.old.entries expiries.old }
     ensures was { result ≡ is_some (at name.now entries.old.entries) }
     ensures rest { entries.new.entries ≡ without name.now entries.old.entries }
     ensures count { length entries.new.entries + (if result then 1 else 0) ≡ length entries.old.entries }
-    ensures indexed { IsIndexed entries.new.entries dues.new }
+    ensures indexed { IsIndexed entries.new.entries expiries.new }
 {
     let Some((name, entry)) = entries.remove_entry(name) else {
         return false;
     };
-    drop_due(dues, name, entry.deadline);
+    drop_expiry(expiries, name, entry.deadline);
     true
 }
 
 /// Removes all keys.
-pub fn clear(entries: &mut Entries, dues: &mut Dues)
+pub fn clear(entries: &mut Entries, expiries: &mut Expiries)
     ensures keys { entries.new.entries ≡ [] }
-    ensures indexed { IsIndexed entries.new.entries dues.new }
+    ensures indexed { IsIndexed entries.new.entries expiries.new }
 {
     entries.clear();
-    dues.clear();
+    expiries.clear();
 }
 
 /// Removes each key in turn, and answers how many were there.
-pub fn delete(entries: &mut Entries, dues: &mut Dues, names: &Words) -> Reply
-    requires { IsIndexed entries.old.entries dues.old }
+pub fn delete(entries: &mut Entries, expiries: &mut Expiries, names: &Words) -> Reply
+    requires { IsIndexed entries.old.entries expiries.old }
     ensures answer { result ≡ counted (length entries.old.entries - length (without_all names.now entries.old.entries)) }
     ensures keys { entries.new.entries ≡ without_all names.now entries.old.entries }
-    ensures indexed { IsIndexed entries.new.entries dues.new }
+    ensures indexed { IsIndexed entries.new.entries expiries.new }
 {
     let before = entries.len();
     for name in names.list() {
-        remove(entries, dues, name);
+        remove(entries, expiries, name);
     }
     Reply::Int((before - entries.len()) as i64)
 }

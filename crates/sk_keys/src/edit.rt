@@ -1,16 +1,16 @@
 // The commands that edit what one key holds, in its place.
 ghost use Rattle.std.specs.Prelude.{◌≡◌, None, OnErr, OnOk};
-ghost use Rattle.sk_value.specs.Answer.{Gives};
+ghost use Rattle.sk_value.specs.Answer.{AnswersWith};
 ghost use Rattle.sk_value.specs.Apply.{changed, edit_at};
 ghost use Rattle.sk_value.specs.Keys.{at};
 ghost use Rattle.sk_keys.specs.Index.{IsIndexed};
 
 use crate::delete::remove;
-use crate::dues::Dues;
+use crate::expiries::Expiries;
 use crate::keys::Entries;
 use crate::put::put_new;
 use sk_resp::{Reply, Word};
-use sk_value::{Edit, Entry, KeysFault};
+use sk_value::{Entry, KeysFault, WriteOp};
 use std::alloc::Global;
 
 /// Edits what the key holds, and leaves its deadline. A key that holds nothing afterwards goes.
@@ -18,22 +18,22 @@ use std::alloc::Global;
 pub fn edit(
     alloc: Global,
     entries: &mut Entries,
-    dues: &mut Dues,
+    expiries: &mut Expiries,
     name: Word,
-    edit: Edit,
+    edit: WriteOp,
 ) -> Result<Reply, KeysFault>
-    requires { IsIndexed entries.old.entries dues.old }
-    ensures answer { Gives (edit_at edit (at name entries.old.entries)).answer result }
+    requires { IsIndexed entries.old.entries expiries.old }
+    ensures answer { AnswersWith (edit_at edit (at name entries.old.entries)).answer result }
     ensures ok { OnOk result (entries.new.entries ≡ changed name (edit_at edit (at name entries.old.entries)).change entries.old.entries) }
     ensures err { OnErr result (entries.new.entries ≡ entries.old.entries) }
-    ensures indexed { IsIndexed entries.new.entries dues.new }
+    ensures indexed { IsIndexed entries.new.entries expiries.new }
 {
     let Some(there) = entries.get_mut(&name) else {
-        return edit_new(alloc, entries, dues, name, edit);
+        return edit_new(alloc, entries, expiries, name, edit);
     };
     let reply = there.value.edit(alloc, edit)?;
     if there.value.is_empty() {
-        remove(entries, dues, &name);
+        remove(entries, expiries, &name);
     }
     Ok(reply)
 }
@@ -43,16 +43,16 @@ pub fn edit(
 fn edit_new(
     alloc: Global,
     entries: &mut Entries,
-    dues: &mut Dues,
+    expiries: &mut Expiries,
     name: Word,
-    edit: Edit,
+    edit: WriteOp,
 ) -> Result<Reply, KeysFault>
-    requires indexed { IsIndexed entries.old.entries dues.old }
+    requires indexed { IsIndexed entries.old.entries expiries.old }
     requires absent { at name entries.old.entries ≡ None }
-    ensures answer { Gives (edit_at edit None).answer result }
+    ensures answer { AnswersWith (edit_at edit None).answer result }
     ensures ok { OnOk result (entries.new.entries ≡ changed name (edit_at edit None).change entries.old.entries) }
     ensures err { OnErr result (entries.new.entries ≡ entries.old.entries) }
-    ensures indexed { IsIndexed entries.new.entries dues.new }
+    ensures indexed { IsIndexed entries.new.entries expiries.new }
 {
     let mut value = edit.blank(alloc)?;
     let reply = value.edit(alloc, edit)?;
@@ -61,7 +61,7 @@ fn edit_new(
             value,
             deadline: None,
         };
-        put_new(entries, dues, name, entry)?;
+        put_new(entries, expiries, name, entry)?;
     }
     Ok(reply)
 }

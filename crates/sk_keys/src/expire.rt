@@ -1,34 +1,32 @@
 // Deadlines, and `PEXPIRE key milliseconds`.
 ghost use Rattle.std.specs.Prelude.{◌≡◌, OnErr, OnOk};
-ghost use Rattle.sk_value.specs.Answer.{Gives};
-ghost use Rattle.sk_value.specs.Apply.{after, changed, deadline_of, expires_at, lives};
+ghost use Rattle.sk_value.specs.Answer.{AnswersWith};
+ghost use Rattle.sk_value.specs.Apply.{after, changed, deadline_of, expires_at, deadline_after};
 ghost use Rattle.sk_value.specs.Keys.{at};
 ghost use Rattle.sk_keys.specs.Index.{IsIndexed};
 
 use crate::delete::remove;
-use crate::dues::{Dues, set_due};
+use crate::expiries::{Expiries, set_expiry};
 use crate::keys::Entries;
+use sk_base::limits::LAST_CALENDAR_MOMENT;
 use sk_cmd::Expire;
 use sk_resp::{Reply, Word};
 use sk_value::KeysFault;
-
-/// The last millisecond of the year 9999, in milliseconds since 1970. No deadline is past it.
-const LATEST: u64 = 253_402_300_799_999;
 
 /// So many milliseconds from now, where that isn't past the latest deadline.
 pub fn after(now: u64, millis: u64) -> Option<u64>
     ensures { result ≡ after now millis }
 {
     let deadline = now.checked_add(millis)?;
-    if deadline > LATEST {
+    if deadline > LAST_CALENDAR_MOMENT {
         return None;
     }
     Some(deadline)
 }
 
 // The end of a time to live of so many units, each of `unit` milliseconds.
-fn lives(now: u64, unit: u64, n: i64) -> Result<Option<u64>, KeysFault>
-    ensures { result ≡ lives now unit n }
+fn deadline_after(now: u64, unit: u64, n: i64) -> Result<Option<u64>, KeysFault>
+    ensures { result ≡ deadline_after now unit n }
 {
     if n < 1 {
         return Err(KeysFault::BadExpire);
@@ -48,8 +46,8 @@ pub fn deadline_of(now: u64, expire: Expire) -> Result<Option<u64>, KeysFault>
 {
     match expire {
         Expire::Never => Ok(None),
-        Expire::Seconds(n) => lives(now, 1000, n),
-        Expire::Millis(n) => lives(now, 1, n),
+        Expire::Seconds(n) => deadline_after(now, 1000, n),
+        Expire::Millis(n) => deadline_after(now, 1, n),
     }
 }
 
@@ -57,19 +55,19 @@ pub fn deadline_of(now: u64, expire: Expire) -> Result<Option<u64>, KeysFault>
 #[tactic(auto, using(crate::proofs::Puts::put_present, crate::proofs::Puts::without_absent, std::proofs::lemmas::Map::Steps::set_value_same), unfolding(sk_value::specs::Apply::expires_at))]
 pub fn expire(
     entries: &mut Entries,
-    dues: &mut Dues,
+    expiries: &mut Expiries,
     now: u64,
     name: Word,
     millis: i64,
 ) -> Result<Reply, KeysFault>
-    requires { IsIndexed entries.old.entries dues.old }
-    ensures answer { Gives (expires_at now millis (at name entries.old.entries)).answer result }
+    requires { IsIndexed entries.old.entries expiries.old }
+    ensures answer { AnswersWith (expires_at now millis (at name entries.old.entries)).answer result }
     ensures ok { OnOk result (entries.new.entries ≡ changed name (expires_at now millis (at name entries.old.entries)).change entries.old.entries) }
     ensures err { OnErr result (entries.new.entries ≡ entries.old.entries) }
-    ensures indexed { IsIndexed entries.new.entries dues.new }
+    ensures indexed { IsIndexed entries.new.entries expiries.new }
 {
     if millis < 1 {
-        return Ok(Reply::Int(i64::from(remove(entries, dues, &name))));
+        return Ok(Reply::Int(i64::from(remove(entries, expiries, &name))));
     }
     let Some(deadline) = after(now, millis as u64) else {
         return Err(KeysFault::BadExpire);
@@ -77,7 +75,7 @@ pub fn expire(
     let Some(there) = entries.get_mut(&name) else {
         return Ok(Reply::Int(0));
     };
-    set_due(dues, name, there.deadline, Some(deadline))?;
+    set_expiry(expiries, name, there.deadline, Some(deadline))?;
     there.deadline = Some(deadline);
     Ok(Reply::Int(1))
 }

@@ -2,14 +2,14 @@
 ghost use Rattle.std.specs.Prelude.{◌≡◌, [], OnErr, OnOk};
 ghost use Rattle.std.specs.Option.{is_some};
 ghost use Rattle.sk_value.specs.Action.{action_of};
-ghost use Rattle.sk_value.specs.Answer.{Gives};
+ghost use Rattle.sk_value.specs.Answer.{AnswersWith};
 ghost use Rattle.sk_value.specs.Apply.{applied};
 ghost use Rattle.sk_value.specs.Keys.{at, purged, without};
 ghost use Rattle.sk_keys.specs.Index.{IsIndexed};
 
 use crate::apply::act;
 use crate::delete;
-use crate::dues::{Dues, is_due};
+use crate::expiries::{Expiries, has_expired};
 use sk_cmd::PlainCommand;
 use sk_resp::{Reply, Word};
 use sk_value::{Action, Entry, KeysFault, action_of};
@@ -25,7 +25,7 @@ pub type Entries = BTreeMap<Word, Entry>;
 pub struct Keys {
     alloc: Global,
     entries: Entries,
-    dues: Dues,
+    expiries: Expiries,
 }
 
 impl Model for Keys {
@@ -38,17 +38,17 @@ impl Model for Keys {
 
     ghost use Rattle.sk_keys.specs.Index.{IsIndexed};
 
-    ghost invariant = { λ keys. IsIndexed keys.entries.entries keys.dues };
+    ghost invariant = { λ keys. IsIndexed keys.entries.entries keys.expiries };
 }
 
 // Removes each key whose deadline is over. What stays isn't looked at.
-fn purge(entries: &mut Entries, dues: &mut Dues, now: u64)
-    requires { IsIndexed entries.old.entries dues.old }
+fn purge(entries: &mut Entries, expiries: &mut Expiries, now: u64)
+    requires { IsIndexed entries.old.entries expiries.old }
     ensures keys { entries.new.entries ≡ purged now entries.old.entries }
-    ensures indexed { IsIndexed entries.new.entries dues.new }
+    ensures indexed { IsIndexed entries.new.entries expiries.new }
 {
-    while is_due(dues, now) {
-        if let Some((_, name)) = dues.pop_first() {
+    while has_expired(expiries, now) {
+        if let Some((_, name)) = expiries.pop_first() {
             entries.remove(&name);
         }
     }
@@ -63,7 +63,7 @@ impl Keys {
         Keys {
             alloc,
             entries: BTreeMap::new(alloc),
-            dues: BTreeSet::new(alloc),
+            expiries: BTreeSet::new(alloc),
         }
     }
 
@@ -71,7 +71,7 @@ impl Keys {
     pub fn purge(&mut self, now: u64)
         ensures { self.new ≡ purged now self.old }
     {
-        purge(&mut self.entries, &mut self.dues, now);
+        purge(&mut self.entries, &mut self.expiries, now);
     }
 
     /// Whether a key stands under the name.
@@ -86,14 +86,14 @@ impl Keys {
         ensures was { result ≡ is_some (at name.now self.old) }
         ensures rest { self.new ≡ without name.now self.old }
     {
-        delete::remove(&mut self.entries, &mut self.dues, name)
+        delete::remove(&mut self.entries, &mut self.expiries, name)
     }
 
     /// Removes all keys. Takes no memory.
     pub fn clear(&mut self)
         ensures { self.new ≡ [] }
     {
-        delete::clear(&mut self.entries, &mut self.dues);
+        delete::clear(&mut self.entries, &mut self.expiries);
     }
 
     /// Does what Redis's command does at the moment `now`, in milliseconds since 1970, and gives its reply. A key whose deadline is over still
@@ -103,16 +103,22 @@ impl Keys {
     /// INCRBY finds no integer of 64 bits, or its sum would be none. `BadExpire`: SET is given a time to live below 1, or SET or PEXPIRE a deadline
     /// past the year 9999. `Memory`: there was none.
     pub fn act(&mut self, now: u64, action: Action) -> Result<Reply, KeysFault>
-        ensures answer { Gives (applied now action self.old).answer result }
+        ensures answer { AnswersWith (applied now action self.old).answer result }
         ensures ok { OnOk result (self.new ≡ (applied now action self.old).keys) }
         ensures err { OnErr result (self.new ≡ self.old) }
     {
-        act(self.alloc, &mut self.entries, &mut self.dues, now, action)
+        act(
+            self.alloc,
+            &mut self.entries,
+            &mut self.expiries,
+            now,
+            action,
+        )
     }
 
     /// The same as `act` with what the command does.
     pub fn apply(&mut self, now: u64, command: PlainCommand) -> Result<Reply, KeysFault>
-        ensures answer { Gives (applied now (action_of command) self.old).answer result }
+        ensures answer { AnswersWith (applied now (action_of command) self.old).answer result }
         ensures ok { OnOk result (self.new ≡ (applied now (action_of command) self.old).keys) }
         ensures err { OnErr result (self.new ≡ self.old) }
     {

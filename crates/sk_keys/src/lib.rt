@@ -3,9 +3,9 @@
 
 mod apply;
 mod delete;
-mod dues;
 mod edit;
 mod expire;
+mod expiries;
 mod keys;
 mod look;
 mod move_list;

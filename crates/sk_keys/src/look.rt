@@ -1,11 +1,11 @@
 // The commands that read one key.
-ghost use Rattle.sk_value.specs.Answer.{Gives};
+ghost use Rattle.sk_value.specs.Answer.{AnswersWith};
 ghost use Rattle.sk_value.specs.Keys.{at};
 ghost use Rattle.sk_value.specs.Values.{look_at};
 
 use crate::keys::Entries;
 use sk_resp::{Reply, Word};
-use sk_value::{KeysFault, Look};
+use sk_value::{KeysFault, ReadOp};
 use std::alloc::Global;
 
 /// What the command answers at the moment `now`, in milliseconds since 1970.
@@ -14,9 +14,9 @@ pub fn look(
     entries: &Entries,
     now: u64,
     name: &Word,
-    look: &Look,
+    look: &ReadOp,
 ) -> Result<Reply, KeysFault>
-    ensures { Gives (look_at now look.now (at name.now entries.now.entries)) result }
+    ensures { AnswersWith (look_at now look.now (at name.now entries.now.entries)) result }
 {
     match entries.get(name) {
         None => Ok(look.absent(alloc)),

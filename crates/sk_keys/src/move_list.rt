@@ -4,7 +4,7 @@ ghost use Rattle.std.specs.Prelude.{◌≡◌, None, Some, IfOk, MatchOption, On
 ghost use Rattle.std.specs.BTreeMap.{IsOrdered};
 ghost use Rattle.std.specs.Option.{is_some};
 ghost use Rattle.std.specs.Str.{bytes_eq};
-ghost use Rattle.sk_value.specs.Answer.{Gives, text_or_null};
+ghost use Rattle.sk_value.specs.Answer.{AnswersWith, text_or_null};
 ghost use Rattle.sk_value.specs.Apply.{list_at, move_keys};
 ghost use Rattle.sk_value.specs.Keys.{at};
 ghost use Rattle.sk_value.specs.Lists.{end_of, push_one, take_one};
@@ -13,7 +13,7 @@ ghost use Rattle.sk_keys.specs.Index.{IsIndexed};
 ghost use Rattle.sk_keys.specs.Moves.{push_at, take_at, turned};
 
 use crate::delete::remove;
-use crate::dues::Dues;
+use crate::expiries::Expiries;
 use crate::keys::Entries;
 use crate::put::put_new;
 use sk_cmd::Side;
@@ -36,17 +36,17 @@ fn may_hold_list(entries: &Entries, name: &Word) -> bool
 fn push_at(
     alloc: Global,
     entries: &mut Entries,
-    dues: &mut Dues,
+    expiries: &mut Expiries,
     name: Word,
     side: Side,
     text: Word,
 ) -> Result<(), Memory>
-    requires indexed { IsIndexed entries.old.entries dues.old }
+    requires indexed { IsIndexed entries.old.entries expiries.old }
     requires list { is_some (list_at (at name entries.old.entries)) ≡ true }
     ensures ok { OnOk result (entries.new.entries ≡ push_at name side text entries.old.entries) }
     ensures err { OnErr result (entries.new.entries ≡ entries.old.entries) }
     ensures was_ordered { OnOk result (IsOrdered text_cmp entries.old) }
-    ensures indexed { IsIndexed entries.new.entries dues.new }
+    ensures indexed { IsIndexed entries.new.entries expiries.new }
 {
     if let Some(there) = entries.get_mut(&name) {
         let Value::List(list) = &mut there.value else {
@@ -60,15 +60,15 @@ fn push_at(
         value: Value::List(list),
         deadline: None,
     };
-    put_new(entries, dues, name, entry)
+    put_new(entries, expiries, name, entry)
 }
 
 // Takes the text from that end of the list under the name, which goes when it is empty.
 #[tactic(auto, using(crate::proofs::Puts::put_present, crate::proofs::Puts::without_set, std::proofs::lemmas::Map::Steps::set_value_same))]
-fn take_at(entries: &mut Entries, dues: &mut Dues, name: &Word, side: Side) -> Option<Word>
-    requires { IsIndexed entries.old.entries dues.old }
+fn take_at(entries: &mut Entries, expiries: &mut Expiries, name: &Word, side: Side) -> Option<Word>
+    requires { IsIndexed entries.old.entries expiries.old }
     ensures taken { MatchOption result (take_at name.now side entries.old.entries ≡ None) (λ text. take_at name.now side entries.old.entries ≡ Some (text, entries.new.entries)) }
-    ensures indexed { IsIndexed entries.new.entries dues.new }
+    ensures indexed { IsIndexed entries.new.entries expiries.new }
 {
     let there = entries.get_mut(name)?;
     let Value::List(list) = &mut there.value else {
@@ -76,7 +76,7 @@ fn take_at(entries: &mut Entries, dues: &mut Dues, name: &Word, side: Side) -> O
     };
     let text = list.take(side)?;
     if list.len() == 0 {
-        remove(entries, dues, name);
+        remove(entries, expiries, name);
     }
     Some(text)
 }
@@ -109,16 +109,16 @@ fn text_or_null(text: Option<Word>) -> Reply
 #[tactic(auto, using(crate::proofs::Moves::moved_within, std::proofs::lemmas::Map::Steps::set_value_same), unfolding(sk_value::specs::Apply::move_keys))]
 fn move_within(
     entries: &mut Entries,
-    dues: &Dues,
+    expiries: &Expiries,
     name: &Word,
     from: Side,
     to: Side,
 ) -> Result<Reply, KeysFault>
-    requires { IsIndexed entries.old.entries dues.now }
-    ensures answer { Gives (move_keys name.now name.now from to entries.old.entries).answer result }
+    requires { IsIndexed entries.old.entries expiries.now }
+    ensures answer { AnswersWith (move_keys name.now name.now from to entries.old.entries).answer result }
     ensures ok { OnOk result (entries.new.entries ≡ (move_keys name.now name.now from to entries.old.entries).keys) }
     ensures err { OnErr result (entries.new.entries ≡ entries.old.entries) }
-    ensures indexed { IsIndexed entries.new.entries dues.now }
+    ensures indexed { IsIndexed entries.new.entries expiries.now }
 {
     let Some(there) = entries.get_mut(name) else {
         return Ok(Reply::Null);
@@ -134,18 +134,18 @@ fn move_within(
 fn move_between(
     alloc: Global,
     entries: &mut Entries,
-    dues: &mut Dues,
+    expiries: &mut Expiries,
     source: &Word,
     destination: Word,
     from: Side,
     to: Side,
 ) -> Result<Reply, KeysFault>
-    requires indexed { IsIndexed entries.old.entries dues.old }
+    requires indexed { IsIndexed entries.old.entries expiries.old }
     requires apart { bytes_eq source.now destination ≡ false }
-    ensures answer { Gives (move_keys source.now destination from to entries.old.entries).answer result }
+    ensures answer { AnswersWith (move_keys source.now destination from to entries.old.entries).answer result }
     ensures ok { OnOk result (entries.new.entries ≡ (move_keys source.now destination from to entries.old.entries).keys) }
     ensures err { OnErr result (entries.new.entries ≡ entries.old.entries) }
-    ensures indexed { IsIndexed entries.new.entries dues.new }
+    ensures indexed { IsIndexed entries.new.entries expiries.new }
 {
     let Some(there) = entries.get(source) else {
         return Ok(Reply::Null);
@@ -159,29 +159,29 @@ fn move_between(
     let Some(text) = list.copy_end(from)? else {
         return Ok(Reply::Null);
     };
-    push_at(alloc, entries, dues, destination, to, text)?;
-    Ok(text_or_null(take_at(entries, dues, source, from)))
+    push_at(alloc, entries, expiries, destination, to, text)?;
+    Ok(text_or_null(take_at(entries, expiries, source, from)))
 }
 
 /// Moves the text from one end of a list to an end of a list. A source with nothing left in it goes.
 pub fn move_text(
     alloc: Global,
     entries: &mut Entries,
-    dues: &mut Dues,
+    expiries: &mut Expiries,
     source: Word,
     destination: Word,
     from: Side,
     to: Side,
 ) -> Result<Reply, KeysFault>
-    requires { IsIndexed entries.old.entries dues.old }
-    ensures answer { Gives (move_keys source destination from to entries.old.entries).answer result }
+    requires { IsIndexed entries.old.entries expiries.old }
+    ensures answer { AnswersWith (move_keys source destination from to entries.old.entries).answer result }
     ensures ok { OnOk result (entries.new.entries ≡ (move_keys source destination from to entries.old.entries).keys) }
     ensures err { OnErr result (entries.new.entries ≡ entries.old.entries) }
-    ensures indexed { IsIndexed entries.new.entries dues.new }
+    ensures indexed { IsIndexed entries.new.entries expiries.new }
 {
     if source == destination {
-        move_within(entries, dues, &source, from, to)
+        move_within(entries, expiries, &source, from, to)
     } else {
-        move_between(alloc, entries, dues, &source, destination, from, to)
+        move_between(alloc, entries, expiries, &source, destination, from, to)
     }
 }

@@ -9,9 +9,9 @@ use Rattle.sk_cmd.specs.declared.argument.Scored.{Scored}
 use Rattle.sk_value.specs.declared.value.Value.{Value}
 use Rattle.sk_value.specs.declared.value.Value.TheVariants as value
 use Rattle.sk_value.specs.declared.action.Action.TheVariants as action
-use Rattle.sk_value.specs.declared.look.Look.{Look}
+use Rattle.sk_value.specs.declared.read_op.ReadOp.{ReadOp}
 use Rattle.sk_value.specs.declared.entry.Entry.{Entry}
-use Rattle.sk_value.specs.Answer.{Answer, Gives}
+use Rattle.sk_value.specs.Answer.{Answer, AnswersWith}
 use Rattle.sk_value.specs.Keys.{Keys, how_many}
 use Rattle.sk_value.specs.Values.{look_at}
 use Rattle.sk_key.specs.declared.key_class.KeyClass.TheVariants as class
@@ -26,7 +26,7 @@ use Rattle.sk_model.specs.Outcome.{reply_of, says}
 use Rattle.sk_model.specs.Queues.{move}
 use Rattle.sk_model.specs.Step.{on_keys, moves}
 use Rattle.sk_store.specs.declared.store.Store.{Store}
-use Rattle.sk_store.specs.Stored.{IsReady, Runs, world}
+use Rattle.sk_store.specs.Stored.{IsReady, Executes, world}
 use Rattle.sk_keyspace.proofs.Deleting.{one_if}
 
 -- ## Reading
@@ -59,8 +59,8 @@ some_count None = refl
 some_count (Some n) = refl
 
 -- what is read of a key that holds this
-pub look_runs : {E : Type 0} (s : Store) (look : Look) (key : Bytes) (holds : Option Entry) (answer : Answer) (r : Result Reply E) → IsReady s → held (world s) key ≡ holds
-    → Gives (look_at s.moment look holds) answer → IfOk r (λ reply. (due : Answer) → Gives due answer → reply ≡ reply_of due) → Runs s (says (reply_of (look_at s.moment look (held (world s) key)))) r s
+pub look_runs : {E : Type 0} (s : Store) (look : ReadOp) (key : Bytes) (holds : Option Entry) (answer : Answer) (r : Result Reply E) → IsReady s → held (world s) key ≡ holds
+    → AnswersWith (look_at s.moment look holds) answer → IfOk r (λ reply. (due : Answer) → AnswersWith due answer → reply ≡ reply_of due) → Executes s (says (reply_of (look_at s.moment look (held (world s) key)))) r s
 look_runs s look key holds answer (Ok reply) ready is gives replies = (record { reply_is = replies (look_at s.moment look holds) gives ∙ ap (λ o. reply_of (look_at s.moment look o)) (sym is); new_is = refl }, ready)
 look_runs s look key holds answer (Err m) ready is gives replies = refl
 

@@ -10,7 +10,7 @@ use Rattle.sk_zset.specs.Pairs.{score_of}
 use Rattle.sk_zset.proofs.Windows.{window}
 use Rattle.sk_value.proofs.Ranks.{fewer}
 use Rattle.sk_value.specs.Lists.{first_index, end_index, range_of}
-use Rattle.sk_model.proofs.Texts.{bytes_tell}
+use Rattle.sk_model.proofs.Tools.Texts.{bytes_tell}
 
 pub score_is : (text : Bytes) (rows : List Row) → option_map (λ pair. pair.0) (option_map pair_of (row_of text rows)) ≡ score_of text (map pair_of rows)
 score_is text [] = grind arith

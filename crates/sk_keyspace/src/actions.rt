@@ -1,6 +1,6 @@
 // Every action on keys, handed to what does it.
 ghost use Rattle.sk_model.specs.Step.{act};
-ghost use Rattle.sk_store.specs.Stored.{IsReady, Runs, world};
+ghost use Rattle.sk_store.specs.Stored.{IsReady, Executes, world};
 
 use crate::deletes::{delete, flush};
 use crate::edits::edit;
@@ -14,14 +14,14 @@ use sk_value::Action;
 /// Does what a command does that is no worker's. Where memory runs out nothing has changed.
 pub fn act(store: &mut Store, action: Action) -> Result<Reply, Memory>
     requires { IsReady store.old }
-    ensures { Runs store.old (act (world store.old) action) result store.new }
+    ensures { Executes store.old (act (world store.old) action) result store.new }
 {
     match action {
         Action::Ping => Ok(Reply::Say(Say::Pong)),
         Action::Echo(text) => Ok(Reply::Bulk(text)),
         Action::Quit => Ok(Reply::Say(Say::Ok)),
-        Action::Look(key, how) => look(store, key, how),
-        Action::Edit(key, how) => edit(store, key, how),
+        Action::ReadOp(key, how) => look(store, key, how),
+        Action::WriteOp(key, how) => edit(store, key, how),
         Action::Set(key, text, options) => set(store, key, text, options),
         Action::Expire(key, millis) => expire(store, key, millis),
         Action::Exists(names) => exists(store, names),

@@ -4,7 +4,7 @@ ghost use Rattle.std.specs.List.{list_all};
 ghost use Rattle.sk_key.specs.Class.{class_of, is_queue};
 ghost use Rattle.sk_model.specs.Change.{perform};
 ghost use Rattle.sk_model.specs.Deletes.{delete, delete_as, delete_each, flush, may_go};
-ghost use Rattle.sk_model.specs.Outcome.{Comes};
+ghost use Rattle.sk_model.specs.Outcome.{Realizes};
 ghost use Rattle.sk_key.specs.declared.key_class.KeyClass.TheVariants as class;
 ghost use Rattle.sk_store.specs.Stored.{IsReady, world};
 ghost use Rattle.sk_keyspace.specs.Deleted.{Deletes};
@@ -76,7 +76,7 @@ fn may_all_go(keys: &[Word]) -> bool
 /// Deletes the keys, and answers how many were there. With one that may not be deleted none is.
 pub fn delete(store: &mut Store, names: Words) -> Reply
     requires { IsReady store.old }
-    ensures done { Comes (world store.old) (delete (world store.old) names) result (world store.new) }
+    ensures done { Realizes (world store.old) (delete (world store.old) names) result (world store.new) }
     ensures ready { IsReady store.new }
 {
     if !may_all_go(names.list()) {
@@ -88,7 +88,7 @@ pub fn delete(store: &mut Store, names: Words) -> Reply
 /// Deletes all jobs, the names of the queues and all plain keys. Batches, heartbeats and counters stay, and so does what the seats have.
 pub fn flush(store: &mut Store) -> Reply
     requires { IsReady store.old }
-    ensures done { Comes (world store.old) (flush (world store.old)) result (world store.new) }
+    ensures done { Realizes (world store.old) (flush (world store.old)) result (world store.new) }
     ensures ready { IsReady store.new }
 {
     store.places.clear();

@@ -12,8 +12,8 @@ ghost use Rattle.sk_places.specs.declared.row.Place.TheVariants.{Set};
 ghost use Rattle.sk_resp.specs.Reply.{wire};
 ghost use Rattle.sk_resp.specs.Spelling.{bulk};
 ghost use Rattle.sk_resp.specs.WordOrder.{is_member};
-ghost use Rattle.sk_store.specs.Stored.{IsReady, Runs, world};
-ghost use Rattle.sk_value.specs.Answer.{Gives, counted, texts};
+ghost use Rattle.sk_store.specs.Stored.{IsReady, Executes, world};
+ghost use Rattle.sk_value.specs.Answer.{AnswersWith, counted, texts};
 ghost use Rattle.sk_value.specs.Keys.{how_many};
 ghost use Rattle.sk_value.specs.Lists.{range_of};
 ghost use Rattle.sk_value.specs.Values.{look_at};
@@ -29,7 +29,7 @@ use sk_places::{Place, Places};
 use sk_resp::{Kind, Memory, Replies, Reply, Say, Word, Words};
 use sk_store::Store;
 use sk_value::{
-    Action, Entry, KeysFault, Look, Pairs, Value, as_reply, counted, end_index, first_index,
+    Action, Entry, KeysFault, Pairs, ReadOp, Value, as_reply, counted, end_index, first_index,
     look_sorted, one_if,
 };
 use std::alloc::Global;
@@ -42,7 +42,7 @@ fn range(
     first: i64,
     last: i64,
 ) -> Result<Reply, Memory>
-    ensures { IfOk result (λ reply. reply ≡ texts (range_of first last (texts_at place.now places.now.stands.rows))) }
+    ensures { IfOk result (λ reply. reply ≡ texts (range_of first last (texts_at place.now places.now.current.rows))) }
 {
     let count = places.len(place);
     let start = first_index(first, count);
@@ -52,15 +52,20 @@ fn range(
 }
 
 // What a command that reads a key answers of a queue's jobs, of which there is one at least.
-fn look_jobs(alloc: Global, places: &Places, place: &Place, look: &Look) -> Result<Reply, KeysFault>
-    requires { 0 < length (texts_at place.now places.now.stands.rows) }
-    ensures { (now : ℕ) → Gives (look_at now look.now (if_any value.List (texts_at place.now places.now.stands.rows))) result }
+fn look_jobs(
+    alloc: Global,
+    places: &Places,
+    place: &Place,
+    look: &ReadOp,
+) -> Result<Reply, KeysFault>
+    requires { 0 < length (texts_at place.now places.now.current.rows) }
+    ensures { (now : ℕ) → AnswersWith (look_at now look.now (if_any value.List (texts_at place.now places.now.current.rows))) result }
 {
     match look {
-        Look::KindOf => Ok(Reply::Say(Say::Kind(Kind::List))),
-        Look::Pttl => Ok(Reply::Int(-1)),
-        Look::Llen => Ok(counted(places.len(place))),
-        Look::Lrange(first, last) => Ok(range(alloc, places, place, *first, *last)?),
+        ReadOp::KindOf => Ok(Reply::Say(Say::Kind(Kind::List))),
+        ReadOp::Pttl => Ok(Reply::Int(-1)),
+        ReadOp::Llen => Ok(counted(places.len(place))),
+        ReadOp::Lrange(first, last) => Ok(range(alloc, places, place, *first, *last)?),
         _ => Err(KeysFault::WrongType),
     }
 }
@@ -70,9 +75,9 @@ fn look_queue(
     alloc: Global,
     places: &Places,
     place: &Place,
-    look: &Look,
+    look: &ReadOp,
 ) -> Result<Reply, KeysFault>
-    ensures { (now : ℕ) → Gives (look_at now look.now (if_any value.List (texts_at place.now places.now.stands.rows))) result }
+    ensures { (now : ℕ) → AnswersWith (look_at now look.now (if_any value.List (texts_at place.now places.now.current.rows))) result }
 {
     if places.len(place) == 0 {
         return Ok(look.absent(alloc));
@@ -81,24 +86,24 @@ fn look_queue(
 }
 
 // What it answers of a set of jobs. One without jobs is no key.
-fn look_set(alloc: Global, places: &Places, set: Scored, look: &Look) -> Result<Reply, KeysFault>
-    ensures { (now : ℕ) → Gives (look_at now look.now (if_any value.Sorted (map pair_of (rows_at (Set set) places.now.stands.rows)))) result }
+fn look_set(alloc: Global, places: &Places, set: Scored, look: &ReadOp) -> Result<Reply, KeysFault>
+    ensures { (now : ℕ) → AnswersWith (look_at now look.now (if_any value.Sorted (map pair_of (rows_at (Set set) places.now.current.rows)))) result }
 {
     let jobs = Jobs { places, set };
     if jobs.len() == 0 {
         return Ok(look.absent(alloc));
     }
     match look {
-        Look::KindOf => Ok(Reply::Say(Say::Kind(Kind::Sorted))),
-        Look::Pttl => Ok(Reply::Int(-1)),
+        ReadOp::KindOf => Ok(Reply::Say(Say::Kind(Kind::Sorted))),
+        ReadOp::Pttl => Ok(Reply::Int(-1)),
         _ => look_sorted(alloc, &jobs, look),
     }
 }
 
 // The name at an index.
 fn copy_name(alloc: Global, places: &Places, at: usize) -> Result<Word, Memory>
-    requires { at < length places.now.stands.names }
-    ensures { IfOk result (λ name. slice_get places.now.stands.names at ≡ Some name) }
+    requires { at < length places.now.current.names }
+    ensures { IfOk result (λ name. slice_get places.now.current.names at ≡ Some name) }
 {
     match places.name_at(at) {
         Some(name) => Ok(Word::new(name.as_bytes().to_vec(alloc)?)),
@@ -109,7 +114,7 @@ fn copy_name(alloc: Global, places: &Places, at: usize) -> Result<Word, Memory>
 // The names in order, as replies.
 #[tactic(auto, using(crate::proofs::Looking::one_more_name, crate::proofs::Looking::all_names))]
 fn copies(alloc: Global, places: &Places) -> Result<Vec<Reply>, Memory>
-    ensures { IfOk result (λ replies. map wire replies.items ≡ map bulk places.now.stands.names) }
+    ensures { IfOk result (λ replies. map wire replies.items ≡ map bulk places.now.current.names) }
 {
     let count = places.name_count();
     let mut replies = Vec::with_capacity(alloc, count)?;
@@ -120,23 +125,23 @@ fn copies(alloc: Global, places: &Places) -> Result<Vec<Reply>, Memory>
 }
 
 // What it answers of the set of the queues' names, of which there is one at least.
-fn look_some_names(alloc: Global, places: &Places, look: &Look) -> Result<Reply, KeysFault>
-    requires { 0 < length places.now.stands.names }
-    ensures { (now : ℕ) → Gives (look_at now look.now (if_any value.Set places.now.stands.names)) result }
+fn look_some_names(alloc: Global, places: &Places, look: &ReadOp) -> Result<Reply, KeysFault>
+    requires { 0 < length places.now.current.names }
+    ensures { (now : ℕ) → AnswersWith (look_at now look.now (if_any value.Set places.now.current.names)) result }
 {
     match look {
-        Look::KindOf => Ok(Reply::Say(Say::Kind(Kind::Set))),
-        Look::Pttl => Ok(Reply::Int(-1)),
-        Look::Smembers => Ok(Reply::Array(Replies::new(copies(alloc, places)?))),
-        Look::Scard => Ok(counted(places.name_count())),
-        Look::Sismember(name) => Ok(one_if(places.is_queue(name))),
+        ReadOp::KindOf => Ok(Reply::Say(Say::Kind(Kind::Set))),
+        ReadOp::Pttl => Ok(Reply::Int(-1)),
+        ReadOp::Smembers => Ok(Reply::Array(Replies::new(copies(alloc, places)?))),
+        ReadOp::Scard => Ok(counted(places.name_count())),
+        ReadOp::Sismember(name) => Ok(one_if(places.is_queue(name))),
         _ => Err(KeysFault::WrongType),
     }
 }
 
 // The same of any number of names.
-fn look_names(alloc: Global, places: &Places, look: &Look) -> Result<Reply, KeysFault>
-    ensures { (now : ℕ) → Gives (look_at now look.now (if_any value.Set places.now.stands.names)) result }
+fn look_names(alloc: Global, places: &Places, look: &ReadOp) -> Result<Reply, KeysFault>
+    ensures { (now : ℕ) → AnswersWith (look_at now look.now (if_any value.Set places.now.current.names)) result }
 {
     if places.name_count() == 0 {
         return Ok(look.absent(alloc));
@@ -145,16 +150,16 @@ fn look_names(alloc: Global, places: &Places, look: &Look) -> Result<Reply, Keys
 }
 
 // What it answers of the identities of the processes that are alive, of which there is one at least.
-fn look_some_idents(alloc: Global, idents: Vec<Word>, look: &Look) -> Result<Reply, KeysFault>
+fn look_some_idents(alloc: Global, idents: Vec<Word>, look: &ReadOp) -> Result<Reply, KeysFault>
     requires { 0 < length idents.items }
-    ensures { (now : ℕ) → Gives (look_at now look.now (if_any value.Set idents.items)) result }
+    ensures { (now : ℕ) → AnswersWith (look_at now look.now (if_any value.Set idents.items)) result }
 {
     match look {
-        Look::KindOf => Ok(Reply::Say(Say::Kind(Kind::Set))),
-        Look::Pttl => Ok(Reply::Int(-1)),
-        Look::Smembers => Ok(as_reply(alloc, idents)?),
-        Look::Scard => Ok(counted(idents.len())),
-        Look::Sismember(ident) => Ok(one_if(is_among(ident, &idents))),
+        ReadOp::KindOf => Ok(Reply::Say(Say::Kind(Kind::Set))),
+        ReadOp::Pttl => Ok(Reply::Int(-1)),
+        ReadOp::Smembers => Ok(as_reply(alloc, idents)?),
+        ReadOp::Scard => Ok(counted(idents.len())),
+        ReadOp::Sismember(ident) => Ok(one_if(is_among(ident, &idents))),
         _ => Err(KeysFault::WrongType),
     }
 }
@@ -167,8 +172,13 @@ fn is_among(word: &Word, words: &[Word]) -> bool
 }
 
 // The same of any number of processes.
-fn look_idents(alloc: Global, moment: u64, leases: &Leases, look: &Look) -> Result<Reply, KeysFault>
-    ensures { (now : ℕ) → Gives (look_at now look.now (if_any value.Set (idents moment leases.now.stands))) result }
+fn look_idents(
+    alloc: Global,
+    moment: u64,
+    leases: &Leases,
+    look: &ReadOp,
+) -> Result<Reply, KeysFault>
+    ensures { (now : ℕ) → AnswersWith (look_at now look.now (if_any value.Set (idents moment leases.now.current))) result }
 {
     let list = leases.idents(alloc, moment)?;
     if list.is_empty() {
@@ -179,7 +189,7 @@ fn look_idents(alloc: Global, moment: u64, leases: &Leases, look: &Look) -> Resu
 
 // The count of the counter that the key means, where it was ever raised.
 fn count_of(counters: &Counters, key: Word) -> Option<u64>
-    ensures { result ≡ count_in counters.now.stands (counter_of key) }
+    ensures { result ≡ count_in counters.now.current (counter_of key) }
 {
     counters.get(counter_of(key).bytes())
 }
@@ -200,9 +210,9 @@ fn look_count(
     alloc: Global,
     moment: u64,
     count: Option<u64>,
-    look: &Look,
+    look: &ReadOp,
 ) -> Result<Reply, KeysFault>
-    ensures { Gives (look_at moment look.now (option_map count_entry count)) result }
+    ensures { AnswersWith (look_at moment look.now (option_map count_entry count)) result }
 {
     match count {
         Some(count) => count_entry(alloc, count)?.look(alloc, moment, look),
@@ -211,13 +221,13 @@ fn look_count(
 }
 
 /// Reads one key, plain or managed.
-pub fn look(store: &mut Store, key: Word, look: Look) -> Result<Reply, Memory>
+pub fn look(store: &mut Store, key: Word, look: ReadOp) -> Result<Reply, Memory>
     requires { IsReady store.old }
-    ensures { Runs store.old (says (reply_of (look_at store.old.moment look (held (world store.old) key)))) result store.new }
+    ensures { Executes store.old (says (reply_of (look_at store.old.moment look (held (world store.old) key)))) result store.new }
 {
     let (alloc, moment, places) = (store.alloc, store.moment, &store.places);
     match class_of(key.bytes()) {
-        KeyClass::Plain => answered(store.keys.act(moment, Action::Look(key, look))),
+        KeyClass::Plain => answered(store.keys.act(moment, Action::ReadOp(key, look))),
         KeyClass::Queue => answered(look_queue(alloc, places, &Place::Queue(queue_of(key)), &look)),
         KeyClass::Queues => answered(look_names(alloc, places, &look)),
         KeyClass::Private => {
@@ -266,7 +276,7 @@ fn count_there(store: &Store, names: Vec<Word>) -> Result<usize, Memory>
 /// EXISTS key .. (Redis, "EXISTS")
 pub fn exists(store: &Store, names: Words) -> Result<Reply, Memory>
     requires { IsReady store.now }
-    ensures { Runs store.now (says (counted (how_many (held (world store.now)) names))) result store.now }
+    ensures { Executes store.now (says (counted (how_many (held (world store.now)) names))) result store.now }
 {
     let count = count_there(store, names.into_list())?;
     Ok(counted(count))

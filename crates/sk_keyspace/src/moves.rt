@@ -4,7 +4,7 @@ ghost use Rattle.sk_places.specs.declared.row.Place.TheVariants.{Queue};
 ghost use Rattle.sk_key.specs.Class.{class_of};
 ghost use Rattle.sk_model.specs.Queues.{move};
 ghost use Rattle.sk_model.specs.Step.{moves};
-ghost use Rattle.sk_store.specs.Stored.{IsReady, Runs, world};
+ghost use Rattle.sk_store.specs.Stored.{IsReady, Executes, world};
 
 use crate::plain::{do_on_keys, managed_key};
 use sk_base::Score;
@@ -25,7 +25,7 @@ fn move_job(
     to: Side,
 ) -> Result<Reply, Memory>
     requires { IsReady store.old }
-    ensures { Runs store.old (move (world store.old) (Queue source) (Queue destination) from to) result store.new }
+    ensures { Executes store.old (move (world store.old) (Queue source) (Queue destination) from to) result store.new }
 {
     let source = Place::Queue(source);
     let Some((_, payload)) = store.places.end(&source, from) else {
@@ -52,7 +52,7 @@ pub fn move_text(
     to: Side,
 ) -> Result<Reply, Memory>
     requires { IsReady store.old }
-    ensures { Runs store.old (moves (world store.old) source destination from to (class_of source) (class_of destination)) result store.new }
+    ensures { Executes store.old (moves (world store.old) source destination from to (class_of source) (class_of destination)) result store.new }
 {
     let other = class_of(destination.bytes());
     match class_of(source.bytes()) {

@@ -4,7 +4,8 @@ ghost use Rattle.std.specs.List.{list_all};
 ghost use Rattle.sk_model.specs.Change.{Names, perform};
 ghost use Rattle.sk_model.specs.Queues.{add_names};
 ghost use Rattle.sk_payload.specs.Member.{is_name};
-ghost use Rattle.sk_store.specs.Stored.{InStep, IsAtomic, IsReady, Runs, world};
+ghost use Rattle.sk_store.specs.Stored.{InStep, IsAtomic, IsReady, Executes, world};
+ghost use Rattle.sk_base.specs.declared.limits.TheConstants.{LONGEST_NAME};
 
 use crate::plain::managed_key;
 use sk_key::{is_name, name_text};
@@ -14,7 +15,7 @@ use sk_value::counted;
 
 // Adds each name in turn. After want of memory some of them stand.
 fn name_each(store: &mut Store, names: Vec<Word>) -> Result<(), Memory>
-    requires { list_all (is_name 255) names.items ≡ true }
+    requires { list_all (is_name LONGEST_NAME) names.items ≡ true }
     ensures ok { OnOk result (world store.new ≡ perform (world store.old) (map Names names.items)) }
     ensures step { InStep store.old store.new }
 {
@@ -27,7 +28,7 @@ fn name_each(store: &mut Store, names: Vec<Word>) -> Result<(), Memory>
 // Adds each name in turn, all of them or none.
 fn name_all(store: &mut Store, names: Vec<Word>) -> Result<(), Memory>
     requires ready { IsReady store.old }
-    requires names { list_all (is_name 255) names.items ≡ true }
+    requires names { list_all (is_name LONGEST_NAME) names.items ≡ true }
     ensures { IsAtomic store.old (map Names names.items) result store.new }
 {
     store.begin();
@@ -36,7 +37,7 @@ fn name_all(store: &mut Store, names: Vec<Word>) -> Result<(), Memory>
 }
 
 fn are_names(names: &[Word]) -> bool
-    ensures { result ≡ list_all (is_name 255) names.now }
+    ensures { result ≡ list_all (is_name LONGEST_NAME) names.now }
 {
     names.iter().all(|name| is_name(name.bytes()))
 }
@@ -44,7 +45,7 @@ fn are_names(names: &[Word]) -> bool
 /// Adds the names, all of them or none, and answers how many are new. A word that is no name is refused with all others.
 pub fn add_names(store: &mut Store, names: Words) -> Result<Reply, Memory>
     requires { IsReady store.old }
-    ensures { Runs store.old (add_names (world store.old) names) result store.new }
+    ensures { Executes store.old (add_names (world store.old) names) result store.new }
 {
     if !are_names(names.list()) {
         return Ok(managed_key());

@@ -3,8 +3,8 @@ ghost use Rattle.std.specs.Prelude.{◌≡◌, ◌≢◌, IfOk, IfErr, IsErr, On
 ghost use Rattle.sk_key.specs.Class.{class_of};
 ghost use Rattle.sk_model.specs.Outcome.{reply_of};
 ghost use Rattle.sk_model.specs.Step.{on_keys, on_plain};
-ghost use Rattle.sk_store.specs.Stored.{IsReady, Runs, world};
-ghost use Rattle.sk_value.specs.Answer.{Answer, Gives, fault_say};
+ghost use Rattle.sk_store.specs.Stored.{IsReady, Executes, world};
+ghost use Rattle.sk_value.specs.Answer.{Answer, AnswersWith, fault_say};
 
 use sk_cmd::SetOptions;
 use sk_key::{KeyClass, class_of};
@@ -35,7 +35,7 @@ fn told(fault: KeysFault) -> Result<Reply, Memory>
 
 /// The reply that an answer of the plain keys is, or the text of its fault; only want of memory stays an error.
 pub fn answered(answer: Result<Reply, KeysFault>) -> Result<Reply, Memory>
-    ensures reply { IfOk result (λ reply. (due : Answer) → Gives due answer → reply ≡ reply_of due) }
+    ensures reply { IfOk result (λ reply. (due : Answer) → AnswersWith due answer → reply ≡ reply_of due) }
     ensures refused { OnOk result (IfErr answer (λ fault. fault ≢ KeysFault.Memory)) }
     ensures err { OnErr result (IsErr answer) }
 {
@@ -48,7 +48,7 @@ pub fn answered(answer: Result<Reply, KeysFault>) -> Result<Reply, Memory>
 /// Does an action to the plain keys. A refusal is a reply, and leaves them as they were.
 pub fn do_on_keys(store: &mut Store, action: Action) -> Result<Reply, Memory>
     requires { IsReady store.old }
-    ensures { Runs store.old (on_keys (world store.old) action) result store.new }
+    ensures { Executes store.old (on_keys (world store.old) action) result store.new }
 {
     answered(store.keys.act(store.moment, action))
 }
@@ -56,7 +56,7 @@ pub fn do_on_keys(store: &mut Store, action: Action) -> Result<Reply, Memory>
 // Does it, where the key is plain. Another is refused.
 fn do_on_plain(store: &mut Store, action: Action, class: KeyClass) -> Result<Reply, Memory>
     requires { IsReady store.old }
-    ensures { Runs store.old (on_plain (world store.old) action class) result store.new }
+    ensures { Executes store.old (on_plain (world store.old) action class) result store.new }
 {
     match class {
         KeyClass::Plain => do_on_keys(store, action),
@@ -67,7 +67,7 @@ fn do_on_plain(store: &mut Store, action: Action, class: KeyClass) -> Result<Rep
 /// Sets a key to a text, where the key is plain. Another is refused.
 pub fn set(store: &mut Store, key: Word, text: Word, options: SetOptions) -> Result<Reply, Memory>
     requires { IsReady store.old }
-    ensures { Runs store.old (on_plain (world store.old) (Action.Set key text options) (class_of key)) result store.new }
+    ensures { Executes store.old (on_plain (world store.old) (Action.Set key text options) (class_of key)) result store.new }
 {
     let class = class_of(key.bytes());
     do_on_plain(store, Action::Set(key, text, options), class)
@@ -76,7 +76,7 @@ pub fn set(store: &mut Store, key: Word, text: Word, options: SetOptions) -> Res
 /// Gives a key its span of life in milliseconds, where the key is plain. Another is refused.
 pub fn expire(store: &mut Store, key: Word, millis: i64) -> Result<Reply, Memory>
     requires { IsReady store.old }
-    ensures { Runs store.old (on_plain (world store.old) (Action.Expire key millis) (class_of key)) result store.new }
+    ensures { Executes store.old (on_plain (world store.old) (Action.Expire key millis) (class_of key)) result store.new }
 {
     let class = class_of(key.bytes());
     do_on_plain(store, Action::Expire(key, millis), class)

@@ -8,7 +8,7 @@ ghost use Rattle.sk_model.specs.Room.{HasRoom};
 ghost use Rattle.sk_places.specs.Rows.{row_at};
 ghost use Rattle.sk_places.specs.Totals.{IsCountable, pushes_in};
 ghost use Rattle.sk_places.specs.declared.row.Place.TheVariants.{Queue};
-ghost use Rattle.sk_store.specs.Stored.{InStep, IsAtomic, IsReady, Runs, world};
+ghost use Rattle.sk_store.specs.Stored.{InStep, IsAtomic, IsReady, Executes, world};
 
 use sk_base::Score;
 use sk_cmd::Side;
@@ -69,7 +69,7 @@ fn push_all(
 /// Puts each text in turn at that end of the queue, and answers the new length. Where that is more than the store takes, none is put.
 pub fn push(store: &mut Store, queue: Text, end: Side, texts: Words) -> Result<Reply, Memory>
     requires { IsReady store.old }
-    ensures { Runs store.old (push (world store.old) end (Queue queue) texts) result store.new }
+    ensures { Executes store.old (push (world store.old) end (Queue queue) texts) result store.new }
 {
     let count = texts.list().len();
     let bytes = bytes_of(texts.list());

@@ -1,7 +1,7 @@
 // LREM key count text on a queue (Redis, "LREM"). It takes no memory.
 ghost use Rattle.std.specs.Prelude.{◌≡◌};
 ghost use Rattle.sk_places.specs.declared.row.Place.TheVariants.{Queue};
-ghost use Rattle.sk_model.specs.Outcome.{Comes};
+ghost use Rattle.sk_model.specs.Outcome.{Realizes};
 ghost use Rattle.sk_model.specs.Queues.{remove};
 ghost use Rattle.sk_store.specs.Stored.{IsReady, world};
 
@@ -15,7 +15,7 @@ use sk_value::counted;
 #[tactic(auto, using(crate::proofs::Scores::taken_fewer))]
 pub fn remove(store: &mut Store, queue: Text, count: i64, text: &Word) -> Reply
     requires { IsReady store.old }
-    ensures done { Comes (world store.old) (remove (world store.old) (Queue queue) count text.now) result (world store.new) }
+    ensures done { Realizes (world store.old) (remove (world store.old) (Queue queue) count text.now) result (world store.new) }
     ensures ready { IsReady store.new }
 {
     let _count = store.places.row_count(); // for what it says of their number

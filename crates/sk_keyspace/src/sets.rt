@@ -1,13 +1,13 @@
 // The commands that write on a set of jobs: ZADD on `schedule`; ZREM, ZREMRANGEBYRANK and ZREMRANGEBYSCORE on each (Redis, "Sorted sets").
 ghost use Rattle.std.specs.Prelude.{◌≡◌, ◌≤◌, ◌+◌, OnOk, length};
 ghost use Rattle.sk_model.specs.Change.{changed, perform};
-ghost use Rattle.sk_model.specs.Outcome.{Comes};
+ghost use Rattle.sk_model.specs.Outcome.{Realizes};
 ghost use Rattle.sk_model.specs.Sets.{add, add_each, add_one, add_to, edit_jobs};
 ghost use Rattle.sk_model.specs.Room.{HasRoom};
 ghost use Rattle.sk_places.specs.Totals.{IsCountable, pushes_in};
 ghost use Rattle.sk_places.specs.declared.origin.Origin.TheVariants.{Outside};
-ghost use Rattle.sk_store.specs.Stored.{InStep, IsAtomic, IsReady, Runs, world};
-ghost use Rattle.sk_value.specs.declared.edit.Edit.TheVariants as Edit;
+ghost use Rattle.sk_store.specs.Stored.{InStep, IsAtomic, IsReady, Executes, world};
+ghost use Rattle.sk_value.specs.declared.write_op.WriteOp.TheVariants as WriteOp;
 
 use crate::plain::managed_key;
 use sk_base::{Bound, Score};
@@ -61,7 +61,7 @@ fn add_all(store: &mut Store, set: Scored, pairs: Vec<(Score, Word)>) -> Result<
 // Gives each text in turn its score in the set, and answers how many are new. Where that is more than the store takes, nothing is done.
 fn add(store: &mut Store, set: Scored, scores: Scores) -> Result<Reply, Memory>
     requires { IsReady store.old }
-    ensures { Runs store.old (add (world store.old) set scores) result store.new }
+    ensures { Executes store.old (add (world store.old) set scores) result store.new }
 {
     let pairs = scores.into_list();
     if store.is_full(pairs.len(), bytes_scored(&pairs)) {
@@ -77,7 +77,7 @@ fn add(store: &mut Store, set: Scored, scores: Scores) -> Result<Reply, Memory>
 /// another set it is refused.
 pub fn add_to(store: &mut Store, set: Scored, scores: Scores) -> Result<Reply, Memory>
     requires { IsReady store.old }
-    ensures { Runs store.old (add_to (world store.old) scores set) result store.new }
+    ensures { Executes store.old (add_to (world store.old) scores set) result store.new }
 {
     match set {
         Scored::Schedule => add(store, Scored::Schedule, scores),
@@ -89,7 +89,7 @@ pub fn add_to(store: &mut Store, set: Scored, scores: Scores) -> Result<Reply, M
 #[tactic(auto, using(sk_value::proofs::Ranks::fewer))]
 pub fn remove_members(store: &mut Store, set: Scored, members: &Words) -> Reply
     requires { IsReady store.old }
-    ensures done { Comes (world store.old) (edit_jobs (world store.old) set (Edit.Zrem members.now)) result (world store.new) }
+    ensures done { Realizes (world store.old) (edit_jobs (world store.old) set (WriteOp.Zrem members.now)) result (world store.new) }
     ensures ready { IsReady store.new }
 {
     let _count = store.places.len(&Place::Set(set)); // for what it says of their number
@@ -100,7 +100,7 @@ pub fn remove_members(store: &mut Store, set: Scored, members: &Words) -> Reply
 #[tactic(auto, using(crate::proofs::Scores::part_fewer))]
 pub fn remove_range(store: &mut Store, set: Scored, first: i64, last: i64) -> Reply
     requires { IsReady store.old }
-    ensures done { Comes (world store.old) (edit_jobs (world store.old) set (Edit.Zremrangebyrank first last)) result (world store.new) }
+    ensures done { Realizes (world store.old) (edit_jobs (world store.old) set (WriteOp.Zremrangebyrank first last)) result (world store.new) }
     ensures ready { IsReady store.new }
 {
     let count = store.places.len(&Place::Set(set));
@@ -112,7 +112,7 @@ pub fn remove_range(store: &mut Store, set: Scored, first: i64, last: i64) -> Re
 #[tactic(auto, using(sk_value::proofs::Ranks::fewer))]
 pub fn remove_scores(store: &mut Store, set: Scored, least: Bound, greatest: Bound) -> Reply
     requires { IsReady store.old }
-    ensures done { Comes (world store.old) (edit_jobs (world store.old) set (Edit.Zremrangebyscore least greatest)) result (world store.new) }
+    ensures done { Realizes (world store.old) (edit_jobs (world store.old) set (WriteOp.Zremrangebyscore least greatest)) result (world store.new) }
     ensures ready { IsReady store.new }
 {
     let _count = store.places.len(&Place::Set(set)); // for what it says of their number

@@ -5,9 +5,9 @@ use Rattle.std.specs.BTreeSet.{BTreeSet}
 use Rattle.std.specs.Set.{remove_key}
 use Rattle.std.proofs.lemmas.List.Sums.{sum_by-cons}
 use Rattle.sk_undo.specs.Sorted.{rank_past}
-use Rattle.sk_undo.specs.Steps.{Steps, BothPass, edited, passed}
+use Rattle.sk_undo.specs.Versions.{Versions, BothPass, edited, passed}
 use Rattle.sk_resp.specs.Spelling.{Bytes}
-use Rattle.sk_leases.specs.Index.{DropsDue, Due, HasMore, IsClear, TakesOver, covers, is_due_in}
+use Rattle.sk_leases.specs.Index.{DropsExpiry, Expiry, HasMore, IsClear, TakesOver, covers, is_expiry_in}
 use Rattle.sk_leases.specs.Lease.{Lease, lease_cmp, names, stands_at}
 use Rattle.sk_leases.specs.Lists.{standing, without}
 use Rattle.sk_leases.specs.Parts.{is_over}
@@ -56,24 +56,24 @@ module _ {X : Type 0} (t : X → Bool) where
 -- ---- a list with its index
 
 -- where each deadline is ahead, each lease stands
-pub standing_clear : (now : ℕ) (dues : BTreeSet Due) (ps : List Lease) → IsClear now dues → covers dues ps ≡ true → standing now ps ≡ ps
-standing_clear now dues ps clear h = filter_all (stands_at now) ps (all_more (is_due_in dues) (stands_at now) (λ p has. let ahead = clear p.1 p.0 has in grind (arith, ahead)) ps h)
+pub standing_clear : (now : ℕ) (expiries : BTreeSet Expiry) (ps : List Lease) → IsClear now expiries → covers expiries ps ≡ true → standing now ps ≡ ps
+standing_clear now expiries ps clear h = filter_all (stands_at now) ps (all_more (is_expiry_in expiries) (stands_at now) (λ p has. let ahead = clear p.1 p.0 has in grind (arith, ahead)) ps h)
 
-pub covers_more : (before after : BTreeSet Due) (ps : List Lease) → HasMore before after → covers before ps ≡ true → covers after ps ≡ true
-covers_more before after ps more h = all_more (is_due_in before) (is_due_in after) more ps h
+pub covers_more : (before after : BTreeSet Expiry) (ps : List Lease) → HasMore before after → covers before ps ≡ true → covers after ps ≡ true
+covers_more before after ps more h = all_more (is_expiry_in before) (is_expiry_in after) more ps h
 
-pub passed_more : (before after : BTreeSet Due) (o : Option (List Lease)) → HasMore before after → passed (covers before) o ≡ true → passed (covers after) o ≡ true
+pub passed_more : (before after : BTreeSet Expiry) (o : Option (List Lease)) → HasMore before after → passed (covers before) o ≡ true → passed (covers after) o ≡ true
 passed_more before after None more h = refl
 passed_more before after (Some ps) more h = covers_more before after ps more h
 
-pub both_more : (before after : BTreeSet Due) (s : Steps (List Lease)) → HasMore before after → BothPass (covers before) s → BothPass (covers after) s
-both_more before after s more k = record { stands = covers_more before after s.stands more k.stands; stood = passed_more before after s.stood more k.stood }
+pub both_more : (before after : BTreeSet Expiry) (s : Versions (List Lease)) → HasMore before after → BothPass (covers before) s → BothPass (covers after) s
+both_more before after s more k = record { current = covers_more before after s.current more k.current; saved = passed_more before after s.saved more k.saved }
 
-pub covers_put : (dues : BTreeSet Due) (p : Lease) (ps : List Lease) → covers dues ps ≡ true → is_due_in dues p ≡ true → covers dues (insert ps (rank_past (lease_cmp p) ps) p) ≡ true
-covers_put dues p ps h has = all_insert (is_due_in dues) ps (rank_past (lease_cmp p) ps) p h has
+pub covers_put : (expiries : BTreeSet Expiry) (p : Lease) (ps : List Lease) → covers expiries ps ≡ true → is_expiry_in expiries p ≡ true → covers expiries (insert ps (rank_past (lease_cmp p) ps) p) ≡ true
+covers_put expiries p ps h has = all_insert (is_expiry_in expiries) ps (rank_past (lease_cmp p) ps) p h has
 
-pub steps_are : (s t : Steps (List Lease)) (ps : List Lease) → s.stands ≡ ps → s.stood ≡ t.stood → s ≡ edited ps t
-steps_are s t ps e f = ap₂ (λ a o. record { stands = a; stood = o }) e f
+pub steps_are : (s t : Versions (List Lease)) (ps : List Lease) → s.current ≡ ps → s.saved ≡ t.saved → s ≡ edited ps t
+steps_are s t ps e f = ap₂ (λ a o. record { current = a; saved = o }) e f
 
 -- ---- what is taken out
 
@@ -115,5 +115,5 @@ pub without_none : (name : Bytes) (ps : List Lease) → count_by (names name) ps
 without_none name ps h = filter_none (names name) ps h
 
 -- the leases of the name that are over are gone, as its pair of the index is
-pub covers_taken : (name : Bytes) (now : ℕ) (before after : BTreeSet Due) (ps qs : List Lease) → covers before ps ≡ true → TakesOver name now ps qs → DropsDue now name before after → covers after qs ≡ true
-covers_taken name now before after ps qs h t drops = all_but (is_due_in before) (is_due_in after) (is_over name now) drops qs (t.covered before h) t.none
+pub covers_taken : (name : Bytes) (now : ℕ) (before after : BTreeSet Expiry) (ps qs : List Lease) → covers before ps ≡ true → TakesOver name now ps qs → DropsExpiry now name before after → covers after qs ≡ true
+covers_taken name now before after ps qs h t drops = all_but (is_expiry_in before) (is_expiry_in after) (is_over name now) drops qs (t.covered before h) t.none

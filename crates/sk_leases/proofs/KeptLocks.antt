@@ -11,12 +11,12 @@ use Rattle.std.specs.Ordering.{is_eq, is_lt, match_ordering, nat_cmp, ordering_t
 use Rattle.std.specs.Set.{remove_key}
 use Rattle.std.specs.declared.cmp.Ordering.{Ordering}
 use Rattle.std.specs.declared.cmp.Ordering.TheVariants.{Less, Equal, Greater}
-use Rattle.sk_undo.specs.Rises.{all_pass}
+use Rattle.sk_undo.specs.Partitioned.{all_pass}
 use Rattle.sk_undo.specs.Sorted.{is_sorted}
-use Rattle.sk_undo.specs.Steps.{BothPass, Steps, edited, passed}
+use Rattle.sk_undo.specs.Versions.{BothPass, Versions, edited, passed}
 use Rattle.sk_resp.specs.Spelling.{Bytes}
 use Rattle.sk_resp.specs.WordOrder.{text_cmp}
-use Rattle.sk_leases.specs.Index.{Due, HasMore, IsClear, TakesOver, covers, due_cmp, is_due_in}
+use Rattle.sk_leases.specs.Index.{Expiry, HasMore, IsClear, TakesOver, covers, expiry_cmp, is_expiry_in}
 use Rattle.sk_leases.specs.Lease.{Lease, names, stands_at}
 use Rattle.sk_leases.specs.Lists.{standing}
 use Rattle.sk_leases.specs.LockIndex.{TakesLock, covers_locks, lease_of, leases_of}
@@ -97,7 +97,7 @@ takes_over digest now ls sorted h = record {
   leases = record {
     standing = standing_leases now (remove_entry (is_at (text_cmp digest)) ls) ∙ ap leases_of (locks_removed digest now ls h) ∙ sym (standing_leases now ls);
     none = none_left (is_over digest now) (leases_of (remove_entry (is_at (text_cmp digest)) ls)) (none_over digest now (leases_of (remove_entry (is_at (text_cmp digest)) ls)) (none_under digest ls sorted));
-    covered = λ dues k. rw (leases_removed (is_at (text_cmp digest)) ls) (all_gone (here digest) (is_due_in dues) (leases_of ls) k);
+    covered = λ expiries k. rw (leases_removed (is_at (text_cmp digest)) ls) (all_gone (here digest) (is_expiry_in expiries) (leases_of ls) k);
   };
 }
 
@@ -111,8 +111,8 @@ fine_over digest now (e ∷ ls) sorted h = by_test (is_at (text_cmp digest) e.0)
     by_test true f more =
         let rest : all_pass (λ other. is_lt (text_cmp e.0 other)) (keys_of ls) ≡ true = grind (arith, sorted) in
         let later = none_over digest now (leases_of ls) (none_behind digest e.0 ls f rest) in
-        let stands : stands_until now e.1 ≡ true = grind (arith, f, h) in
-        grind (arith, stands, later)
+        let current : stands_until now e.1 ≡ true = grind (arith, f, h) in
+        grind (arith, current, later)
     by_test false f more =
         let rest : is_sorted text_cmp (keys_of ls) ≡ true = grind (arith, sorted) in
         let fine : is_over_in now (lock_under digest ls) ≡ false = grind (arith, f, h) in
@@ -124,71 +124,71 @@ keeps_over digest now ls sorted h = record {
   leases = record {
     standing = refl;
     none = none_left (is_over digest now) (leases_of ls) (fine_over digest now ls sorted h);
-    covered = λ dues k. k;
+    covered = λ expiries k. k;
   };
 }
 
 -- where each deadline is ahead, each lock stands
-pub locks_clear : (now : ℕ) (dues : BTreeSet Due) (ls : Locks) → IsClear now dues → covers_locks dues ls ≡ true → locks_at now ls ≡ ls
-locks_clear now dues [] clear h = refl
-locks_clear now dues (e ∷ ls) clear h =
-    let first : is_due_in dues (lease_of e) ≡ true = grind (arith, h) in
-    let more : covers_locks dues ls ≡ true = grind (arith, h) in
+pub locks_clear : (now : ℕ) (expiries : BTreeSet Expiry) (ls : Locks) → IsClear now expiries → covers_locks expiries ls ≡ true → locks_at now ls ≡ ls
+locks_clear now expiries [] clear h = refl
+locks_clear now expiries (e ∷ ls) clear h =
+    let first : is_expiry_in expiries (lease_of e) ≡ true = grind (arith, h) in
+    let more : covers_locks expiries ls ≡ true = grind (arith, h) in
     let ahead = clear e.1.deadline e.0 first in
-    grind (arith, ahead, locks_clear now dues ls clear more)
+    grind (arith, ahead, locks_clear now expiries ls clear more)
 
-pub steps_of : (s t : Steps Locks) (ls : Locks) → s.stands ≡ ls → s.stood ≡ t.stood → s ≡ edited ls t
-steps_of s t ls e f = ap₂ (λ a o. record { stands = a; stood = o }) e f
+pub steps_of : (s t : Versions Locks) (ls : Locks) → s.current ≡ ls → s.saved ≡ t.saved → s ≡ edited ls t
+steps_of s t ls e f = ap₂ (λ a o. record { current = a; saved = o }) e f
 
 -- ## One lock
 
 same_text : (text other : Bytes) → text_cmp text other ≡ Equal → text ≡ other
 same_text text other h = (bytes_eq-Decides text other).0 (sym (is_eq-slice_cmp text other) ∙ ap is_eq h)
 
-pub covers_with : (dues : BTreeSet Due) (digest : Bytes) (lock : Lock) (ls : Locks) → covers_locks dues ls ≡ true → is_due_in dues (digest, lock.deadline) ≡ true → covers_locks dues (with_lock digest lock ls) ≡ true
-covers_with dues digest lock [] h has = grind (arith, has)
-covers_with dues digest lock (e ∷ ls) h has = by_order (text_cmp digest e.0) refl (λ k. covers_with dues digest lock ls k has)
+pub covers_with : (expiries : BTreeSet Expiry) (digest : Bytes) (lock : Lock) (ls : Locks) → covers_locks expiries ls ≡ true → is_expiry_in expiries (digest, lock.deadline) ≡ true → covers_locks expiries (with_lock digest lock ls) ≡ true
+covers_with expiries digest lock [] h has = grind (arith, has)
+covers_with expiries digest lock (e ∷ ls) h has = by_order (text_cmp digest e.0) refl (λ k. covers_with expiries digest lock ls k has)
   where
-    by_order : (o : Ordering) → text_cmp digest e.0 ≡ o → (covers_locks dues ls ≡ true → covers_locks dues (with_lock digest lock ls) ≡ true)
-        → covers_locks dues (match_ordering o ((digest, lock) ∷ e ∷ ls) ((e.0, lock) ∷ ls) (e ∷ with_lock digest lock ls)) ≡ true
+    by_order : (o : Ordering) → text_cmp digest e.0 ≡ o → (covers_locks expiries ls ≡ true → covers_locks expiries (with_lock digest lock ls) ≡ true)
+        → covers_locks expiries (match_ordering o ((digest, lock) ∷ e ∷ ls) ((e.0, lock) ∷ ls) (e ∷ with_lock digest lock ls)) ≡ true
     by_order Less f more = grind (arith, h, has)
-    by_order Equal f more = let same = subst (λ (d : Bytes). is_due_in dues (d, lock.deadline) ≡ true) (same_text digest e.0 f) has in grind (arith, h, same)
+    by_order Equal f more = let same = subst (λ (d : Bytes). is_expiry_in expiries (d, lock.deadline) ≡ true) (same_text digest e.0 f) has in grind (arith, h, same)
     by_order Greater f more = grind (arith, h, more)
 
-other_due : (deadline moment : ℕ) (digest other : Bytes) → is_at (text_cmp digest) other ≡ false → is_at (due_cmp (deadline, digest)) (moment, other) ≡ false
-other_due deadline moment digest other h = grind (arith, h)
+other_expiry : (deadline moment : ℕ) (digest other : Bytes) → is_at (text_cmp digest) other ≡ false → is_at (expiry_cmp (deadline, digest)) (moment, other) ≡ false
+other_expiry deadline moment digest other h = grind (arith, h)
 
-pub covers_removed : (before after : BTreeSet Due) (digest : Bytes) (deadline : ℕ) (ls : Locks) → is_sorted text_cmp (keys_of ls) ≡ true
-    → ((due : Due) → contains due_cmp after due ≡ cond (is_at (due_cmp (deadline, digest)) due) false (contains due_cmp before due))
+pub covers_removed : (before after : BTreeSet Expiry) (digest : Bytes) (deadline : ℕ) (ls : Locks) → is_sorted text_cmp (keys_of ls) ≡ true
+    → ((expiry : Expiry) → contains expiry_cmp after expiry ≡ cond (is_at (expiry_cmp (deadline, digest)) expiry) false (contains expiry_cmp before expiry))
     → covers_locks before ls ≡ true → covers_locks after (remove_entry (is_at (text_cmp digest)) ls) ≡ true
 covers_removed before after digest deadline ls sorted updates h =
     let ps : List Lease = leases_of (remove_entry (is_at (text_cmp digest)) ls) in
-    let left : covers before ps ≡ true = rw (leases_removed (is_at (text_cmp digest)) ls) (all_gone (here digest) (is_due_in before) (leases_of ls) h) in
-    all_but (is_due_in before) (is_due_in after) (here digest) (λ p had lost. stays p (here digest p) refl had lost) ps left (none_left (here digest) ps (none_under digest ls sorted))
+    let left : covers before ps ≡ true = rw (leases_removed (is_at (text_cmp digest)) ls) (all_gone (here digest) (is_expiry_in before) (leases_of ls) h) in
+    all_but (is_expiry_in before) (is_expiry_in after) (here digest) (λ p had lost. stays p (here digest p) refl had lost) ps left (none_left (here digest) ps (none_under digest ls sorted))
   where
-    stays : (p : Lease) (b : Bool) → here digest p ≡ b → is_due_in before p ≡ true → is_due_in after p ≡ false → b ≡ true
+    stays : (p : Lease) (b : Bool) → here digest p ≡ b → is_expiry_in before p ≡ true → is_expiry_in after p ≡ false → b ≡ true
     stays p true f had lost = refl
-    stays p false f had lost = grind (arith, had, lost, other_due deadline p.1 digest p.0 f, updates (p.1, p.0))
+    stays p false f had lost = grind (arith, had, lost, other_expiry deadline p.1 digest p.0 f, updates (p.1, p.0))
 
 -- ## With an open step
 
-passed_more : (before after : BTreeSet Due) (o : Option Locks) → HasMore before after → passed (covers_locks before) o ≡ true → passed (covers_locks after) o ≡ true
+passed_more : (before after : BTreeSet Expiry) (o : Option Locks) → HasMore before after → passed (covers_locks before) o ≡ true → passed (covers_locks after) o ≡ true
 passed_more before after None more h = refl
 passed_more before after (Some ls) more h = covers_more before after (leases_of ls) more h
 
-pub locks_more : (before after : BTreeSet Due) (s : Steps Locks) → HasMore before after → BothPass (covers_locks before) s → BothPass (covers_locks after) s
-locks_more before after s more k = record { stands = covers_more before after (leases_of s.stands) more k.stands; stood = passed_more before after s.stood more k.stood }
+pub locks_more : (before after : BTreeSet Expiry) (s : Versions Locks) → HasMore before after → BothPass (covers_locks before) s → BothPass (covers_locks after) s
+locks_more before after s more k = record { current = covers_more before after (leases_of s.current) more k.current; saved = passed_more before after s.saved more k.saved }
 
 -- a lock is made, whose deadline the index has
-pub locks_with : (before after : BTreeSet Due) (s : Steps Locks) (digest : Bytes) (lock : Lock) → HasMore before after → is_due_in after (digest, lock.deadline) ≡ true → BothPass (covers_locks before) s
-    → BothPass (covers_locks after) (edited (with_lock digest lock s.stands) s)
-locks_with before after s digest lock more has k = let all = locks_more before after s more k in record { stands = covers_with after digest lock s.stands all.stands has; stood = all.stood }
+pub locks_with : (before after : BTreeSet Expiry) (s : Versions Locks) (digest : Bytes) (lock : Lock) → HasMore before after → is_expiry_in after (digest, lock.deadline) ≡ true → BothPass (covers_locks before) s
+    → BothPass (covers_locks after) (edited (with_lock digest lock s.current) s)
+locks_with before after s digest lock more has k = let all = locks_more before after s more k in record { current = covers_with after digest lock s.current all.current has; saved = all.saved }
 
 -- one is taken out where no step is open, and its deadline goes from the index
-pub locks_without : (before after : BTreeSet Due) (s : Steps Locks) (digest : Bytes) (deadline : ℕ) → s.stood ≡ None → is_sorted text_cmp (keys_of s.stands) ≡ true
-    → ((due : Due) → contains due_cmp after due ≡ cond (is_at (due_cmp (deadline, digest)) due) false (contains due_cmp before due)) → BothPass (covers_locks before) s
-    → BothPass (covers_locks after) (edited (remove_entry (is_at (text_cmp digest)) s.stands) s)
+pub locks_without : (before after : BTreeSet Expiry) (s : Versions Locks) (digest : Bytes) (deadline : ℕ) → s.saved ≡ None → is_sorted text_cmp (keys_of s.current) ≡ true
+    → ((expiry : Expiry) → contains expiry_cmp after expiry ≡ cond (is_at (expiry_cmp (deadline, digest)) expiry) false (contains expiry_cmp before expiry)) → BothPass (covers_locks before) s
+    → BothPass (covers_locks after) (edited (remove_entry (is_at (text_cmp digest)) s.current) s)
 locks_without before after s digest deadline closed sorted updates k = record {
-  stands = covers_removed before after digest deadline s.stands sorted updates k.stands;
-  stood = ap (passed (covers_locks after)) closed;
+  current = covers_removed before after digest deadline s.current sorted updates k.current;
+  saved = ap (passed (covers_locks after)) closed;
 }

@@ -7,7 +7,7 @@ use Rattle.std.specs.declared.cmp.Ordering.{Ordering}
 use Rattle.std.specs.declared.cmp.Ordering.TheVariants.{Less, Equal, Greater}
 use Rattle.std.proofs.lemmas.Cmp.{then_total, on_total, nat_cmp_total, nat_list_cmp_total}
 use Rattle.std.proofs.lemmas.Map.Text.{is_eq-slice_cmp}
-use Rattle.sk_undo.specs.Rises.{all_pass}
+use Rattle.sk_undo.specs.Partitioned.{all_pass}
 use Rattle.sk_undo.specs.Sorted as keys
 use Rattle.sk_resp.specs.Spelling.{Bytes}
 use Rattle.sk_leases.specs.Lease.{Lease, lease_cmp, names, precedes, stands_at}

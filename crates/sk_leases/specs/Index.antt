@@ -10,38 +10,38 @@ use Rattle.sk_leases.specs.Lease.{Lease}
 use Rattle.sk_leases.specs.Lists.{standing}
 use Rattle.sk_leases.specs.Parts.{is_over}
 
-abbrev pub Due : Type 0
-Due = ℕ × Bytes
+abbrev pub Expiry : Type 0
+Expiry = ℕ × Bytes
 
 -- by the deadline, then by the name's bytes
-abbrev pub due_cmp : Due → Due → Ordering
-due_cmp x y = ordering_then (nat_cmp x.0 y.0) (slice_cmp nat_cmp x.1 y.1)
+abbrev pub expiry_cmp : Expiry → Expiry → Ordering
+expiry_cmp x y = ordering_then (nat_cmp x.0 y.0) (slice_cmp nat_cmp x.1 y.1)
 
-abbrev pub is_due_in : BTreeSet Due → Lease → Bool
-is_due_in dues p = contains due_cmp dues (p.1, p.0)
+abbrev pub is_expiry_in : BTreeSet Expiry → Lease → Bool
+is_expiry_in expiries p = contains expiry_cmp expiries (p.1, p.0)
 
 -- The index has the deadline of each of these.
-abbrev pub covers : BTreeSet Due → List Lease → Bool
-covers dues ps = list_all (is_due_in dues) ps
+abbrev pub covers : BTreeSet Expiry → List Lease → Bool
+covers expiries ps = list_all (is_expiry_in expiries) ps
 
 -- ## Time
 
 -- the moment has reached the first deadline
-abbrev pub is_first_over : ℕ → List Due → Bool
+abbrev pub is_first_over : ℕ → List Expiry → Bool
 is_first_over now [] = false
-is_first_over now (due ∷ dues) = not (nat_lt now due.0)
+is_first_over now (expiry ∷ expiries) = not (nat_lt now expiry.0)
 
 -- Each deadline is ahead.
-abbrev pub IsClear : ℕ → BTreeSet Due → Type 0
-IsClear now dues = (moment : ℕ) (name : Bytes) → contains due_cmp dues (moment, name) ≡ true → now < moment
+abbrev pub IsClear : ℕ → BTreeSet Expiry → Type 0
+IsClear now expiries = (moment : ℕ) (name : Bytes) → contains expiry_cmp expiries (moment, name) ≡ true → now < moment
 
 -- Each pair is still there.
-abbrev pub HasMore : BTreeSet Due → BTreeSet Due → Type 0
-HasMore before after = (p : Lease) → is_due_in before p ≡ true → is_due_in after p ≡ true
+abbrev pub HasMore : BTreeSet Expiry → BTreeSet Expiry → Type 0
+HasMore before after = (p : Lease) → is_expiry_in before p ≡ true → is_expiry_in after p ≡ true
 
 -- A pair with this name whose deadline the moment has reached is gone, and no other.
-abbrev pub DropsDue : ℕ → Bytes → BTreeSet Due → BTreeSet Due → Type 0
-DropsDue now name before after = (p : Lease) → is_due_in before p ≡ true → is_due_in after p ≡ false → is_over name now p ≡ true
+abbrev pub DropsExpiry : ℕ → Bytes → BTreeSet Expiry → BTreeSet Expiry → Type 0
+DropsExpiry now name before after = (p : Lease) → is_expiry_in before p ≡ true → is_expiry_in after p ≡ false → is_over name now p ≡ true
 
 -- ## A name
 
@@ -49,4 +49,4 @@ DropsDue now name before after = (p : Lease) → is_due_in before p ≡ true →
 pub record TakesOver (name : Bytes) (now : ℕ) (before after : List Lease) : Type 0 where
   pub standing : standing now after ≡ standing now before
   pub none : count_by (is_over name now) after ≡ 0
-  pub covered : (dues : BTreeSet Due) → covers dues before ≡ true → covers dues after ≡ true
+  pub covered : (expiries : BTreeSet Expiry) → covers expiries before ≡ true → covers expiries after ≡ true

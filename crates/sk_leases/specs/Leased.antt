@@ -2,6 +2,7 @@
 -- and what each call makes of them.
 use Rattle.std.specs.Prelude.{ℕ, ◌+◌, ◌*◌, Bool, List, [], Option, Some, None, length, nat_lt, refl}
 use Rattle.std.specs.Coded.{Coded, code_by, coded×, coded_list, coded_option, coded_ℕ}
+use Rattle.sk_base.specs.declared.limits.TheConstants.{BEAT_LIFE, LEAD_LIFE, RECOVERY_LIFE}
 use Rattle.sk_resp.specs.Spelling.{Bytes}
 use Rattle.sk_leases.specs.Lease.{Lease}
 use Rattle.sk_leases.specs.Lists.{count_standing, names_of, put, standing as standing_of, without}
@@ -33,7 +34,7 @@ purged now l = record l { beats = standing_of now l.beats; recoveries = standing
 
 -- a minute
 abbrev pub beat_life : ℕ
-beat_life = 60000
+beat_life = BEAT_LIFE
 
 -- A beat takes the place of the ident's earlier one.
 abbrev pub beat : Bytes → ℕ → Leased → Leased
@@ -50,7 +51,7 @@ idents now l = names_of (standing_of now l.beats)
 
 -- 72 hours, and one millisecond more, so that it stands 72 hours later
 abbrev pub recovery_life : ℕ
-recovery_life = 259200001
+recovery_life = RECOVERY_LIFE
 
 -- a job was recovered
 abbrev pub recovered : Bytes → ℕ → Leased → Leased
@@ -86,7 +87,7 @@ unlocked digest jid l = record l { locks = without_lock digest jid l.locks }
 
 -- half a minute
 abbrev pub lead_life : ℕ
-lead_life = 30000
+lead_life = LEAD_LIFE
 
 -- whether the process leads
 abbrev pub leads : Bytes → ℕ → Leased → Bool

@@ -2,7 +2,7 @@
 use Rattle.std.specs.Prelude.{◌≡◌, ℕ, Bool, cond, bytes_eq, List, map, Option, Some, None}
 use Rattle.std.specs.BTreeSet.{BTreeSet}
 use Rattle.sk_resp.specs.Spelling.{Bytes}
-use Rattle.sk_leases.specs.Index.{Due, TakesOver, covers}
+use Rattle.sk_leases.specs.Index.{Expiry, TakesOver, covers}
 use Rattle.sk_leases.specs.Lease.{Lease}
 use Rattle.sk_leases.specs.Locks.{Locks, lock_under, locks_at}
 use Rattle.sk_leases.specs.declared.lock.Lock.{Lock}
@@ -15,8 +15,8 @@ abbrev pub leases_of : Locks → List Lease
 leases_of locks = map lease_of locks
 
 -- The index has the deadline of each of these.
-abbrev pub covers_locks : BTreeSet Due → Locks → Bool
-covers_locks dues locks = covers dues (leases_of locks)
+abbrev pub covers_locks : BTreeSet Expiry → Locks → Bool
+covers_locks expiries locks = covers expiries (leases_of locks)
 
 -- The lock under the digest is gone where it is over, and no other.
 pub record TakesLock (digest : Bytes) (now : ℕ) (before after : Locks) : Type 0 where

@@ -1,12 +1,12 @@
 // Names with deadlines: a multiset with undo, and the index of its deadlines. Memory is taken before the first edit.
 ghost use Rattle.std.specs.Prelude.{◌≡◌, [], None, true, IfOk, IsSome, OnErr, OnOk};
-ghost use Rattle.sk_undo.specs.Steps.{begun, closed, committed, edited, undone};
+ghost use Rattle.sk_undo.specs.Versions.{begun, closed, committed, edited, undone};
 ghost use Rattle.sk_leases.specs.Lists.{count_standing, names_of, put, standing, without};
 ghost use Rattle.sk_leases.specs.Order.{is_ordered};
 
 use crate::Memory;
-use crate::dues::{Dues, add_due};
 use crate::edits::{Entries, count_named, count_standing, drop_named, purge};
+use crate::expiries::{Expiries, add_expiry};
 use sk_resp::Word;
 use sk_undo::UndoMultiset;
 use std::alloc::Global;
@@ -17,21 +17,21 @@ use std::marker::Model;
 #[derive(Drop)]
 pub struct Deadlines {
     entries: Entries,
-    dues: Dues,
+    expiries: Expiries,
 }
 
 impl Model for Deadlines {
     ghost use Rattle.std.specs.Prelude.{List};
-    ghost use Rattle.sk_undo.specs.Steps.{Steps, BothPass};
+    ghost use Rattle.sk_undo.specs.Versions.{Versions, BothPass};
     ghost use Rattle.sk_leases.specs.Lease.{Lease};
 
-    ghost Value = { Steps (List Lease) };
+    ghost Value = { Versions (List Lease) };
 
     ghost use Rattle.sk_leases.specs.Index.{covers};
 
     ghost view = { λ d. d.entries.list };
 
-    ghost invariant = { λ d. BothPass (covers d.dues) d.entries.list };
+    ghost invariant = { λ d. BothPass (covers d.expiries) d.entries.list };
 }
 
 fn word(alloc: Global, bytes: &[u8]) -> Result<Word, Memory>
@@ -41,7 +41,7 @@ fn word(alloc: Global, bytes: &[u8]) -> Result<Word, Memory>
 }
 
 fn standing_names(alloc: Global, entries: &Entries, now: u64) -> Result<Vec<Word>, Memory>
-    ensures { IfOk result (λ names. names.items ≡ names_of (standing now entries.now.list.stands)) }
+    ensures { IfOk result (λ names. names.items ≡ names_of (standing now entries.now.list.current)) }
 {
     let mut names = Vec::new(alloc);
     for at in 0..entries.len() {
@@ -60,27 +60,27 @@ impl Deadlines {
     {
         Deadlines {
             entries: UndoMultiset::new(alloc),
-            dues: BTreeSet::new(alloc),
+            expiries: BTreeSet::new(alloc),
         }
     }
 
     /// Takes out what is over. What stays isn't looked at. Takes no memory.
     pub fn purge(&mut self, now: u64)
-        requires { self.old.stood ≡ None }
-        ensures { self.new ≡ edited (standing now self.old.stands) self.old }
+        requires { self.old.saved ≡ None }
+        ensures { self.new ≡ edited (standing now self.old.current) self.old }
     {
-        purge(&mut self.entries, &mut self.dues, now);
+        purge(&mut self.entries, &mut self.expiries, now);
     }
 
     /// Adds a lease of the name.
     #[tactic(auto, unfolding(crate::specs::Lists::put))]
     pub fn put(&mut self, alloc: Global, name: &[u8], deadline: u64) -> Result<(), Memory>
-        ensures ok { OnOk result (self.new ≡ edited (put (name.now, deadline) self.old.stands) self.old) }
+        ensures ok { OnOk result (self.new ≡ edited (put (name.now, deadline) self.old.current) self.old) }
         ensures err { OnErr result (self.new ≡ self.old) }
     {
         let lease = word(alloc, name)?;
         self.entries.reserve(1)?;
-        add_due(&mut self.dues, word(alloc, name)?, deadline)?;
+        add_expiry(&mut self.expiries, word(alloc, name)?, deadline)?;
         self.entries.put((lease, deadline));
         Ok(())
     }
@@ -88,61 +88,61 @@ impl Deadlines {
     /// Makes this the only lease of the name.
     #[tactic(auto, unfolding(crate::specs::Lists::put))]
     pub fn renew(&mut self, alloc: Global, name: &[u8], deadline: u64) -> Result<(), Memory>
-        ensures ok { OnOk result (self.new ≡ edited (put (name.now, deadline) (without name.now self.old.stands)) self.old) }
+        ensures ok { OnOk result (self.new ≡ edited (put (name.now, deadline) (without name.now self.old.current)) self.old) }
         ensures err { OnErr result (self.new ≡ self.old) }
     {
         let lease = word(alloc, name)?;
         let count = count_named(&self.entries, name);
         self.entries.reserve(count + 1)?;
-        add_due(&mut self.dues, word(alloc, name)?, deadline)?;
-        drop_named(&mut self.entries, name, &self.dues);
+        add_expiry(&mut self.expiries, word(alloc, name)?, deadline)?;
+        drop_named(&mut self.entries, name, &self.expiries);
         self.entries.put((lease, deadline));
         Ok(())
     }
 
     /// Drops the leases of the name.
     pub fn drop_all(&mut self, name: &[u8]) -> Result<(), Memory>
-        ensures ok { OnOk result (self.new ≡ edited (without name.now self.old.stands) self.old) }
+        ensures ok { OnOk result (self.new ≡ edited (without name.now self.old.current) self.old) }
         ensures err { OnErr result (self.new ≡ self.old) }
     {
         let count = count_named(&self.entries, name);
         self.entries.reserve(count)?;
-        drop_named(&mut self.entries, name, &self.dues);
+        drop_named(&mut self.entries, name, &self.expiries);
         Ok(())
     }
 
     /// How many leases of the name stand.
     pub fn count(&self, name: &[u8], now: u64) -> usize
-        ensures { result ≡ count_standing name.now now self.now.stands }
+        ensures { result ≡ count_standing name.now now self.now.current }
     {
         count_standing(&self.entries, name, now)
     }
 
     /// The names whose leases stand, by their bytes.
     pub fn names(&self, alloc: Global, now: u64) -> Result<Vec<Word>, Memory>
-        ensures names { IfOk result (λ names. names.items ≡ names_of (standing now self.now.stands)) }
-        ensures order { is_ordered self.now.stands ≡ true }
+        ensures names { IfOk result (λ names. names.items ≡ names_of (standing now self.now.current)) }
+        ensures order { is_ordered self.now.current ≡ true }
     {
         let _len = self.entries.len(); // its contract says that the leases are in order
         standing_names(alloc, &self.entries, now)
     }
 
     pub fn begin(&mut self)
-        requires { self.old.stood ≡ None }
+        requires { self.old.saved ≡ None }
         ensures { self.new ≡ begun self.old }
     {
         self.entries.begin();
     }
 
     pub fn undo(&mut self)
-        requires { IsSome self.old.stood }
+        requires { IsSome self.old.saved }
         ensures { self.new ≡ undone self.old }
     {
         self.entries.undo();
     }
 
     pub fn commit(&mut self)
-        requires { IsSome self.old.stood }
+        requires { IsSome self.old.saved }
         ensures { self.new ≡ committed self.old }
     {
         self.entries.commit();

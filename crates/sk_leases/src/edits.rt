@@ -2,12 +2,12 @@
 ghost use Rattle.std.specs.Prelude.{◌≡◌, ◌+◌, ◌≤◌, true, None};
 ghost use Rattle.std.specs.List.{count_by};
 ghost use Rattle.sk_undo.specs.Balance.{most};
-ghost use Rattle.sk_undo.specs.Steps.{edited};
+ghost use Rattle.sk_undo.specs.Versions.{edited};
 ghost use Rattle.sk_leases.specs.Index.{TakesOver, covers};
 ghost use Rattle.sk_leases.specs.Lease.{names};
 ghost use Rattle.sk_leases.specs.Lists.{count_standing, standing, without};
 
-use crate::dues::{Dues, next_due};
+use crate::expiries::{Expiries, next_expired};
 use crate::part::{LeasesOf, Part};
 use sk_resp::Word;
 use sk_undo::UndoMultiset;
@@ -17,7 +17,7 @@ pub type Entries = UndoMultiset<(Word, u64)>;
 
 /// How many leases the name has.
 pub fn count_named(entries: &Entries, name: &[u8]) -> usize
-    ensures is { result ≡ count_by (names name.now) entries.now.list.stands }
+    ensures is { result ≡ count_by (names name.now) entries.now.list.current }
     ensures small { result ≤ most }
 {
     entries.count(&LeasesOf {
@@ -28,7 +28,7 @@ pub fn count_named(entries: &Entries, name: &[u8]) -> usize
 
 /// How many leases of the name stand.
 pub fn count_standing(entries: &Entries, name: &[u8], now: u64) -> usize
-    ensures { result ≡ count_standing name.now now entries.now.list.stands }
+    ensures { result ≡ count_standing name.now now entries.now.list.current }
 {
     entries.count(&LeasesOf {
         name,
@@ -37,12 +37,12 @@ pub fn count_standing(entries: &Entries, name: &[u8], now: u64) -> usize
 }
 
 /// Drops the leases of the name out.
-pub fn drop_named(entries: &mut Entries, name: &[u8], dues: &Dues)
-    requires room { count_by (names name.now) entries.old.list.stands ≤ entries.old.room }
-    requires covered { covers dues.now entries.old.list.stands ≡ true }
-    ensures list { entries.new.list ≡ edited (without name.now entries.old.list.stands) entries.old.list }
-    ensures room { entries.old.room ≤ entries.new.room + count_by (names name.now) entries.old.list.stands }
-    ensures covered { covers dues.now entries.new.list.stands ≡ true }
+pub fn drop_named(entries: &mut Entries, name: &[u8], expiries: &Expiries)
+    requires room { count_by (names name.now) entries.old.list.current ≤ entries.old.room }
+    requires covered { covers expiries.now entries.old.list.current ≡ true }
+    ensures list { entries.new.list ≡ edited (without name.now entries.old.list.current) entries.old.list }
+    ensures room { entries.old.room ≤ entries.new.room + count_by (names name.now) entries.old.list.current }
+    ensures covered { covers expiries.now entries.new.list.current ≡ true }
 {
     let named = LeasesOf {
         name,
@@ -57,9 +57,9 @@ pub fn drop_named(entries: &mut Entries, name: &[u8], dues: &Dues)
 
 // Takes the leases of the name out that are over.
 fn take_over(entries: &mut Entries, name: &[u8], now: u64)
-    requires { entries.old.list.stood ≡ None }
-    ensures closed { entries.new.list.stood ≡ None }
-    ensures rest { TakesOver name.now now entries.old.list.stands entries.new.list.stands }
+    requires { entries.old.list.saved ≡ None }
+    ensures closed { entries.new.list.saved ≡ None }
+    ensures rest { TakesOver name.now now entries.old.list.current entries.new.list.current }
 {
     let over = LeasesOf {
         name,
@@ -69,13 +69,13 @@ fn take_over(entries: &mut Entries, name: &[u8], now: u64)
 }
 
 /// Takes the leases out that are over. What stays isn't looked at.
-pub fn purge(entries: &mut Entries, dues: &mut Dues, now: u64)
-    requires closed { entries.old.list.stood ≡ None }
-    requires covered { covers dues.old entries.old.list.stands ≡ true }
-    ensures list { entries.new.list ≡ edited (standing now entries.old.list.stands) entries.old.list }
-    ensures covered { covers dues.new entries.new.list.stands ≡ true }
+pub fn purge(entries: &mut Entries, expiries: &mut Expiries, now: u64)
+    requires closed { entries.old.list.saved ≡ None }
+    requires covered { covers expiries.old entries.old.list.current ≡ true }
+    ensures list { entries.new.list ≡ edited (standing now entries.old.list.current) entries.old.list }
+    ensures covered { covers expiries.new entries.new.list.current ≡ true }
 {
-    while let Some(name) = next_due(dues, now) {
+    while let Some(name) = next_expired(expiries, now) {
         take_over(entries, name.bytes(), now);
     }
 }

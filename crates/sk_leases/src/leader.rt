@@ -1,6 +1,6 @@
 // The lease of the leader, which one process at most holds at a time, and what it was at the begin of an open step.
 ghost use Rattle.std.specs.Prelude.{◌≡◌, None, Some, IsSome};
-ghost use Rattle.sk_undo.specs.Steps.{begun, closed, committed, edited, undone};
+ghost use Rattle.sk_undo.specs.Versions.{begun, closed, committed, edited, undone};
 ghost use Rattle.sk_leases.specs.Leader.{is_held, is_held_by_another, leader_at};
 
 use sk_resp::Word;
@@ -30,10 +30,10 @@ pub struct Leader {
 
 impl Model for Leader {
     ghost use Rattle.std.specs.Prelude.{Option};
-    ghost use Rattle.sk_undo.specs.Steps.{Steps};
+    ghost use Rattle.sk_undo.specs.Versions.{Versions};
     ghost use Rattle.sk_leases.specs.Lease.{Lease as LeaseSeen};
 
-    ghost Value = { Steps (Option LeaseSeen) };
+    ghost Value = { Versions (Option LeaseSeen) };
 
     ghost use Rattle.sk_leases.specs.SavedLease.{leader_in};
 
@@ -53,8 +53,8 @@ impl Leader {
 
     /// Takes the lease out where it is over.
     pub fn purge(&mut self, now: u64)
-        requires { self.old.stood ≡ None }
-        ensures { self.new ≡ edited (leader_at now self.old.stands) self.old }
+        requires { self.old.saved ≡ None }
+        ensures { self.new ≡ edited (leader_at now self.old.current) self.old }
     {
         let is_over = match &self.lease {
             Some((_, deadline)) => *deadline <= now,
@@ -67,7 +67,7 @@ impl Leader {
 
     /// Whether the process holds the lease.
     pub fn is_held(&self, ident: &[u8], now: u64) -> bool
-        ensures { result ≡ is_held ident.now now self.now.stands }
+        ensures { result ≡ is_held ident.now now self.now.current }
     {
         match &self.lease {
             Some((leader, deadline)) => leader.bytes() == ident && now < *deadline,
@@ -77,7 +77,7 @@ impl Leader {
 
     /// Whether another process holds it.
     pub fn is_held_by_another(&self, ident: &[u8], now: u64) -> bool
-        ensures { result ≡ is_held_by_another ident.now now self.now.stands }
+        ensures { result ≡ is_held_by_another ident.now now self.now.current }
     {
         match &self.lease {
             Some((leader, deadline)) => leader.bytes() != ident && now < *deadline,
@@ -96,14 +96,14 @@ impl Leader {
     }
 
     pub fn begin(&mut self)
-        requires { self.old.stood ≡ None }
+        requires { self.old.saved ≡ None }
         ensures { self.new ≡ begun self.old }
     {
         self.saved = Saved::Same;
     }
 
     pub fn undo(&mut self)
-        requires { IsSome self.old.stood }
+        requires { IsSome self.old.saved }
         ensures { self.new ≡ undone self.old }
     {
         if let Saved::Was(before) = mem::replace(&mut self.saved, Saved::Closed) {
@@ -112,7 +112,7 @@ impl Leader {
     }
 
     pub fn commit(&mut self)
-        requires { IsSome self.old.stood }
+        requires { IsSome self.old.saved }
         ensures { self.new ≡ committed self.old }
     {
         self.saved = Saved::Closed;

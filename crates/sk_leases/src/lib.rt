@@ -3,8 +3,8 @@
 #![tactic(auto)]
 
 mod deadlines;
-mod dues;
 mod edits;
+mod expiries;
 mod leader;
 mod leases;
 mod lock;

@@ -1,6 +1,6 @@
 // The last slot of each periodic job: a map with undo from the job's name. Memory is taken before the edit.
 ghost use Rattle.std.specs.Prelude.{◌≡◌, [], length, None, IsSome, OnErr, OnOk};
-ghost use Rattle.sk_undo.specs.Steps.{begun, closed, committed, edited, undone};
+ghost use Rattle.sk_undo.specs.Versions.{begun, closed, committed, edited, undone};
 ghost use Rattle.sk_leases.specs.Slots.{last_slot, with_slot};
 
 use crate::Memory;
@@ -17,10 +17,10 @@ pub struct Slots {
 }
 
 impl Model for Slots {
-    ghost use Rattle.sk_undo.specs.Steps.{Steps};
+    ghost use Rattle.sk_undo.specs.Versions.{Versions};
     ghost use Rattle.sk_leases.specs.Slots.{Slots as SlotsSeen};
 
-    ghost Value = { Steps SlotsSeen };
+    ghost Value = { Versions SlotsSeen };
 
     ghost view = { λ s. s.slots.list };
 }
@@ -37,21 +37,21 @@ impl Slots {
 
     /// The last slot of a loop. Logarithmic.
     pub fn last(&self, name: &Word) -> Option<u64>
-        ensures { result ≡ last_slot name.now self.now.stands }
+        ensures { result ≡ last_slot name.now self.now.current }
     {
         self.slots.get(name).copied()
     }
 
     /// How many loops have a last slot.
     pub fn len(&self) -> usize
-        ensures { result ≡ length self.now.stands }
+        ensures { result ≡ length self.now.current }
     {
         self.slots.len()
     }
 
     /// This is the last slot of the loop now.
     pub fn mark(&mut self, name: Word, slot: u64) -> Result<(), Memory>
-        ensures ok { OnOk result (self.new ≡ edited (with_slot name slot self.old.stands) self.old) }
+        ensures ok { OnOk result (self.new ≡ edited (with_slot name slot self.old.current) self.old) }
         ensures err { OnErr result (self.new ≡ self.old) }
     {
         self.slots.reserve(1)?;
@@ -60,21 +60,21 @@ impl Slots {
     }
 
     pub fn begin(&mut self)
-        requires { self.old.stood ≡ None }
+        requires { self.old.saved ≡ None }
         ensures { self.new ≡ begun self.old }
     {
         self.slots.begin();
     }
 
     pub fn undo(&mut self)
-        requires { IsSome self.old.stood }
+        requires { IsSome self.old.saved }
         ensures { self.new ≡ undone self.old }
     {
         self.slots.undo();
     }
 
     pub fn commit(&mut self)
-        requires { IsSome self.old.stood }
+        requires { IsSome self.old.saved }
         ensures { self.new ≡ committed self.old }
     {
         self.slots.commit();

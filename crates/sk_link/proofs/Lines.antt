@@ -11,8 +11,8 @@ use Rattle.std.specs.Fmt.{decimal, signed_decimal}
 use Rattle.sk_resp.specs.Reply.{wire}
 use Rattle.sk_resp.specs.ReplyStream.{IsFlat, IsNested, IsReplyText, IsReplyPart, ReadsReplies, IsUnreadable, simple_text, error_text, int_text, bulk_text, null_text, null_array_text}
 use Rattle.sk_resp.specs.declared.reply.Reply.{Reply}
-use Rattle.sk_link.specs.Fault.{IsNoReply}
-use Rattle.sk_link.specs.Line.{IsLine, IsStuck}
+use Rattle.sk_link.specs.Fault.{IsNoReply, IsStuck}
+use Rattle.sk_link.specs.Line.{IsLine}
 
 -- ## Texts end in LF
 

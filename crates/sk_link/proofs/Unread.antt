@@ -1,14 +1,14 @@
 -- What is unread stays so while it is read into the buffer.
-use Rattle.std.proofs.Common.{◌≡◌, ◌++◌, ◌+◌, ◌-◌, ◌^◌, ◌<◌, ◌≤◌, ◌⊎◌, inl, inr, ℕ, [], Option, Some, None, length, take, drop, refl, sym, ap, subst, ◌∙◌, append_assoc, append-nil, length-append, arith}
+use Rattle.std.proofs.Common.{◌≡◌, ◌++◌, ◌+◌, ◌-◌, ◌^◌, ◌<◌, ◌≤◌, ◌⊎◌, inl, inr, ℕ, [], false, Option, Some, None, length, take, drop, refl, sym, ap, subst, ◌∙◌, append_assoc, length-append, arith}
 use Rattle.std.proofs.lemmas.List.{take-append-le, take-take, take-append-drop, take_rest, take_all}
-use Rattle.std.proofs.lemmas.Bool.{cases_order}
 use Rattle.std.proofs.Math.Seq.{take-append-add, take-add}
 use Rattle.std.specs.Prelude.{IfSome, IfNone, codes}
 use Rattle.sk_base.specs.Outside.{Gives}
 use Rattle.sk_resp.specs.Spelling.{Bytes, line}
 use Rattle.sk_resp.specs.ReplyStream.{IsReplyPart, null_text}
-use Rattle.sk_link.specs.Fault.{IsNoReply}
-use Rattle.sk_link.specs.Line.{IsStuck}
+use Rattle.sk_link.specs.Fault.{IsCause, IsNoReply, IsStuck}
+use Rattle.sk_link.specs.declared.link.LinkFault.{LinkFault}
+use Rattle.sk_link.specs.declared.link.LinkFault.TheVariants.{Unreadable}
 use Rattle.sk_link.specs.Wire.{unread_of}
 
 pub read_same : (old now piece : Bytes) (before after : Option Bytes) → now ≡ old ++ piece → Gives before piece after → unread_of now after ≡ unread_of old before
@@ -21,15 +21,17 @@ pub reply_leaves : (buffer text rest : Bytes) (left : Option Bytes) → buffer �
 reply_leaves buffer text rest None is = refl
 reply_leaves buffer text rest (Some left) is = (rest ++ left, ap (λ t. t ++ left) is ∙ append_assoc text rest left, refl)
 
--- No reply stands in front of what is unread, where none does whatever follows the buffer.
-pub stuck_unread : (buffer : Bytes) (left : Option Bytes) → IsStuck buffer → IfSome (unread_of buffer left) (λ bytes. IsNoReply bytes)
-stuck_unread buffer None stuck = tt
-stuck_unread buffer (Some left) stuck = stuck left
+-- No reply can stand in front of what was read, whatever the source has left.
+pub stuck_cause : (before now : ℕ) (buffer kept : Bytes) (left : Option Bytes) → IsStuck buffer → kept ≡ take 64 buffer →
+    IsCause before now false (unread_of buffer left) (Unreadable kept)
+stuck_cause before now buffer kept None stuck is = tt
+stuck_cause before now buffer kept (Some left) stuck is = record { read = buffer; left = left; unread_is = refl; no_reply = inl stuck; kept_is = is }
 
--- Nor where the input has ended.
-pub ended_unread : (buffer : Bytes) (left : Option Bytes) → IsNoReply buffer → IfSome left (λ bytes. bytes ≡ []) → IfSome (unread_of buffer left) (λ bytes. IsNoReply bytes)
-ended_unread buffer None none end = tt
-ended_unread buffer (Some left) none end = subst (λ t. IsNoReply t) (sym (ap (λ t. buffer ++ t) end ∙ append-nil buffer)) none
+-- Nor does one where the input has ended.
+pub ended_cause : (before now : ℕ) (buffer kept : Bytes) (left : Option Bytes) → IsNoReply buffer → IfSome left (λ bytes. bytes ≡ []) → kept ≡ take 64 buffer →
+    IsCause before now false (unread_of buffer left) (Unreadable kept)
+ended_cause before now buffer kept None none end is = tt
+ended_cause before now buffer kept (Some left) none end is = record { read = buffer; left = left; unread_is = refl; no_reply = inr (end, none); kept_is = is }
 
 -- What a read wrote behind the bytes of a buffer, of which the rest is cut off.
 pub written : (old room piece more behind now : Bytes) (len n most : ℕ) → now ≡ take (len + n) (take most ((take len room ++ (piece ++ more)) ++ behind)) →
@@ -98,19 +100,6 @@ nothing_part = record {
 
 pub short_part : (part : Bytes) → IsReplyPart part → length part < 2 ^ 32
 short_part part p = omega (arith, p.some, p.whole.short, length-append part p.more)
-
-enough : (buffer : Bytes) → (64 ≤ length buffer) ⊎ (length buffer < 64)
-enough buffer = elim (cases_order (length buffer) 64) [ inl same ↦ inl (omega (arith, same)) | inr o ↦ elim o [ inl below ↦ inr below | inr above ↦ inl (omega (arith, above)) ] ]
-
-shown_by : (buffer left : Bytes) → (length buffer < 64 → left ≡ []) → (64 ≤ length buffer) ⊎ (length buffer < 64) → take 64 buffer ≡ take 64 (buffer ++ left)
-shown_by buffer left end (inl long) = sym (take-append-le 64 buffer left long)
-shown_by buffer left end (inr below) = ap (λ t. take 64 t) (sym (ap (λ t. buffer ++ t) (end below) ∙ append-nil buffer))
-
--- The first bytes are those of what is unread, where the buffer has them all or the input has ended.
-pub shown_front : (buffer kept : Bytes) (left : Option Bytes) → IfSome (unread_of buffer left) (λ bytes. IsNoReply bytes) → IfSome left (λ bytes. length buffer < 64 → bytes ≡ []) →
-    kept ≡ take 64 buffer → IfSome (unread_of buffer left) (λ bytes. IsNoReply bytes × (kept ≡ take 64 bytes))
-shown_front buffer kept None none end is = tt
-shown_front buffer kept (Some left) none end is = (none, is ∙ shown_by buffer left end (enough buffer))
 
 -- A read that gave nothing left the buffer as it was.
 pub nothing_read : (old now : Bytes) (n : ℕ) → n ≡ 0 → length now ≡ length old + n → take (length old) now ≡ old → now ≡ old

@@ -1,6 +1,7 @@
 -- Which replies are answers of a kind, and what it is to ask for one.
 use Rattle.std.specs.Prelude.{◌≡◌, Bool, true, false, List, [], ◌∷◌, codes, bytes_eq, is_some, Result, Ok, Err}
 use Rattle.sk_base.specs.Name.{is_name}
+use Rattle.sk_base.specs.declared.limits.TheConstants.{LONGEST_ID}
 use Rattle.sk_resp.specs.Spelling.{Bytes}
 use Rattle.sk_resp.specs.declared.reply.Reply.{Reply}
 use Rattle.sk_resp.specs.declared.reply.Reply.TheVariants as reply
@@ -39,7 +40,7 @@ is_popped r = false
 
 -- `+OK`, or a name of at most 64 bytes
 abbrev pub is_unique : Reply → Bool
-is_unique (reply.Bulk bytes) = is_name 64 bytes
+is_unique (reply.Bulk bytes) = is_name LONGEST_ID bytes
 is_unique r = is_okay r
 
 -- The reply is of this kind.

@@ -1,8 +1,9 @@
 -- What the commands answer that move or bury rows: an array of two numbers, how many were moved and how many were buried, and of two arrays, the
 -- callbacks that fired and the texts that were trimmed. The elements of an array are seen as their texts.
-use Rattle.std.specs.Prelude.{ℕ, ℤ, pos, negsuc, true, false, ◌-◌, ◌^◌, Bool, ◌&&◌, ◌==◌, List, [], ◌∷◌, Option, Some, None, length, take, drop, get_or, bytes_eq, nat_le, option_map, option_and_then, if◌then◌else◌}
+use Rattle.std.specs.Prelude.{ℕ, ℤ, pos, negsuc, true, false, ◌-◌, Bool, ◌&&◌, ◌==◌, List, [], ◌∷◌, Option, Some, None, length, take, drop, get_or, bytes_eq, nat_le, option_map, option_and_then, if◌then◌else◌}
 use Rattle.std.specs.Fmt.{decimal}
 use Rattle.std.specs.Str.Parse.{digits_value}
+use Rattle.sk_base.specs.declared.limits.TheConstants.{MOST_REPORTED}
 use Rattle.sk_resp.specs.Spelling.{Bytes, line, colon, star}
 use Rattle.sk_resp.specs.declared.reply.Reply.{Reply}
 use Rattle.sk_resp.specs.declared.reply.Reply.TheVariants as reply
@@ -14,11 +15,11 @@ digits_of text = take (length text - 3) (drop 1 text)
 
 -- the number from 0 to 2^62 that a text is
 abbrev pub count_of : Bytes → Option ℕ
-count_of text = let n = digits_value 10 (digits_of text) in if nat_le n (2 ^ 62) && bytes_eq text (line (colon ∷ decimal n)) then Some n else None
+count_of text = let n = digits_value 10 (digits_of text) in if nat_le n MOST_REPORTED && bytes_eq text (line (colon ∷ decimal n)) then Some n else None
 
 -- the number that an integer is, from 0 to 2^62
 abbrev pub as_count : ℤ → Option ℕ
-as_count (pos n) = if nat_le n (2 ^ 62) then Some n else None
+as_count (pos n) = if nat_le n MOST_REPORTED then Some n else None
 as_count (negsuc n) = None
 
 -- an array, or the null array

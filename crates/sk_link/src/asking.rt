@@ -6,6 +6,7 @@ ghost use Rattle.sk_base.specs.Name.{is_name as name_test};
 
 use crate::{Link, LinkFault, Report};
 use sk_base::is_name;
+use sk_base::limits::LONGEST_ID;
 use sk_resp::{Reply, Say, Words};
 use std::alloc::Global;
 
@@ -47,9 +48,9 @@ fn is_okay(reply: &Reply) -> bool
 
 // A name of at most 64 bytes, as a jid is.
 fn is_jid(bytes: &[u8]) -> bool
-    ensures { result ≡ name_test 64 bytes.now }
+    ensures { result ≡ name_test LONGEST_ID bytes.now }
 {
-    is_name(bytes, 64)
+    is_name(bytes, LONGEST_ID)
 }
 
 /// The reply is of this kind.

@@ -14,7 +14,8 @@ use std::alloc::{AllocFailed, Global};
 pub enum LinkFault {
     /// The connection failed.
     Failed,
-    /// The bytes behind the last whole reply can't go on as a reply, or the input ends before one is whole. It keeps the first 64 of these bytes.
+    /// The bytes behind the last whole reply can't go on as a reply, or the input ends before one is whole. It keeps the first 64 of those that were
+    /// read by then; nothing is waited for behind them.
     Unreadable(Word),
     /// An earlier call on this link had a fault.
     Ended,

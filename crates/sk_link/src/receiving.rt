@@ -1,25 +1,20 @@
 // One reply from a source. What is read goes into a buffer, and leaves it once its reply is whole, so that what is unread is what the buffer holds and
 // what the source has left. The reader is given the buffer line by line, since a reply's text ends in LF: so it never reads past the end of a reply.
-ghost use Rattle.std.specs.Prelude.{◌≡◌, ◌≢◌, ◌<◌, ◌≤◌, ◌+◌, ◌-◌, ◌++◌, ℕ, List, [], false, Some, None, Ok, IfOk, IfErr, IfNone, IfSome, OnOk, OnErr, length, take, drop};
+ghost use Rattle.std.specs.Prelude.{◌≡◌, ◌≢◌, ◌<◌, ◌≤◌, ◌+◌, ◌-◌, ◌++◌, ℕ, List, [], false, Option, Some, None, Ok, IfOk, IfErr, IfNone, IfSome, OnOk, OnErr, length, take, drop};
 ghost use Rattle.sk_base.specs.Outside.{Gives};
 ghost use Rattle.sk_resp.specs.Spelling.{Bytes, IsPart};
 ghost use Rattle.sk_resp.specs.Reply.{wire};
 ghost use Rattle.sk_resp.specs.ReplyStream.{IsReplyPart, IsReplyText};
-ghost use Rattle.sk_link.specs.Fault.{IsCause, IsIoCause, IsNoReply};
-ghost use Rattle.sk_link.specs.Line.{IsLine, IsStuck};
+ghost use Rattle.sk_link.specs.Fault.{IsCause, IsIoCause, IsNoReply, IsStuck};
+ghost use Rattle.sk_link.specs.Line.{IsLine};
 ghost use Rattle.sk_link.specs.Wire.{unread_of};
 
 use crate::{LinkFault, Memory};
 use memchr::memchr;
+use sk_base::limits::{CHUNK, LONGEST_SHOWN};
 use sk_base::{Failed, Source};
 use sk_resp::{Reply, ReplyFault, ReplyFeeder, Word, no_reply_begins_another};
 use std::alloc::Global;
-
-/// How many bytes a read asks for.
-const CHUNK: usize = 4096;
-
-/// How many bytes an unreadable stream is told by.
-const SHOWN: usize = 64;
 
 // Makes room for a read behind the bytes.
 fn grow(buffer: &mut Vec<u8>) -> Result<(), Memory>
@@ -163,71 +158,39 @@ fn take_reply(
     }
 }
 
-// Reads on until the buffer has the bytes by which an unreadable stream is told, or the input ends.
-fn fill<S: Source>(source: &mut S, buffer: &mut Vec<u8>) -> Result<(), LinkFault>
-    ensures same { unread_of buffer.new.items (S.left source.new) ≡ unread_of buffer.old.items (S.left source.old) }
-    ensures shown { OnOk result (IfSome (S.left source.new) (λ left. length buffer.new.items < SHOWN → left ≡ [])) }
-    ensures beside { S.beside_read source.new ≡ S.beside_read source.old }
-    ensures later { S.read_faults source.old ≤ S.read_faults source.new }
-    ensures cause { IfErr result (IsIoCause (S.read_faults source.old) (S.read_faults source.new)) }
-{
-    while buffer.len() < SHOWN {
-        let more = match read_more(source, buffer) {
-            Ok(more) => more,
-            Err(fault) => return Err(fault),
-        };
-        if more == 0 {
-            return Ok(());
-        }
-    }
-    Ok(())
-}
-
 // The first 64 bytes.
 fn shown(alloc: Global, bytes: &[u8]) -> Result<Word, Memory>
-    ensures { IfOk result (λ word. word ≡ take SHOWN bytes.now) }
+    ensures { IfOk result (λ word. word ≡ take LONGEST_SHOWN bytes.now) }
 {
-    let n = SHOWN.min(bytes.len());
+    let n = LONGEST_SHOWN.min(bytes.len());
     Ok(Word::new(bytes[..n].to_vec(alloc)?))
 }
 
-// The fault of a stream with which no reply can go on, or which ends before one is whole.
-fn unreadable<S: Source>(alloc: Global, source: &mut S, buffer: &mut Vec<u8>) -> LinkFault
-    requires { IfSome (unread_of buffer.old.items (S.left source.old)) (λ bytes. IsNoReply bytes) }
-    ensures same { unread_of buffer.new.items (S.left source.new) ≡ unread_of buffer.old.items (S.left source.old) }
-    ensures beside { S.beside_read source.new ≡ S.beside_read source.old }
-    ensures later { S.read_faults source.old ≤ S.read_faults source.new }
-    ensures cause { IsCause (S.read_faults source.old) (S.read_faults source.new) false (unread_of buffer.new.items (S.left source.new)) result }
+// The fault of a stream of which these bytes were read, where they can't go on as a reply, or are all that there is and no whole one.
+fn unreadable(alloc: Global, bytes: &[u8]) -> LinkFault
+    ensures stuck { IsStuck bytes.now → (before now : ℕ) (left : Option Bytes) → IsCause before now false (unread_of bytes.now left) result }
+    ensures ended { IsNoReply bytes.now → (before now : ℕ) (left : Option Bytes) → IfSome left (λ rest. rest ≡ [])
+        → IsCause before now false (unread_of bytes.now left) result }
 {
-    match fill(source, buffer) {
-        Ok(()) => match shown(alloc, buffer) {
-            Ok(bytes) => LinkFault::Unreadable(bytes),
-            Err(_) => LinkFault::Memory,
-        },
-        Err(fault) => fault,
+    match shown(alloc, bytes) {
+        Ok(kept) => LinkFault::Unreadable(kept),
+        Err(_) => LinkFault::Memory,
     }
 }
 
-// The fault of a link whose reader has stopped.
-fn stopped<S: Source>(
-    alloc: Global,
-    source: &mut S,
-    buffer: &mut Vec<u8>,
-    fault: ReplyFault,
-) -> LinkFault
-    requires { fault ≢ ReplyFault.Memory → IfSome (unread_of buffer.old.items (S.left source.old)) (λ bytes. IsNoReply bytes) }
-    ensures same { unread_of buffer.new.items (S.left source.new) ≡ unread_of buffer.old.items (S.left source.old) }
-    ensures beside { S.beside_read source.new ≡ S.beside_read source.old }
-    ensures later { S.read_faults source.old ≤ S.read_faults source.new }
-    ensures cause { IsCause (S.read_faults source.old) (S.read_faults source.new) false (unread_of buffer.new.items (S.left source.new)) result }
+// The fault of a link whose reader has stopped in these bytes.
+fn stopped(alloc: Global, bytes: &[u8], fault: ReplyFault) -> LinkFault
+    requires { fault ≢ ReplyFault.Memory → IsStuck bytes.now }
+    ensures { (before now : ℕ) (left : Option Bytes) → IsCause before now false (unread_of bytes.now left) result }
 {
     match fault {
-        ReplyFault::Unreadable => unreadable(alloc, source, buffer),
+        ReplyFault::Unreadable => unreadable(alloc, bytes),
         ReplyFault::Memory => LinkFault::Memory,
     }
 }
 
-/// Reads one reply, whole, and leaves in the buffer what was read behind it. Nothing is lost at a fault.
+/// Reads one reply, whole, and leaves in the buffer what was read behind it. Nothing is lost at a fault, and nothing is waited for behind bytes that
+/// can't go on as a reply.
 pub fn receive<S: Source>(
     alloc: Global,
     source: &mut S,
@@ -248,7 +211,7 @@ pub fn receive<S: Source>(
     loop {
         let found = match take_reply(alloc, &mut feeder, buffer, at) {
             Ok(found) => found,
-            Err(fault) => return Err(stopped(alloc, source, buffer, fault)),
+            Err(fault) => return Err(stopped(alloc, buffer, fault)),
         };
         match found {
             None => at = buffer.len(),
@@ -259,7 +222,7 @@ pub fn receive<S: Source>(
             Err(fault) => return Err(fault),
         };
         if more == 0 {
-            return Err(unreadable(alloc, source, buffer));
+            return Err(unreadable(alloc, buffer));
         }
     }
 }

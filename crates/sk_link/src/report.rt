@@ -4,10 +4,8 @@ ghost use Rattle.sk_resp.specs.Reply.{wire};
 ghost use Rattle.sk_resp.specs.Number.{IsI64};
 ghost use Rattle.sk_link.specs.Report.{as_count as count_value, count_of, int_of as int_in, is_array_reply, report_in, report_of, with_counts};
 
+use sk_base::limits::MOST_REPORTED;
 use sk_resp::Reply;
-
-/// The greatest number of a report.
-const MOST: i64 = 1 << 62;
 
 /// The numbers of a report: how many rows a command moved to queues, and how many it buried, each from 0 to 2^62.
 #[derive(Clone, Copy, Debug, PartialEq, Eq)]
@@ -21,7 +19,7 @@ fn as_count(n: i64) -> Option<u64>
     ensures count { result ≡ count_value n }
     ensures range { IsI64 n }
 {
-    if n < 0 || n > MOST {
+    if n < 0 || n > MOST_REPORTED as i64 {
         return None;
     }
     Some(n as u64)

@@ -16,8 +16,8 @@ use sk_resp::{Reply, Words};
 use std::alloc::Global;
 use std::marker::Model;
 
-/// A link over a connection ([`Conn`](sk_base::Conn)). Where what comes is no reply, it reads on until it has 64 bytes or the input ends, and tells
-/// these.
+/// A link over a connection ([`Conn`](sk_base::Conn)). Where what comes is no reply, it says so as soon as that is certain, and tells the first 64 bytes
+/// of what it had read by then.
 #[derive(Drop)]
 pub struct WireLink<C: Duplex> {
     conn: C,

@@ -9,17 +9,17 @@ use Rattle.sk_cmd.specs.declared.command.ScriptCommand.{ScriptCommand}
 use Rattle.sk_cmd.specs.declared.command.ScriptCommand.TheVariants as script
 use Rattle.sk_value.specs.declared.action.Action.{Action}
 use Rattle.sk_value.specs.declared.action.Action.TheVariants as action
-use Rattle.sk_value.specs.declared.edit.Edit.{Edit}
-use Rattle.sk_value.specs.declared.edit.Edit.TheVariants as edit
+use Rattle.sk_value.specs.declared.write_op.WriteOp.{WriteOp}
+use Rattle.sk_value.specs.declared.write_op.WriteOp.TheVariants as edit
 use Rattle.sk_value.specs.Action.{action_of}
 use Rattle.sk_key.specs.declared.key_class.KeyClass.{KeyClass}
 use Rattle.sk_key.specs.declared.key_class.KeyClass.TheVariants as class
 use Rattle.sk_key.specs.Class.{class_of}
-use Rattle.sk_places.specs.Lives.{one_if}
+use Rattle.sk_places.specs.LiveJobs.{one_if}
 use Rattle.sk_model.specs.World.{World}
 use Rattle.sk_model.specs.Change.{perform}
 use Rattle.sk_model.specs.Outcome.{Outcome}
-use Rattle.sk_model.specs.Step.{Steps}
+use Rattle.sk_model.specs.Step.{MayComeTo}
 use Rattle.sk_model.specs.Run.{is_ok}
 
 -- ## What a reply tells
@@ -42,13 +42,13 @@ where_array other count = 0
 -- ## Redis's commands
 
 -- LPUSH and RPUSH push each text; ZADD tells how many texts are new.
-abbrev pub acked_by_edit : KeyClass → Edit → Reply → ℕ
+abbrev pub acked_by_edit : KeyClass → WriteOp → Reply → ℕ
 acked_by_edit class.Queue (edit.Push side texts) answer = where_number answer (length texts)
 acked_by_edit (class.Jobs Schedule) (edit.Zadd pairs) answer = number_in answer
 acked_by_edit other e answer = 0
 
 abbrev pub acked_by : Action → Reply → ℕ
-acked_by (action.Edit key e) answer = acked_by_edit (class_of key) e answer
+acked_by (action.WriteOp key e) answer = acked_by_edit (class_of key) e answer
 acked_by other answer = 0
 
 -- ## The store's own commands
@@ -80,4 +80,4 @@ pub record Acknowledges (c : Command) (answer : Reply) (before after : ℕ) : Ty
 
 -- Each step pushes as many rows from outside as its reply acknowledges.
 abbrev pub RepliesAcknowledge : Type 0
-RepliesAcknowledge = (w : World) (seat now : ℕ) (c : Command) (o : Outcome) → Steps w seat now c o → Acknowledges c o.reply w.tally.outside (perform w o.changes).tally.outside
+RepliesAcknowledge = (w : World) (seat now : ℕ) (c : Command) (o : Outcome) → MayComeTo w seat now c o → Acknowledges c o.reply w.tally.outside (perform w o.changes).tally.outside

@@ -3,6 +3,7 @@ use Rattle.std.specs.Prelude.{List, [], ◌∷◌, ◌++◌, Option, Some, None,
 use Rattle.std.specs.List.{list_all, filter_map}
 use Rattle.std.specs.Option.{is_some}
 use Rattle.std.specs.Str.{bytes_eq}
+use Rattle.sk_base.specs.declared.limits.TheConstants.{LONGEST_ID}
 use Rattle.sk_resp.specs.Spelling.{Bytes}
 use Rattle.sk_resp.specs.Reply.{wire}
 use Rattle.sk_resp.specs.declared.reply.Reply.TheVariants as reply
@@ -27,7 +28,7 @@ use Rattle.sk_model.specs.World.{World}
 use Rattle.sk_model.specs.Change.{Change, Makes, Joins}
 use Rattle.sk_model.specs.Outcome.{Outcome, tells, refuses}
 use Rattle.sk_model.specs.Room.{is_too_much}
-use Rattle.sk_model.specs.Told.{push_job, fire_all, fired}
+use Rattle.sk_model.specs.Notify.{push_job, fire_all, fired}
 
 -- ## The words
 
@@ -99,7 +100,7 @@ make batch texts =
 
 abbrev pub batch_push : World → Batch → List Bytes → Outcome
 batch_push w batch texts =
-    cond (not (is_name 64 batch.bid)) (refuses refusal.NoBatch)
+    cond (not (is_name LONGEST_ID batch.bid)) (refuses refusal.NoBatch)
     (unless (bid_fault batch.bid batch.parent w.batches None)
     (cond (not (are_callbacks batch.callbacks && all_may_join batch.bid texts)) (refuses refusal.BadPayload)
     (unless (jids_fault batch.bid (jids_of texts) w.batches (breaks (is_full w.batches) fault.Full None))

@@ -21,7 +21,7 @@ use Rattle.sk_seats.specs.declared.phase.Phase.TheVariants.{Plain}
 use Rattle.sk_seats.specs.Phases.{works_of}
 use Rattle.sk_seats.specs.Works.{is_buried_as, is_held_as}
 use Rattle.sk_model.specs.World.{World, first, phase_of}
-use Rattle.sk_model.specs.Change.{Add, Carry, Take, Trim, PutBack, Free, Change, Moves, Passes, Locks, Unlocks, Elects, Marks, Tells, changed}
+use Rattle.sk_model.specs.Change.{Add, Carry, Take, Trim, PutBack, Free, Change, Moves, Passes, Locks, Unlocks, Elects, TakesSlot, Notifies, changed}
 use Rattle.sk_leases.specs.Leased.{is_led_by_another, last, leads}
 use Rattle.sk_model.specs.Periodic.{is_above, is_in_time, is_process}
 use Rattle.sk_model.specs.Reading.{Words}
@@ -151,11 +151,11 @@ HasCause w event buried due (Moves (Trim row)) = (is_dead_set row.place ≡ true
 HasCause w event buried due (Moves (Free seat text)) = IsRelease w seat text event
 HasCause w event buried due (Moves (PutBack row)) = IsPutBack w row.text event
 HasCause w event buried due (Moves (Add row end Inner)) = due ≡ Moves (Add row end Inner) ∷ []
-HasCause w event buried due (Tells Returned bid jid) = IsReturn w bid jid event
+HasCause w event buried due (Notifies Returned bid jid) = IsReturn w bid jid event
 HasCause w event buried due (Locks digest_of jid seconds) = IsLocking digest_of jid seconds event
 HasCause w event buried due (Unlocks digest_of jid) = IsUnlocking w digest_of jid event
 HasCause w event buried due (Elects ident) = IsLeading w ident event
-HasCause w event buried due (Marks loop slot text) = IsSlot w loop slot text event
+HasCause w event buried due (TakesSlot loop slot text) = IsSlot w loop slot text event
 HasCause w event buried due other = Unit {0}
 
 -- v: the world that the changes before these left

@@ -24,7 +24,7 @@ use Rattle.sk_seats.specs.declared.work.End.TheVariants as end
 use Rattle.sk_batch.specs.Batched.{Batched, has_bid}
 use Rattle.sk_batch.specs.Events.{joined, marked, unfired}
 use Rattle.sk_batch.specs.Fires.{retagged, with_kind}
-use Rattle.sk_batch.specs.Told.{mark_of}
+use Rattle.sk_batch.specs.Notify.{mark_of}
 use Rattle.sk_batch.specs.declared.batch.Batch.{Batch}
 use Rattle.sk_batch.specs.declared.event.Event.{Event}
 use Rattle.sk_batch.specs.declared.firing.Kind.{Kind}
@@ -81,13 +81,13 @@ pub data Change : Type 0 where
   -- a process leads for half a minute from now on
   Elects : (ident : Bytes) → Change
   -- This is the last slot of a periodic job now. The text is pushed next.
-  Marks : (loop : Bytes) → (slot : ℕ) → (text : Bytes) → Change
+  TakesSlot : (loop : Bytes) → (slot : ℕ) → (text : Bytes) → Change
   -- a batch is made, with its first jobs
   Makes : (batch : Batch) → (jids : List Bytes) → Change
   -- a batch gets more jobs
   Joins : (bid : Bytes) → (jids : List Bytes) → Change
   -- a batch is told what has come of a job
-  Tells : (event : Event) → (bid jid : Bytes) → Change
+  Notifies : (event : Event) → (bid jid : Bytes) → Change
 
 -- how a worker that is done with a job ends it
 abbrev pub ending_of : End → Ending
@@ -148,10 +148,10 @@ changed w (Forgets jid) = record w { leases = forgotten jid w.leases }
 changed w (Locks digest jid seconds) = record w { leases = locked digest jid seconds w.moment w.leases }
 changed w (Unlocks digest jid) = record w { leases = unlocked digest jid w.leases }
 changed w (Elects ident) = record w { leases = led ident w.moment w.leases }
-changed w (Marks loop slot text) = record w { leases = slotted loop slot w.leases }
+changed w (TakesSlot loop slot text) = record w { leases = slotted loop slot w.leases }
 changed w (Makes batch jids) = record w { batches = joined batch.bid jids (with_batch batch w.batches) }
 changed w (Joins bid jids) = record w { batches = joined bid jids w.batches }
-changed w (Tells event bid jid) = record w { batches = marked (mark_of event) bid jid w.batches }
+changed w (Notifies event bid jid) = record w { batches = marked (mark_of event) bid jid w.batches }
 
 -- the world after changes, in order
 abbrev pub perform : World → List Change → World

@@ -7,7 +7,7 @@ use Rattle.sk_batch.specs.Open.{is_settled}
 use Rattle.sk_batch.specs.declared.batch.Fired.{Fired}
 use Rattle.sk_batch.specs.declared.firing.Kind.{Kind}
 use Rattle.sk_batch.specs.declared.firing.Kind.TheVariants.{Complete, Success, Death}
-use Rattle.sk_places.specs.Lives.{one_if}
+use Rattle.sk_places.specs.LiveJobs.{one_if}
 use Rattle.sk_model.specs.Room.{most_pushes}
 
 -- ## Batches in order

@@ -8,7 +8,7 @@ use Rattle.sk_model.specs.World.{World}
 use Rattle.sk_model.specs.Change.{perform}
 use Rattle.sk_model.specs.Outcome.{Outcome, tells}
 use Rattle.sk_model.specs.Reading.{Words}
-use Rattle.sk_model.specs.Step.{Steps, cut}
+use Rattle.sk_model.specs.Step.{MayComeTo, cut}
 
 pub data Event : Type 0 where
   -- a seat hands the store the words of a command, at a moment in milliseconds since 1970
@@ -17,13 +17,13 @@ pub data Event : Type 0 where
   Cut : (seat : ℕ) → Event
 
 -- What words that were read so come to. A command may starve. A fault is told, want of memory to read the words among them, and nothing changes.
-abbrev pub Gives : World → ℕ → ℕ → Read Command → Outcome → Type 0
-Gives w seat now (Ok c) o = Steps w seat now c o
-Gives w seat now (Err fault) o = o ≡ tells (fault_say fault)
+abbrev pub ResultsIn : World → ℕ → ℕ → Read Command → Outcome → Type 0
+ResultsIn w seat now (Ok c) o = MayComeTo w seat now c o
+ResultsIn w seat now (Err fault) o = o ≡ tells (fault_say fault)
 
 -- In this world the event comes to this outcome. A cut never starves.
 abbrev pub Happens : World → Event → Outcome → Type 0
-Happens w (Ask seat now words) o = (r : Read Command) × IsRead words r × Gives w seat now r o
+Happens w (Ask seat now words) o = (r : Read Command) × IsRead words r × ResultsIn w seat now r o
 Happens w (Cut seat) o = o ≡ cut seat
 
 -- an event, and what it came to
@@ -46,6 +46,6 @@ world_after w [] = w
 world_after w (step ∷ steps) = world_after (after w step) steps
 
 -- The steps are a run that leads from the old world to the new one.
-pub record Leads (old : World) (steps : List Step) (new : World) : Type 0 where
+pub record Reaches (old : World) (steps : List Step) (new : World) : Type 0 where
   pub run : Run old steps
   pub new_is : new ≡ world_after old steps

@@ -22,7 +22,7 @@ use Rattle.sk_seats.specs.declared.phase.Phase.{Phase}
 use Rattle.sk_seats.specs.declared.phase.Phase.TheVariants.{Plain, Joined}
 use Rattle.sk_seats.specs.Works.{is_done_as}
 use Rattle.sk_model.specs.World.{World, first, phase_of}
-use Rattle.sk_model.specs.Change.{Add, Take, Trim, Merge, PutBack, Free, Change, Moves, Passes, Marks, changed}
+use Rattle.sk_model.specs.Change.{Add, Take, Trim, Merge, PutBack, Free, Change, Moves, Passes, TakesSlot, changed}
 use Rattle.sk_payload.specs.Digest.{digest}
 use Rattle.sk_model.specs.Event.{Event, Ask, Cut, Run, Step, after}
 use Rattle.sk_model.specs.Outcome.{Outcome}
@@ -177,7 +177,7 @@ OneLeader = (limits : Limits) (steps : List Step) → Run (first limits) steps �
 
 -- the change gives the loop this slot
 abbrev pub is_mark : Bytes → ℕ → Change → Bool
-is_mark loop slot (Marks other number text) = bytes_eq other loop && (number == slot)
+is_mark loop slot (TakesSlot other number text) = bytes_eq other loop && (number == slot)
 is_mark loop slot other = false
 
 -- Each slot that a loop gets is above its last one. The leader of that moment sent it, and it was open.

@@ -7,7 +7,7 @@ pub mod Room
 pub mod Queues
 pub mod Deletes
 pub mod Sets
-pub mod Told
+pub mod Notify
 pub mod Jobs
 pub mod Batches
 pub mod Seats

@@ -19,7 +19,7 @@ use Rattle.sk_places.specs.declared.totals.Totals.{Totals}
 use Rattle.sk_places.specs.Totals.{accounted, pushes_in}
 use Rattle.sk_model.specs.World.{World, phase_of}
 use Rattle.sk_model.specs.Live.{stands, fresh, is_live}
-use Rattle.sk_model.specs.Change.{Add, Carry, Take, Trim, Merge, PutBack, Free, Change, Moves, Passes, Names, Unnames, Keeps, Turns, Beats, Counts, Recovers, Forgets, Locks, Unlocks, Elects, Marks, Fire, Makes, Joins, Tells, ending_of, changed}
+use Rattle.sk_model.specs.Change.{Add, Carry, Take, Trim, Merge, PutBack, Free, Change, Moves, Passes, Names, Unnames, Keeps, Turns, Beats, Counts, Recovers, Forgets, Locks, Unlocks, Elects, TakesSlot, Fire, Makes, Joins, Notifies, ending_of, changed}
 
 -- how many rows name the job
 abbrev pub rows_of : Bytes → World → ℕ
@@ -74,11 +74,11 @@ life_after w jid life (Forgets other) = life
 life_after w jid life (Locks digest other seconds) = life
 life_after w jid life (Unlocks digest other) = life
 life_after w jid life (Elects ident) = life
-life_after w jid life (Marks loop slot text) = life
+life_after w jid life (TakesSlot loop slot text) = life
 life_after w jid life (Moves (Fire bid kind)) = life
 life_after w jid life (Makes batch jids) = life
 life_after w jid life (Joins bid jids) = life
-life_after w jid life (Tells event bid other) = life
+life_after w jid life (Notifies event bid other) = life
 
 -- its life after changes, in order
 abbrev pub life_through : World → Bytes → Life → List Change → Life

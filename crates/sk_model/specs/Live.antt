@@ -1,7 +1,7 @@
 -- The jobs that are live, and those that stand.
 use Rattle.std.specs.Prelude.{List, Option, Bool, not, ◌&&◌}
 use Rattle.sk_resp.specs.Spelling.{Bytes}
-use Rattle.sk_places.specs.Lives.{Lived, is_among, born as born_among, count_job as count_among, ended}
+use Rattle.sk_places.specs.LiveJobs.{Lived, is_among, born as born_among, count_job as count_among, ended}
 use Rattle.sk_places.specs.declared.ending.Ending.{Ending}
 use Rattle.sk_places.specs.declared.totals.Totals.{Totals}
 use Rattle.sk_places.specs.Rows.{stands_in}

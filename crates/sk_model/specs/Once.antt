@@ -9,16 +9,16 @@ use Rattle.sk_places.specs.declared.row.Place.{Place}
 use Rattle.sk_places.specs.declared.row.Place.TheVariants.{Queue, Private, Set}
 use Rattle.sk_batch.specs.Batched.{Batched, BatchEntry, has_bid, is_there, is_member}
 use Rattle.sk_batch.specs.Fires.{callback}
-use Rattle.sk_batch.specs.Lines.{is_under}
+use Rattle.sk_batch.specs.Ancestors.{is_under}
 use Rattle.sk_batch.specs.Open.{is_reported, is_settled}
 use Rattle.sk_batch.specs.declared.firing.Kind.{Kind}
 use Rattle.sk_batch.specs.declared.firing.Kind.TheVariants.{Complete, Success, Death}
 use Rattle.sk_model.specs.declared.limits.Limits.{Limits}
 use Rattle.sk_model.specs.World.{World, first}
-use Rattle.sk_places.specs.Lives.{one_if}
-use Rattle.sk_model.specs.Change.{Carry, PutBack, Fire, Marks, Change, Moves, changed}
+use Rattle.sk_places.specs.LiveJobs.{one_if}
+use Rattle.sk_model.specs.Change.{Carry, PutBack, Fire, TakesSlot, Change, Moves, changed}
 use Rattle.sk_places.specs.declared.origin.Origin.TheVariants.{Inner}
-use Rattle.sk_model.specs.Told.{call, push_job}
+use Rattle.sk_model.specs.Notify.{push_callback, push_job}
 use Rattle.sk_model.specs.Event.{Run, Step, after}
 
 -- ## How often something is fired
@@ -139,8 +139,8 @@ called kind bid s = callback_of kind (filter (has_bid bid) s.batches)
 
 -- what is to follow a change: a firing's callback is pushed, and the job of a slot
 abbrev pub called_by : World → Change → List Change
-called_by w (Moves (Fire bid kind)) = call (called kind bid w.batches)
-called_by w (Marks loop slot text) = push_job Inner text
+called_by w (Moves (Fire bid kind)) = push_callback (called kind bid w.batches)
+called_by w (TakesSlot loop slot text) = push_job Inner text
 called_by w other = []
 
 -- these changes come first

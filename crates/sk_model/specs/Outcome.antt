@@ -31,6 +31,6 @@ reply_of (Ok r) = r
 reply_of (Err fault) = reply.Say (fault_say fault)
 
 -- The outcome came about: its reply was given, and its changes led from the old world to the new one.
-pub record Comes (old : World) (o : Outcome) (reply : Reply) (new : World) : Type 0 where
+pub record Realizes (old : World) (o : Outcome) (reply : Reply) (new : World) : Type 0 where
   pub reply_is : reply ≡ o.reply
   pub new_is : new ≡ perform old o.changes

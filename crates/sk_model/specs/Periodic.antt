@@ -1,6 +1,7 @@
 -- The leader and periodic jobs: SK.LEAD, SK.CRON (Sidekiq's wiki, "Ent Leader Election", "Ent Periodic Jobs").
 use Rattle.std.specs.Prelude.{ℕ, ◌+◌, [], ◌∷◌, Option, Some, None, Bool, true, not, ◌&&◌, cond, nat_le, nat_lt}
 use Rattle.std.specs.Option.{is_some}
+use Rattle.sk_base.specs.declared.limits.TheConstants.{LONGEST_NAME, MOST_LOOPS, SLOT_LIFE}
 use Rattle.sk_resp.specs.Spelling.{Bytes}
 use Rattle.sk_resp.specs.declared.reply.Reply.TheVariants as reply
 use Rattle.sk_resp.specs.declared.say.Say.TheVariants as say
@@ -12,14 +13,14 @@ use Rattle.sk_leases.specs.Leased.{is_alive, is_led_by_another, last, leads, loo
 use Rattle.sk_places.specs.declared.origin.Origin.TheVariants.{Inner}
 use Rattle.sk_model.specs.World.{World}
 use Rattle.sk_model.specs.Batches.{may_call}
-use Rattle.sk_model.specs.Change.{Elects, Marks}
+use Rattle.sk_model.specs.Change.{Elects, TakesSlot}
 use Rattle.sk_model.specs.Outcome.{Outcome, says, refuses}
 use Rattle.sk_model.specs.Room.{where_room}
-use Rattle.sk_model.specs.Told.{push_job}
+use Rattle.sk_model.specs.Notify.{push_job}
 
 -- a name whose heartbeat stands
 abbrev pub is_process : World → Bytes → Bool
-is_process w ident = is_name 255 ident && is_alive ident w.moment w.leases
+is_process w ident = is_name LONGEST_NAME ident && is_alive ident w.moment w.leases
 
 -- ## SK.LEAD
 
@@ -34,11 +35,11 @@ lead w ident = cond (is_process w ident) (lead_as w ident (is_led_by_another ide
 
 -- so many periodic jobs have a last slot at most
 abbrev pub most_loops : ℕ
-most_loops = 10000
+most_loops = MOST_LOOPS
 
 -- a slot is open for so long, in milliseconds
 abbrev pub slot_life : ℕ
-slot_life = 600000
+slot_life = SLOT_LIFE
 
 -- the slot is above the last one
 abbrev pub is_above : ℕ → Option ℕ → Bool
@@ -55,12 +56,12 @@ has_loop w loop = cond (is_some (last loop w.leases)) true (nat_lt (loops w.leas
 
 -- the slot is the loop's last one, and the text is pushed at the left end of its queue
 abbrev pub push_slot : World → Bytes → ℕ → Bytes → Outcome
-push_slot w loop slot text = where_room w (text ∷ []) (record { reply = reply.Say say.Ok; changes = Marks loop slot text ∷ push_job Inner text })
+push_slot w loop slot text = where_room w (text ∷ []) (record { reply = reply.Say say.Ok; changes = TakesSlot loop slot text ∷ push_job Inner text })
 
 abbrev pub cron : World → Bytes → Bytes → ℕ → Bytes → Outcome
 cron w ident loop slot text =
     cond (not (is_process w ident)) (refuses NoProcess)
-    (cond (not (may_call (head text) && is_name 255 loop)) (refuses BadPayload)
+    (cond (not (may_call (head text) && is_name LONGEST_NAME loop)) (refuses BadPayload)
     (cond (not (leads ident w.moment w.leases)) (refuses NotLeader)
     (cond (not (is_above slot (last loop w.leases))) (refuses SlotDone)
     (cond (not (is_in_time w slot)) (refuses SlotTime)

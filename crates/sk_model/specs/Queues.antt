@@ -1,6 +1,7 @@
 -- The commands that write on queues and on their names: LPUSH, RPUSH, LREM, LMOVE, and SADD on `queues` (Redis, "Lists", "SADD").
 use Rattle.std.specs.Prelude.{ℕ, ℤ, pos, zero, suc, ◌-◌, List, [], ◌∷◌, Option, Some, None, length, map, cond}
 use Rattle.std.specs.List.{list_all}
+use Rattle.sk_base.specs.declared.limits.TheConstants.{LONGEST_NAME}
 use Rattle.sk_resp.specs.Spelling.{Bytes}
 use Rattle.sk_resp.specs.declared.reply.Reply.TheVariants as reply
 use Rattle.sk_resp.specs.declared.refusal.Refusal.TheVariants.{ManagedKey}
@@ -58,6 +59,6 @@ move w from to out end = move_row (row_at_end out from w.rows) out to end
 
 -- the names are added, and the reply tells how many are new
 abbrev pub add_names : World → List Bytes → Outcome
-add_names w names = cond (list_all (is_name 255) names)
+add_names w names = cond (list_all (is_name LONGEST_NAME) names)
     (record { reply = counted (length (with_members names w.names) - length w.names); changes = map Names names })
     (refuses ManagedKey)

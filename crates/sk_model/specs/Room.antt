@@ -1,7 +1,8 @@
 -- How much the store takes.
-use Rattle.std.specs.Prelude.{ℕ, ◌+◌, ◌<◌, ◌≤◌, ◌^◌, List, [], ◌∷◌, length, map, Bool, false, ◌||◌, cond}
+use Rattle.std.specs.Prelude.{ℕ, ◌+◌, ◌<◌, ◌≤◌, List, [], ◌∷◌, length, map, Bool, false, ◌||◌, cond}
 use Rattle.std.specs.Prelude.{nat_lt}
 use Rattle.std.specs.List.{sum}
+use Rattle.sk_base.specs.declared.limits.TheConstants.{MOST_PUSHES}
 use Rattle.sk_resp.specs.Spelling.{Bytes}
 use Rattle.sk_resp.specs.declared.refusal.Refusal.TheVariants.{Full}
 use Rattle.sk_places.specs.Totals.{pushes_in}
@@ -18,7 +19,7 @@ texts_in w = map (λ row. row.text) w.rows
 
 -- no store takes more pushes than these, from its first moment on
 abbrev pub most_pushes : ℕ
-most_pushes = 2 ^ 62
+most_pushes = MOST_PUSHES
 
 -- clients may push so many more rows; none they always may
 abbrev pub HasRoom : ℕ → Totals → Type 0

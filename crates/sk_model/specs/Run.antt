@@ -13,7 +13,7 @@ use Rattle.sk_model.specs.declared.limits.Limits.{Limits}
 use Rattle.sk_model.specs.World.{World, first as first_world}
 use Rattle.sk_model.specs.Outcome.{Outcome}
 use Rattle.sk_model.specs.Event.{Event, Ask, Cut, Step, world_after, Run}
-use Rattle.sk_model.specs.Reading.{Words, Said, Refused, Sets, Sits, Cuts, Asks, IsSaid, is_own}
+use Rattle.sk_model.specs.Reading.{Words, PipeCommand, Refused, SetTime, ActAs, CutSeat, RunCommand, IsSaid, is_own}
 
 -- ## State and turn
 
@@ -51,12 +51,12 @@ abbrev pub happened : ℕ → ℕ → Event → Outcome → Bool → Turn
 happened seat now event o ends = record { reply = o.reply; steps = record { event = event; outcome = o } ∷ []; seat = seat; now = now; ends = ends }
 
 -- What a word of the pipe's own comes to. SK.CUT is an event.
-abbrev pub IsOwnTurn : ℕ → ℕ → Said → Turn → Type 0
+abbrev pub IsOwnTurn : ℕ → ℕ → PipeCommand → Turn → Type 0
 IsOwnTurn seat now (Refused say) t = t ≡ fixed seat now say
-IsOwnTurn seat now (Sets other) t = t ≡ fixed seat other say.Ok
-IsOwnTurn seat now (Sits other) t = t ≡ fixed other now say.Ok
-IsOwnTurn seat now (Cuts other) t = (o : Outcome) × (t ≡ happened seat now (Cut other) o false)
-IsOwnTurn seat now (Asks c) t = ⊥
+IsOwnTurn seat now (SetTime other) t = t ≡ fixed seat other say.Ok
+IsOwnTurn seat now (ActAs other) t = t ≡ fixed other now say.Ok
+IsOwnTurn seat now (CutSeat other) t = (o : Outcome) × (t ≡ happened seat now (Cut other) o false)
+IsOwnTurn seat now (RunCommand c) t = ⊥
 
 -- QUIT and SHUTDOWN
 abbrev pub quits : Command → Bool
@@ -77,7 +77,7 @@ abbrev pub IsAskTurn : ℕ → ℕ → Words → Turn → Type 0
 IsAskTurn seat now words t = (o : Outcome) × ((ends : Bool) × (t ≡ happened seat now (Ask seat now words) o ends) × ((ends ≡ true) ↔ Quits words o.reply))
 
 abbrev pub IsTurn : ℕ → ℕ → Words → Turn → Type 0
-IsTurn seat now words t = MatchBool (is_own words) ((said : Said) × IsSaid words said × IsOwnTurn seat now said t) (IsAskTurn seat now words t)
+IsTurn seat now words t = MatchBool (is_own words) ((said : PipeCommand) × IsSaid words said × IsOwnTurn seat now said t) (IsAskTurn seat now words t)
 
 -- From this seat and moment on, each command comes to its turn. Nothing follows one that ends the pipe.
 abbrev pub Schedule : ℕ → ℕ → List Words → List Turn → Type 0

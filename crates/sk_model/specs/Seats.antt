@@ -12,8 +12,8 @@ use Rattle.sk_cmd.specs.ReadOnly.{only_reads}
 use Rattle.sk_zset.specs.Pair.{Pair}
 use Rattle.sk_value.specs.declared.action.Action.{Action}
 use Rattle.sk_value.specs.declared.action.Action.TheVariants as action
-use Rattle.sk_value.specs.declared.edit.Edit.{Edit}
-use Rattle.sk_value.specs.declared.edit.Edit.TheVariants as edit
+use Rattle.sk_value.specs.declared.write_op.WriteOp.{WriteOp}
+use Rattle.sk_value.specs.declared.write_op.WriteOp.TheVariants as edit
 use Rattle.sk_value.specs.Action.{action_of}
 use Rattle.sk_key.specs.declared.key_class.KeyClass.{KeyClass}
 use Rattle.sk_key.specs.declared.key_class.KeyClass.TheVariants as class
@@ -27,33 +27,33 @@ use Rattle.sk_model.specs.Outcome.{Outcome, refuses}
 -- ## What all seats may send
 
 -- the pushes from outside, and names into `queues`
-abbrev pub adds_on : KeyClass → Edit → Bool
-adds_on class.Queue (edit.Push side texts) = true
-adds_on class.Queues (edit.Sadd names) = true
-adds_on (class.Jobs Schedule) (edit.Zadd pairs) = true
-adds_on other e = false
+abbrev pub may_push : KeyClass → WriteOp → Bool
+may_push class.Queue (edit.Push side texts) = true
+may_push class.Queues (edit.Sadd names) = true
+may_push (class.Jobs Schedule) (edit.Zadd pairs) = true
+may_push other e = false
 
 abbrev pub adds : Action → Bool
-adds (action.Edit key e) = adds_on (class_of key) e
+adds (action.WriteOp key e) = may_push (class_of key) e
 adds other = false
 
-abbrev pub is_for_all : PlainCommand → Bool
-is_for_all c = only_reads c || adds (action_of c)
+abbrev pub is_open_to_all : PlainCommand → Bool
+is_open_to_all c = only_reads c || adds (action_of c)
 
 -- ## What is a worker's
 
 -- ZADD on `retry`, and LREM on a private list
-abbrev pub works_on : KeyClass → Edit → Bool
-works_on (class.Jobs Retry) (edit.Zadd pairs) = true
-works_on class.Private (edit.Lrem count text) = true
-works_on class.NoPrivate (edit.Lrem count text) = true
-works_on other e = false
+abbrev pub is_worker_write : KeyClass → WriteOp → Bool
+is_worker_write (class.Jobs Retry) (edit.Zadd pairs) = true
+is_worker_write class.Private (edit.Lrem count text) = true
+is_worker_write class.NoPrivate (edit.Lrem count text) = true
+is_worker_write other e = false
 
 -- besides these LMOVE to a private list
-abbrev pub is_workers : Action → Bool
-is_workers (action.Edit key e) = works_on (class_of key) e
-is_workers (action.Move source destination from to) = is_private (class_of destination)
-is_workers other = false
+abbrev pub is_worker_action : Action → Bool
+is_worker_action (action.WriteOp key e) = is_worker_write (class_of key) e
+is_worker_action (action.Move source destination from to) = is_private (class_of destination)
+is_worker_action other = false
 
 -- The queue from which a seat of this process fetches: LMOVE queue:q sq:ident RIGHT LEFT
 abbrev pub fetched_from : Bytes → Action → Option Bytes
@@ -66,7 +66,7 @@ only (pair ∷ []) = Some pair
 only other = None
 
 -- the text that a release names: LREM sq:ident 1 text
-abbrev pub released_by : Bytes → Bytes → Edit → Option Bytes
+abbrev pub released_by : Bytes → Bytes → WriteOp → Option Bytes
 released_by ident key (edit.Lrem count text) = cond (bytes_eq key (private_key ident) && is_eq (int_cmp count (pos 1))) (Some text) None
 released_by ident key other = None
 
@@ -76,7 +76,7 @@ has_done works None = false
 has_done works (Some text) = list_any (is_done_as text) works
 
 abbrev pub releases_by : Bytes → List Work → Action → Bool
-releases_by ident works (action.Edit key e) = has_done works (released_by ident key e)
+releases_by ident works (action.WriteOp key e) = has_done works (released_by ident key e)
 releases_by ident works other = false
 
 -- the seat releases a job that it has put back, or is done with

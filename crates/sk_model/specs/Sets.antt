@@ -9,8 +9,8 @@ use Rattle.sk_zset.specs.Bounds.{is_between}
 use Rattle.sk_value.specs.Answer.{counted}
 use Rattle.sk_value.specs.Lists.{range_of}
 use Rattle.sk_resp.specs.WordOrder.{is_member}
-use Rattle.sk_value.specs.declared.edit.Edit.{Edit}
-use Rattle.sk_value.specs.declared.edit.Edit.TheVariants as edit
+use Rattle.sk_value.specs.declared.write_op.WriteOp.{WriteOp}
+use Rattle.sk_value.specs.declared.write_op.WriteOp.TheVariants as edit
 use Rattle.sk_places.specs.declared.row.Place.TheVariants.{Set}
 use Rattle.sk_places.specs.declared.row.Row.{Row}
 use Rattle.sk_places.specs.Rows.{rows_at, row_in, row_of, pair_of}
@@ -63,7 +63,7 @@ put_back w set pair = put_as set pair (row_of pair.1 (rows_at (Set set) w.rows))
 abbrev pub remove_all : List Row → Outcome
 remove_all rows = record { reply = counted (length rows); changes = take_all rows }
 
-abbrev pub edit_jobs : World → Scored → Edit → Outcome
+abbrev pub edit_jobs : World → Scored → WriteOp → Outcome
 edit_jobs w set (edit.Zadd pairs) = add_to w pairs set
 edit_jobs w set (edit.Zrem members) = remove_all (filter (λ row. is_member row.text members) (rows_at (Set set) w.rows))
 edit_jobs w set (edit.Zremrangebyrank first last) = remove_all (range_of first last (rows_at (Set set) w.rows))

@@ -12,7 +12,7 @@ use Rattle.sk_cmd.specs.declared.command.Command.{Command}
 use Rattle.sk_cmd.specs.declared.command.Command.TheVariants as command
 use Rattle.sk_cmd.specs.declared.command.PlainCommand.TheVariants as plain
 use Rattle.sk_value.specs.declared.action.Action.TheVariants as action
-use Rattle.sk_value.specs.declared.edit.Edit.TheVariants as edit
+use Rattle.sk_value.specs.declared.write_op.WriteOp.TheVariants as edit
 use Rattle.sk_model.specs.World.{World, phase_of}
 use Rattle.sk_model.specs.Seats.{releases}
 use Rattle.sk_model.specs.Outcome.{Outcome, tells}
@@ -44,7 +44,7 @@ pub record AreRelease (w : World) (seat : ℕ) (words : Words) (key held : Bytes
   pub word : Bytes
   pub words_are : words ≡ word ∷ key ∷ codes "1" ∷ held ∷ []
   pub word_is : is_word Lrem word ≡ true
-  pub release : releases (phase_of w seat) (action.Edit key (edit.Lrem (pos 1) held)) ≡ true
+  pub release : releases (phase_of w seat) (action.WriteOp key (edit.Lrem (pos 1) held)) ≡ true
 
 -- A release takes no memory, neither to read its words nor to do it.
 abbrev pub ReleasesNeverStarve : Type 0

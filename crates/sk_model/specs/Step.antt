@@ -12,8 +12,8 @@ use Rattle.sk_cmd.specs.declared.command.ScriptCommand.{ScriptCommand}
 use Rattle.sk_cmd.specs.declared.command.ScriptCommand.TheVariants as script
 use Rattle.sk_value.specs.declared.action.Action.{Action}
 use Rattle.sk_value.specs.declared.action.Action.TheVariants as action
-use Rattle.sk_value.specs.declared.edit.Edit.{Edit}
-use Rattle.sk_value.specs.declared.edit.Edit.TheVariants as edit
+use Rattle.sk_value.specs.declared.write_op.WriteOp.{WriteOp}
+use Rattle.sk_value.specs.declared.write_op.WriteOp.TheVariants as edit
 use Rattle.sk_value.specs.Answer.{counted}
 use Rattle.sk_value.specs.Action.{action_of}
 use Rattle.sk_value.specs.Keys.{how_many}
@@ -34,7 +34,7 @@ use Rattle.sk_model.specs.Queues.{push, remove, move, add_names}
 use Rattle.sk_model.specs.Sets.{edit_jobs}
 use Rattle.sk_model.specs.Jobs.{due, kill, revive}
 use Rattle.sk_model.specs.Deletes.{delete, flush}
-use Rattle.sk_model.specs.Seats.{is_workers, is_for_all, releases, where_plain}
+use Rattle.sk_model.specs.Seats.{is_worker_action, is_open_to_all, releases, where_plain}
 use Rattle.sk_model.specs.Rescue.{rescue}
 use Rattle.sk_model.specs.Life.{rows_of}
 use Rattle.sk_model.specs.Status.{status}
@@ -56,18 +56,18 @@ on_plain w a c = cond (is_plain c) (on_keys w a) (refuses ManagedKey)
 -- ## Edits
 
 -- what may be written on a queue
-abbrev pub edit_queue : World → Bytes → Edit → Outcome
+abbrev pub edit_queue : World → Bytes → WriteOp → Outcome
 edit_queue w queue (edit.Push side texts) = push w side (Queue queue) texts
 edit_queue w queue (edit.Lrem count text) = remove w (Queue queue) count text
 edit_queue w queue other = refuses ManagedKey
 
 -- what may be written on the set of the queues' names
-abbrev pub edit_names : World → Edit → Outcome
+abbrev pub edit_names : World → WriteOp → Outcome
 edit_names w (edit.Sadd names) = add_names w names
 edit_names w other = refuses ManagedKey
 
-abbrev pub edits : World → Bytes → Edit → KeyClass → Outcome
-edits w key e class.Plain = on_keys w (action.Edit key e)
+abbrev pub edits : World → Bytes → WriteOp → KeyClass → Outcome
+edits w key e class.Plain = on_keys w (action.WriteOp key e)
 edits w key e class.Queue = edit_queue w (queue_of key) e
 edits w key e class.Queues = edit_names w e
 edits w key e class.NoQueue = refuses ManagedKey
@@ -88,8 +88,8 @@ abbrev pub act : World → Action → Outcome
 act w action.Ping = tells say.Pong
 act w (action.Echo text) = says (reply.Bulk text)
 act w action.Quit = tells say.Ok
-act w (action.Look key look) = says (reply_of (look_at w.moment look (held w key)))
-act w (action.Edit key edit) = edits w key edit (class_of key)
+act w (action.ReadOp key look) = says (reply_of (look_at w.moment look (held w key)))
+act w (action.WriteOp key edit) = edits w key edit (class_of key)
 act w (action.Set key text options) = on_plain w (action.Set key text options) (class_of key)
 act w (action.Expire key millis) = on_plain w (action.Expire key millis) (class_of key)
 act w (action.Exists keys) = says (counted (how_many (held w) keys))
@@ -99,8 +99,8 @@ act w action.Flush = flush w
 
 -- What a seat in this phase sends: a worker's command, or one that all seats may send, or, from a Plain seat, any other.
 abbrev pub by_seat : World → ℕ → Phase → PlainCommand → Outcome
-by_seat w seat phase c = cond (is_workers (action_of c)) (work w seat phase (action_of c))
-    (cond (is_plain_seat phase || is_for_all c) (act w (action_of c)) (refuses OutOfTurn))
+by_seat w seat phase c = cond (is_worker_action (action_of c)) (work w seat phase (action_of c))
+    (cond (is_plain_seat phase || is_open_to_all c) (act w (action_of c)) (refuses OutOfTurn))
 
 -- ## The commands of the store's own
 
@@ -157,5 +157,5 @@ may_starve w seat (command.Plain c) = not (releases (phase_of w seat) (action_of
 may_starve w seat (command.Script c) = true
 
 -- From the world, the command comes to this outcome. It may starve.
-abbrev pub Steps : World → ℕ → ℕ → Command → Outcome → Type 0
-Steps w seat now c o = (o ≡ outcome w seat now c) ⊎ ((may_starve w seat c ≡ true) × (o ≡ starves now))
+abbrev pub MayComeTo : World → ℕ → ℕ → Command → Outcome → Type 0
+MayComeTo w seat now c o = (o ≡ outcome w seat now c) ⊎ ((may_starve w seat c ≡ true) × (o ≡ starves now))

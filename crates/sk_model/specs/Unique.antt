@@ -18,7 +18,7 @@ use Rattle.sk_payload.specs.Digest.{digest}
 use Rattle.sk_model.specs.Outcome.{Outcome, says, refuses}
 use Rattle.sk_model.specs.Room.{where_room}
 use Rattle.sk_model.specs.Sets.{add_one}
-use Rattle.sk_model.specs.Told.{push_job}
+use Rattle.sk_model.specs.Notify.{push_job}
 
 -- ## SK.UPUSH
 

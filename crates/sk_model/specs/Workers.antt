@@ -3,6 +3,7 @@
 use Rattle.std.specs.Prelude.{ℕ, pos, [], ◌∷◌, ◌++◌, Option, Some, None, not, ◌&&◌, cond, length, nat_lt}
 use Rattle.std.specs.List.{list_any}
 use Rattle.std.specs.Option.{is_some}
+use Rattle.sk_base.specs.declared.limits.TheConstants.{LONGEST_NAME}
 use Rattle.sk_resp.specs.Spelling.{Bytes}
 use Rattle.sk_resp.specs.declared.reply.Reply.TheVariants as reply
 use Rattle.sk_resp.specs.declared.say.Say.TheVariants as say
@@ -15,8 +16,8 @@ use Rattle.sk_payload.specs.Member.{is_name}
 use Rattle.sk_value.specs.Answer.{counted, one_if}
 use Rattle.sk_value.specs.declared.action.Action.{Action}
 use Rattle.sk_value.specs.declared.action.Action.TheVariants as action
-use Rattle.sk_value.specs.declared.edit.Edit.{Edit}
-use Rattle.sk_value.specs.declared.edit.Edit.TheVariants as edit
+use Rattle.sk_value.specs.declared.write_op.WriteOp.{WriteOp}
+use Rattle.sk_value.specs.declared.write_op.WriteOp.TheVariants as edit
 use Rattle.sk_zset.specs.Pair.{Pair}
 use Rattle.sk_places.specs.declared.row.Place.TheVariants.{Queue, Private, Set}
 use Rattle.sk_places.specs.declared.row.Row.{Row}
@@ -34,22 +35,22 @@ use Rattle.sk_counters.specs.Counters.{processed, failed}
 use Rattle.sk_model.specs.Outcome.{Outcome, says, tells, refuses}
 use Rattle.sk_model.specs.Seats.{fetched_from, only, released_by, where_held, where_some}
 use Rattle.sk_model.specs.Sets.{put_back}
-use Rattle.sk_model.specs.Told.{and_tell}
+use Rattle.sk_model.specs.Notify.{and_notify}
 use Rattle.sk_model.specs.Unique.{unlocks}
 use Rattle.sk_payload.specs.declared.head.Until.TheVariants as until
 use Rattle.sk_batch.specs.declared.event.Event.TheVariants as event
 use Rattle.sk_batch.specs.declared.event.Event.TheVariants.{Reported}
-use Rattle.sk_model.specs.Jobs.{Sent, buried_by, reports, moment_score}
+use Rattle.sk_model.specs.Jobs.{Routed, buried_by, reports, moment_score}
 
 -- ## The process
 
 -- SK.BEAT: the process's heartbeat stands for a minute
 abbrev pub beat : Bytes → Outcome
-beat ident = cond (is_name 255 ident) (record { reply = reply.Say say.Ok; changes = Beats ident ∷ [] }) (refuses NoProcess)
+beat ident = cond (is_name LONGEST_NAME ident) (record { reply = reply.Say say.Ok; changes = Beats ident ∷ [] }) (refuses NoProcess)
 
 -- SK.JOIN: the seat is one of the process's
 abbrev pub join : World → ℕ → Bytes → Outcome
-join w seat ident = cond (is_name 255 ident && is_alive ident w.moment w.leases) (record { reply = reply.Say say.Ok; changes = Turns seat (Joined ident []) ∷ [] }) (refuses NoProcess)
+join w seat ident = cond (is_name LONGEST_NAME ident && is_alive ident w.moment w.leases) (record { reply = reply.Say say.Ok; changes = Turns seat (Joined ident []) ∷ [] }) (refuses NoProcess)
 
 -- ## A job comes, and goes
 
@@ -98,7 +99,7 @@ start phase text = where_held phase text (λ ident. record { reply = reply.Say s
 
 -- SK.FAIL: it has raised
 abbrev pub fail : World → Phase → Bytes → Outcome
-fail w phase text = where_held phase text (λ ident. and_tell Reported w text (Counts processed ∷ Counts failed ∷ []))
+fail w phase text = where_held phase text (λ ident. and_notify Reported w text (Counts processed ∷ Counts failed ∷ []))
 
 -- a lock until its success ends
 abbrev pub and_unlock : Bytes → Outcome → Outcome
@@ -106,7 +107,7 @@ and_unlock text o = record o { changes = o.changes ++ unlocks until.Success text
 
 -- SK.OK: it has returned; then it is released.
 abbrev pub ok : World → ℕ → Phase → Bytes → Outcome
-ok w seat phase text = where_held phase text (λ ident. and_unlock text (and_tell event.Returned w text (Turns seat (staging (is_held_as text) (Settled Returned) phase) ∷ Counts processed ∷ [])))
+ok w seat phase text = where_held phase text (λ ident. and_unlock text (and_notify event.Returned w text (Turns seat (staging (is_held_as text) (Settled Returned) phase) ∷ Counts processed ∷ [])))
 
 -- SK.DROP: it is given up; then it is released. Its batch hears nothing of it.
 abbrev pub drop : ℕ → Phase → Bytes → Outcome
@@ -126,7 +127,7 @@ retry w seat phase None = refuses OutOfTurn
 retry w seat phase (Some pair) = cond (list_any (is_retried_as pair.1) (works_of phase)) (retry_pair w seat phase pair) (refuses OutOfTurn)
 
 -- SK.BURY: the failed text goes to the dead set, or the payload itself where it has no head.
-abbrev pub bury_text : World → ℕ → Phase → Bytes → Sent
+abbrev pub bury_text : World → ℕ → Phase → Bytes → Routed
 bury_text w seat phase text = buried_by w text (put_back w Dead (moment_score w, text) ∷ Turns seat (staging (is_buried_as text) Put phase) ∷ [])
 
 abbrev pub bury : World → ℕ → Phase → Bytes → Outcome
@@ -135,13 +136,13 @@ bury w seat phase text = where_some phase (is_buried_as text) (λ ident. reports
 -- ## The table
 
 -- a worker's edits: ZADD on `retry`, and LREM on a private list
-abbrev pub work_edit : World → ℕ → Phase → Bytes → Bytes → Edit → Outcome
+abbrev pub work_edit : World → ℕ → Phase → Bytes → Bytes → WriteOp → Outcome
 work_edit w seat phase ident key (edit.Zadd pairs) = retry w seat phase (only pairs)
 work_edit w seat phase ident key other = release_of w seat phase ident (released_by ident key other)
 
 -- a worker's edits, and the fetch
 abbrev pub work_as : World → ℕ → Phase → Bytes → Action → Outcome
-work_as w seat phase ident (action.Edit key e) = work_edit w seat phase ident key e
+work_as w seat phase ident (action.WriteOp key e) = work_edit w seat phase ident key e
 work_as w seat phase ident other = fetch w seat phase ident (fetched_from ident other)
 
 -- what a worker's command on keys does

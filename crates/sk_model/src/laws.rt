@@ -3,7 +3,7 @@ ghost use Rattle.std.specs.Prelude.{◌≡◌};
 ghost use Rattle.sk_model.specs.Causes.{MovesHaveCauses};
 ghost use Rattle.sk_model.specs.Laws.{Balance, Conserve, CopiesKept, OneHolder, OneLeader, SlotsRise};
 ghost use Rattle.sk_model.specs.Once.{BatchOnce, CallbacksFollow, CompleteOnce, DeathOnce, SettledStays};
-ghost use Rattle.sk_model.specs.Reading.{IsSaid, Said, SomeReading, Words};
+ghost use Rattle.sk_model.specs.Reading.{IsSaid, PipeCommand, SomeReading, Words};
 ghost use Rattle.sk_model.specs.Reliable.{Reliable};
 ghost use Rattle.sk_model.specs.Starving.{LimitsStay, OwnWordsNeverStarve, ReleasesNeverStarve, ServedOrStarved};
 
@@ -111,7 +111,7 @@ pub fn limits_stay()
 /// The words of a command are read in one way: as one command with its arguments, as one word of the pipe's own, or as one refusal. So what
 /// they come to from a state is one turn, where the command doesn't starve.
 pub fn words_have_one_reading()
-    ensures { (words : Words) (said other : Said) → IsSaid words said → IsSaid words other → said ≡ other }
+    ensures { (words : Words) (said other : PipeCommand) → IsSaid words said → IsSaid words other → said ≡ other }
 {}
 
 /// Any words have a reading in which memory isn't wanted.

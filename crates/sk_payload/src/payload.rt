@@ -1,5 +1,5 @@
 // A job's text, kept with its head.
-ghost use Rattle.std.specs.Prelude.{◌≡◌, ◌↔◌, ◌<◌, ◌≤◌, [], Some, None, Err, true, IfOk, IfSome, IsSomeAnd, option_map};
+ghost use Rattle.std.specs.Prelude.{◌≡◌, ◌↔◌, ◌<◌, ◌≤◌, Some, None, Err, true, IfOk, IfSome, IsSomeAnd, option_map};
 ghost use Rattle.sk_payload.specs.Failed.{failed as failed_in, next_head};
 ghost use Rattle.sk_payload.specs.Follows.{follows as texts_follow};
 ghost use Rattle.sk_payload.specs.Head.{jid_of, head as head_of};
@@ -11,29 +11,34 @@ use crate::failure::set_failure;
 use crate::head::Head;
 use crate::read::{read_head, read_members};
 use serde_json::Value;
+use sk_base::limits::LAST_GENERATION;
 use sk_resp::{Text, Word};
 use std::alloc::Global;
 use std::marker::Model;
+use std::sync::Arc;
 
-/// The greatest generation.
-const LAST_GENERATION: u32 = 1_000_000_000;
+// A job's text and its head, where it has one.
+#[derive(Drop)]
+struct Parsed {
+    text: Word,
+    head: Option<Head>,
+}
 
-/// The text of a job, with its head, where it has one. Contracts see it as its text. The head is boxed, so that a payload is small to move.
+/// The text of a job, with its head, where it has one. Contracts see it as its text. Copies share both, and the last one frees them.
 #[derive(Drop)]
 pub struct Payload {
-    text: Word,
-    head: Option<Box<Head>>,
+    parsed: Arc<Parsed>,
 }
 
 impl Model for Payload {
-    ghost use Rattle.std.specs.Prelude.{◌≡◌, List, ℕ, option_map};
-    ghost use Rattle.sk_payload.specs.Head.{jid_of, head as head_of};
+    ghost use Rattle.std.specs.Prelude.{◌≡◌, List, ℕ};
+    ghost use Rattle.sk_payload.specs.Head.{head as head_of};
 
     ghost Value = { List ℕ };
 
-    ghost view = { λ p. p.text };
+    ghost view = { λ p. p.parsed.value.text };
 
-    ghost invariant = { λ p. option_map (λ b. b.value) p.head ≡ head_of p.text };
+    ghost invariant = { λ p. p.parsed.value.head ≡ head_of p.parsed.value.text };
 }
 
 impl Payload {
@@ -42,23 +47,22 @@ impl Payload {
         ensures { IfOk result (λ payload. payload ≡ text) }
     {
         let head = read_head(alloc, text.bytes())?;
-        Ok(Payload { text, head })
+        Payload::keep(alloc, text, head)
     }
 
-    /// The empty text. It has no head. Takes no memory.
-    pub fn empty(alloc: Global) -> Payload
-        ensures { result ≡ [] }
+    // A text with its head.
+    fn keep(alloc: Global, text: Word, head: Option<Head>) -> Result<Payload, Memory>
+        requires { head ≡ head_of text }
+        ensures { IfOk result (λ payload. payload ≡ text) }
     {
-        Payload {
-            text: Word::new(Vec::new(alloc)),
-            head: None,
-        }
+        let parsed = Arc::new(alloc, Parsed { text, head })?;
+        Ok(Payload { parsed })
     }
 
     pub fn text(&self) -> &Word
         ensures { result.now ≡ self.now }
     {
-        &self.text
+        &self.parsed.text
     }
 
     /// What the text says of its job (Sidekiq's wiki, "Job Format"). It has no head, and stands as bytes, where it
@@ -73,9 +77,9 @@ impl Payload {
     /// Of members with one name only the last counts. Other members are free.
     pub fn head(&self) -> Option<&Head>
         ensures value { option_map (λ head. head.now) result ≡ head_of self.now }
-        ensures generation { IfSome result (λ head. head.now.gen_ ≤ 1000000000) }
+        ensures generation { IfSome result (λ head. head.now.gen_ ≤ LAST_GENERATION) }
     {
-        self.head.as_deref()
+        self.parsed.head.as_ref()
     }
 
     /// The id of its job, where it has a head.
@@ -88,14 +92,12 @@ impl Payload {
         }
     }
 
-    /// An equal payload.
+    /// An equal payload. It shares the text and the head, so that it takes no memory; there is none where 2^63 - 1 copies stand.
     pub fn copy(&self) -> Result<Payload, Memory>
         ensures { IfOk result (λ payload. payload ≡ self.now) }
     {
-        Ok(Payload {
-            text: self.text.copy()?,
-            head: self.head.as_ref().map(copy_boxed).transpose()?,
-        })
+        let parsed = Arc::try_clone(&self.parsed)?;
+        Ok(Payload { parsed })
     }
 
     /// The payload after one more failed run, at the moment `now`, of an error of this class with this message (Sidekiq's wiki, "Job Format" and
@@ -119,33 +121,25 @@ impl Payload {
         ensures follows { IfOk result (λ next. texts_follow self.now next ≡ true) }
         ensures no_head { (result ≡ Err no_head) ↔ (head_of self.now ≡ None) }
         ensures limit { (result ≡ Err gen_limit)
-            ↔ IsSomeAnd (head_of self.now) (λ h. h.gen_ ≡ 1000000000) }
+            ↔ IsSomeAnd (head_of self.now) (λ h. h.gen_ ≡ LAST_GENERATION) }
     {
-        let Some(head) = &self.head else {
+        let Some(head) = &self.parsed.head else {
             return Err(EditFault::NoHead);
         };
         if head.gen_ >= LAST_GENERATION {
             return Err(EditFault::GenLimit);
         }
-        let text = failed_text(alloc, self.text.bytes(), head.gen_, now, class, message)?;
-        let head = boxed(alloc, head.next(now)?)?;
-        Ok(Payload {
-            text,
-            head: Some(head),
-        })
+        let text = failed_text(
+            alloc,
+            self.parsed.text.bytes(),
+            head.gen_,
+            now,
+            class,
+            message,
+        )?;
+        let head = head.next(now)?;
+        Ok(Payload::keep(alloc, text, Some(head))?)
     }
-}
-
-fn boxed(alloc: Global, head: Head) -> Result<Box<Head>, Memory>
-    ensures { IfOk result (λ b. b.value ≡ head) }
-{
-    Ok(Box::new(alloc, head)?)
-}
-
-fn copy_boxed(head: &Box<Head>) -> Result<Box<Head>, Memory>
-    ensures { IfOk result (λ b. b.value ≡ head.now.value) }
-{
-    boxed(*Box::allocator(head), head.copy()?)
 }
 
 // The text after a failure of a text with a head of this generation.
@@ -158,7 +152,7 @@ fn failed_text(
     message: &str,
 ) -> Result<Word, Memory>
     requires { IsSomeAnd (head_of text.now)
-        (λ h. (h.gen_ ≡ generation) × (generation < 1000000000)) }
+        (λ h. (h.gen_ ≡ generation) × (generation < LAST_GENERATION)) }
     ensures text { IfOk result (λ next. failed_in text.now now class.now message.now ≡ Some next) }
     ensures head { IfOk result (λ next. head_of next ≡ option_map (next_head now) (head_of text.now)) }
 {

@@ -12,9 +12,11 @@ ghost use Rattle.sk_payload.specs.Head.{head, head_of_value as head_in_value, he
 use crate::head::{Head, Lock};
 use crate::length::is_short;
 use crate::no_head::NoHead;
+use crate::sketch::usual_head;
 use crate::whole::has_float;
 use crate::{Memory, member};
 use serde_json::{Map, Value};
+use sk_base::limits::{LONGEST_ID, LONGEST_NAME};
 use std::alloc::Global;
 
 // The JSON value of some bytes.
@@ -66,9 +68,9 @@ fn head_of_object(alloc: Global, value: &Value) -> Result<Head, NoHead>
     requires { value_has_float (view value.now) ≡ false }
     ensures { Gives result (head_in_object (view value.now)) }
 {
-    let jid = member::name(alloc, value, "jid", 64)?;
-    let class = member::name(alloc, value, "class", 255)?;
-    let queue = member::name(alloc, value, "queue", 255)?;
+    let jid = member::name(alloc, value, "jid", LONGEST_ID)?;
+    let class = member::name(alloc, value, "class", LONGEST_NAME)?;
+    let queue = member::name(alloc, value, "queue", LONGEST_NAME)?;
     let args = member::args(alloc, value)?;
     let bid = member::bid(alloc, value)?;
     let retry = member::retry(value).ok_or(NoHead::Wrong)?;
@@ -120,11 +122,14 @@ fn head_of(alloc: Global, text: &[u8]) -> Result<Head, NoHead>
 }
 
 /// The head of a text, where there is one.
-pub fn read_head(alloc: Global, text: &[u8]) -> Result<Option<Box<Head>>, Memory>
-    ensures { IfOk result (λ found. option_map (λ b. b.value) found ≡ head text.now) }
+pub fn read_head(alloc: Global, text: &[u8]) -> Result<Option<Head>, Memory>
+    ensures { IfOk result (λ found. found ≡ head text.now) }
 {
+    if let Some(head) = usual_head(alloc, text)? {
+        return Ok(Some(head));
+    }
     match head_of(alloc, text) {
-        Ok(head) => Ok(Some(Box::new(alloc, head)?)),
+        Ok(head) => Ok(Some(head)),
         Err(NoHead::Wrong) => Ok(None),
         Err(NoHead::Memory) => Err(Memory),
     }

@@ -1,6 +1,5 @@
-pub mod Said
+pub mod PipeCommand
 pub mod Session
 pub mod Reliable
 pub mod Pipe
-pub mod Driving
 pub mod Run

@@ -1,22 +1,16 @@
 // What a pipe keeps from command to command: the store, the acting seat, and the moment that the store is handed. A command is read, and then done.
-ghost use Rattle.std.specs.Prelude.{◌≡◌, ◌&&◌, false};
+ghost use Rattle.std.specs.Prelude.{◌≡◌, None};
 ghost use Rattle.sk_model.specs.Run.{first, is_ok, quits};
+ghost use Rattle.sk_pipe.specs.Session.{HandlesLine, stop_of, where_ok, word_of};
 
-use crate::reading::{Said, read_words};
+use crate::reading::{PipeCommand, read_words};
 use sk_cmd::{Command, PlainCommand};
 use sk_core::Core;
 use sk_model::Limits;
 use sk_resp::{Reply, Say, Words};
+use sk_talk::{Answer, Stop, Talker};
 use std::alloc::Global;
 use std::marker::Model;
-
-/// What a command came to.
-#[derive(Drop)]
-pub struct Answer {
-    pub reply: Reply,
-    /// The command is a QUIT or SHUTDOWN, and was accepted: the pipe ends with this reply.
-    pub ends: bool,
-}
 
 /// What a pipe keeps from command to command. Contracts see the world of its store, the acting seat and the moment.
 #[derive(Drop)]
@@ -45,25 +39,51 @@ fn quits(command: &Command) -> bool
     )
 }
 
-// The command is a QUIT or SHUTDOWN, and the reply to it is `+OK`.
-fn is_accepted(quits: bool, reply: &Reply) -> bool
-    ensures { result ≡ (quits && is_ok reply.now) }
+fn word_of(command: &Command) -> Stop
+    ensures { result ≡ word_of command.now }
 {
-    quits && matches!(reply, Reply::Say(Say::Ok))
+    match command {
+        Command::Plain(PlainCommand::Shutdown) => Stop::Shutdown,
+        _ => Stop::Quit,
+    }
+}
+
+// The word, of a QUIT or SHUTDOWN.
+fn stop_of(command: &Command) -> Option<Stop>
+    ensures { result ≡ stop_of command.now }
+{
+    if quits(command) {
+        Some(word_of(command))
+    } else {
+        None
+    }
+}
+
+fn is_ok(reply: &Reply) -> bool
+    ensures { result ≡ is_ok reply.now }
+{
+    matches!(reply, Reply::Say(Say::Ok))
+}
+
+// The word, where the reply to it is `+OK`.
+fn where_ok(stop: Option<Stop>, reply: &Reply) -> Option<Stop>
+    ensures { result ≡ where_ok stop reply.now }
+{
+    if is_ok(reply) { stop } else { None }
 }
 
 // A fixed text, after which the pipe goes on.
 fn tells(say: Say) -> Answer
-    ensures { result ≡ record { reply = Reply.Say say; ends = false } }
+    ensures { result ≡ record { reply = Reply.Say say; stop = None } }
 {
     Answer {
         reply: Reply::Say(say),
-        ends: false,
+        stop: None,
     }
 }
 
 impl Session {
-    ghost use Rattle.sk_pipe.specs.Session.{Asked, Spoke};
+    ghost use Rattle.sk_pipe.specs.Session.{HandlesCommand};
 
     /// An empty store with these limits, with seat 0 acting, at the moment 0. Takes no memory.
     pub fn new(alloc: Global, limits: Limits) -> Self
@@ -82,33 +102,35 @@ impl Session {
 
     // Lets the store do the command. A QUIT or SHUTDOWN for which there was no memory ends nothing.
     fn ask(&mut self, command: Command) -> Answer
-        ensures { Asked self.old command result self.new }
+        ensures { HandlesCommand self.old command result self.new }
     {
-        let quits = quits(&command);
+        let stop = stop_of(&command);
         let reply = self.store.step(self.seat, self.now, command);
-        let ends = is_accepted(quits, &reply);
-        Answer { reply, ends }
+        let stop = where_ok(stop, &reply);
+        Answer { reply, stop }
     }
+}
+
+impl Talker for Session {
+    ghost does = { λ old words reply stop new. HandlesLine old words (record { reply = reply; stop = stop }) new };
 
     /// Reads the words of a command, and does it.
-    pub fn answer(&mut self, words: Words) -> Answer
-        ensures { Spoke self.old words result self.new }
-    {
+    fn answer(&mut self, words: Words) -> Answer {
         match read_words(self.alloc, words) {
-            Ok(Said::Refused(say)) => tells(say),
-            Ok(Said::Sets(now)) => {
+            Ok(PipeCommand::Refused(say)) => tells(say),
+            Ok(PipeCommand::SetTime(now)) => {
                 self.now = now;
                 tells(Say::Ok)
             }
-            Ok(Said::Sits(seat)) => {
+            Ok(PipeCommand::ActAs(seat)) => {
                 self.seat = seat;
                 tells(Say::Ok)
             }
-            Ok(Said::Cuts(seat)) => {
+            Ok(PipeCommand::CutSeat(seat)) => {
                 self.store.cut(seat);
                 tells(Say::Ok)
             }
-            Ok(Said::Asks(command)) => self.ask(command),
+            Ok(PipeCommand::RunCommand(command)) => self.ask(command),
             Err(_) => tells(Say::Oom),
         }
     }

@@ -13,7 +13,7 @@ use Rattle.sk_zset.specs.Bounds.{is_above, is_below}
 use Rattle.sk_zset.specs.Pair.{pair_cmp}
 use Rattle.std.specs.Ordering.{int_cmp, is_lt, is_le, nat_cmp, ordering_then}
 use Rattle.std.specs.List.{remove, position_or_len}
-use Rattle.sk_undo.specs.Rises.{all_pass, rises}
+use Rattle.sk_undo.specs.Partitioned.{all_pass, is_partitioned}
 use Rattle.sk_cmd.specs.declared.argument.Side.{Side}
 use Rattle.sk_cmd.specs.declared.argument.Side.TheVariants.{Left, Right}
 use Rattle.sk_places.specs.declared.row.Place.{Place}
@@ -22,7 +22,8 @@ use Rattle.sk_places.specs.declared.row.Row.{Row}
 use Rattle.sk_places.specs.Order.{is_beyond, is_first, is_ordered}
 use Rattle.sk_places.specs.Rows.{is_at, pair_of, place_cmp, put_row, row_cmp, rows_at, within_cmp, stands_before}
 use Rattle.sk_places.proofs.Lists.{all_insert, all_remove, inserted_after}
-use Rattle.sk_places.proofs.Order.{row_total, place_total, same_place, le_trans, le_lt, lt_le, le_back, lt_back, lt_is_le}
+use Rattle.sk_places.specs.PlaceOrder.{place_total, same_place}
+use Rattle.sk_places.proofs.Order.{row_total, le_trans, le_lt, lt_le, le_back, lt_back, lt_is_le}
 
 -- a test that, once it passes a row, passes those that stand behind it
 module _ (t : Row → Bool) (up : (p q : Row) → is_le (row_cmp p q) ≡ true → t p ≡ true → t q ≡ true) where
@@ -30,7 +31,7 @@ module _ (t : Row → Bool) (up : (p q : Row) → is_le (row_cmp p q) ≡ true �
   all_behind p [] f h = refl
   all_behind p (q ∷ ps) f h = grind (arith, f, h, up p q, all_behind p ps)
 
-  pub rising : (ps : List Row) → is_ordered ps ≡ true → rises t ps ≡ true
+  pub rising : (ps : List Row) → is_ordered ps ≡ true → is_partitioned t ps ≡ true
   rising [] h = refl
   rising (p ∷ ps) h = grind (arith, h, all_behind p ps, rising ps)
 
@@ -38,18 +39,18 @@ module _ (t : Row → Bool) (up : (p q : Row) → is_le (row_cmp p q) ≡ true �
 places_le : (p q : Row) → is_le (row_cmp p q) ≡ true → is_le (place_cmp p.place q.place) ≡ true
 places_le p q h = grind (arith, h)
 
-pub rises_reached : (place : Place) (rows : List Row) → is_ordered rows ≡ true → rises (λ row. is_le (place_cmp place row.place)) rows ≡ true
-rises_reached place rows h = rising (λ row. is_le (place_cmp place row.place)) (λ p q l k. le_trans place_cmp place_total place p.place q.place k (places_le p q l)) rows h
+pub partitioned_reached : (place : Place) (rows : List Row) → is_ordered rows ≡ true → is_partitioned (λ row. is_le (place_cmp place row.place)) rows ≡ true
+partitioned_reached place rows h = rising (λ row. is_le (place_cmp place row.place)) (λ p q l k. le_trans place_cmp place_total place p.place q.place k (places_le p q l)) rows h
 
-pub rises_passed : (place : Place) (rows : List Row) → is_ordered rows ≡ true → rises (λ row. is_lt (place_cmp place row.place)) rows ≡ true
-rises_passed place rows h = rising (λ row. is_lt (place_cmp place row.place)) (λ p q l k. lt_le place_cmp place_total place p.place q.place k (places_le p q l)) rows h
+pub partitioned_passed : (place : Place) (rows : List Row) → is_ordered rows ≡ true → is_partitioned (λ row. is_lt (place_cmp place row.place)) rows ≡ true
+partitioned_passed place rows h = rising (λ row. is_lt (place_cmp place row.place)) (λ p q l k. lt_le place_cmp place_total place p.place q.place k (places_le p q l)) rows h
 
 behind_up : (end : Side) (new p q : Row) → is_le (row_cmp p q) ≡ true → not (stands_before end new p) ≡ true → not (stands_before end new q) ≡ true
 behind_up Left new p q l h = let k = le_lt row_cmp row_total p q new l in grind (arith, h, k)
 behind_up Right new p q l h = let k = le_trans row_cmp row_total p q new l in grind (arith, h, k)
 
-pub rises_behind : (end : Side) (new : Row) (rows : List Row) → is_ordered rows ≡ true → rises (λ row. not (stands_before end new row)) rows ≡ true
-rises_behind end new rows h = rising (λ row. not (stands_before end new row)) (behind_up end new) rows h
+pub partitioned_behind : (end : Side) (new : Row) (rows : List Row) → is_ordered rows ≡ true → is_partitioned (λ row. not (stands_before end new row)) rows ≡ true
+partitioned_behind end new rows h = rising (λ row. not (stands_before end new row)) (behind_up end new) rows h
 
 beyond_places : (after : Option Bytes) (p q : Place) → is_le (place_cmp p q) ≡ true → is_beyond after p ≡ true → is_beyond after q ≡ true
 beyond_places after (Queue a) q h k = absurd (grind (arith, k))
@@ -64,13 +65,13 @@ beyond_places after (Set a) (Private b) h k = absurd (grind (arith, h))
 beyond_places None (Set a) (Set b) h k = refl
 beyond_places (Some after) (Set a) (Set b) h k = refl
 
-pub rises_beyond : (after : Option Bytes) (rows : List Row) → is_ordered rows ≡ true → rises (λ row. is_beyond after row.place) rows ≡ true
-rises_beyond after rows h = rising (λ row. is_beyond after row.place) (λ p q l k. beyond_places after p.place q.place (places_le p q l) k) rows h
+pub partitioned_beyond : (after : Option Bytes) (rows : List Row) → is_ordered rows ≡ true → is_partitioned (λ row. is_beyond after row.place) rows ≡ true
+partitioned_beyond after rows h = rising (λ row. is_beyond after row.place) (λ p q l k. beyond_places after p.place q.place (places_le p q l) k) rows h
 
 -- ## A place's rows
 
 -- a test that rises among rows that pass another one
-rising_among : (good t : Row → Bool) (up : (p q : Row) → good p ≡ true → good q ≡ true → is_le (row_cmp p q) ≡ true → t p ≡ true → t q ≡ true) (rows : List Row) → all_pass good rows ≡ true → is_ordered rows ≡ true → rises t rows ≡ true
+rising_among : (good t : Row → Bool) (up : (p q : Row) → good p ≡ true → good q ≡ true → is_le (row_cmp p q) ≡ true → t p ≡ true → t q ≡ true) (rows : List Row) → all_pass good rows ≡ true → is_ordered rows ≡ true → is_partitioned t rows ≡ true
 rising_among good t up [] g h = refl
 rising_among good t up (p ∷ ps) g h =
     let behind = all_among good t up p ps in
@@ -121,11 +122,11 @@ above_up High s z a h = h
 above_up (At x) s z a h = grind (arith, ints, a, h)
 above_up (Past x) s z a h = grind (arith, ints, a, h)
 
-pub rises_reached_by : (low : Bound) (set : Scored) (rows : List Row) → is_ordered rows ≡ true → rises (λ row. not (is_below low row.score)) (rows_at (Set set) rows) ≡ true
-rises_reached_by low set rows h = rising_among (is_at (Set set)) (λ row. not (is_below low row.score)) (λ p q a b l k. below_up low p.score q.score (scores_le set p q a b l) k) (rows_at (Set set) rows) (all_at (Set set) rows) (ordered_filter (is_at (Set set)) rows h)
+pub partitioned_reached_by : (low : Bound) (set : Scored) (rows : List Row) → is_ordered rows ≡ true → is_partitioned (λ row. not (is_below low row.score)) (rows_at (Set set) rows) ≡ true
+partitioned_reached_by low set rows h = rising_among (is_at (Set set)) (λ row. not (is_below low row.score)) (λ p q a b l k. below_up low p.score q.score (scores_le set p q a b l) k) (rows_at (Set set) rows) (all_at (Set set) rows) (ordered_filter (is_at (Set set)) rows h)
 
-pub rises_above_of : (high : Bound) (set : Scored) (rows : List Row) → is_ordered rows ≡ true → rises (λ row. is_above high row.score) (rows_at (Set set) rows) ≡ true
-rises_above_of high set rows h = rising_among (is_at (Set set)) (λ row. is_above high row.score) (λ p q a b l k. above_up high p.score q.score (scores_le set p q a b l) k) (rows_at (Set set) rows) (all_at (Set set) rows) (ordered_filter (is_at (Set set)) rows h)
+pub partitioned_above_of : (high : Bound) (set : Scored) (rows : List Row) → is_ordered rows ≡ true → is_partitioned (λ row. is_above high row.score) (rows_at (Set set) rows) ≡ true
+partitioned_above_of high set rows h = rising_among (is_at (Set set)) (λ row. is_above high row.score) (λ p q a b l k. above_up high p.score q.score (scores_le set p q a b l) k) (rows_at (Set set) rows) (all_at (Set set) rows) (ordered_filter (is_at (Set set)) rows h)
 
 -- ## Edits
 

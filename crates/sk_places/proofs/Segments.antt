@@ -7,7 +7,7 @@ use Rattle.std.proofs.lemmas.Bool.Decides.{nat_tests}
 use Rattle.std.proofs.lemmas.List.{drop-take}
 use Rattle.std.proofs.lemmas.Cmp.{int_cmp_total}
 use Rattle.std.specs.declared.cmp.Ordering.TheVariants.{Equal}
-use Rattle.sk_undo.specs.Rises.{all_pass, rises}
+use Rattle.sk_undo.specs.Partitioned.{all_pass, is_partitioned}
 use Rattle.sk_resp.specs.Spelling.{Bytes}
 use Rattle.sk_cmd.specs.declared.argument.Side.{Side}
 use Rattle.sk_cmd.specs.declared.argument.Side.TheVariants.{Left, Right}
@@ -18,8 +18,9 @@ use Rattle.sk_places.specs.Order.{is_ordered}
 use Rattle.sk_places.specs.Rows.{place_cmp, is_at, is_same, rows_at, row_at_end, row_of, take_row, first_row}
 use Rattle.sk_places.specs.Segments.{IsSegment, StandsAt, is_text}
 use Rattle.sk_places.proofs.Lists.{first_gone, last_gone, first_passing, parted, get_part, last_get, none_before, position_within}
-use Rattle.sk_places.proofs.Order.{same_place, place_total, itself}
-use Rattle.sk_places.proofs.Rising.{rises_reached, rises_passed}
+use Rattle.sk_places.specs.PlaceOrder.{same_place, place_total}
+use Rattle.sk_places.proofs.Order.{itself}
+use Rattle.sk_places.proofs.Rising.{partitioned_reached, partitioned_passed}
 
 module _ {X : Type 0} where
   pub filter_same : (p q : X → Bool) → ((x : X) → p x ≡ q x) → (xs : List X) → filter p xs ≡ filter q xs
@@ -43,11 +44,11 @@ module _ {X : Type 0} where
   none_behind p q other [] h = refl
   none_behind p q other (x ∷ xs) h = grind (arith, other x, h, none_behind p q other xs)
 
-  pub none_left : (p q : X → Bool) → ((x : X) → p x ≡ true → q x ≡ false) → (xs : List X) → rises p xs ≡ true → list_any q (drop (position_or_len p xs) xs) ≡ false
+  pub none_left : (p q : X → Bool) → ((x : X) → p x ≡ true → q x ≡ false) → (xs : List X) → is_partitioned p xs ≡ true → list_any q (drop (position_or_len p xs) xs) ≡ false
   none_left p q other [] h = refl
   none_left p q other (x ∷ xs) h = cases (p x) refl (none_left p q other xs)
     where
-      cases : (b : Bool) → p x ≡ b → (rises p xs ≡ true → list_any q (drop (position_or_len p xs) xs) ≡ false) → list_any q (drop (position_or_len p (x ∷ xs)) (x ∷ xs)) ≡ false
+      cases : (b : Bool) → p x ≡ b → (is_partitioned p xs ≡ true → list_any q (drop (position_or_len p xs) xs) ≡ false) → list_any q (drop (position_or_len p (x ∷ xs)) (x ∷ xs)) ≡ false
       cases true e again = let z : position_or_len p (x ∷ xs) ≡ 0 = grind (arith, e) in ap (λ n. list_any q (drop n (x ∷ xs))) z ∙ none_behind p q other (x ∷ xs) (grind (arith, e, h))
       cases false e again = let z : position_or_len p (x ∷ xs) ≡ suc (position_or_len p xs) = grind (arith, e) in ap (λ n. list_any q (drop n (x ∷ xs))) z ∙ again (grind (arith, e, h))
 
@@ -60,7 +61,7 @@ pub segment : (place : Place) (rows : List Row) (first end : ℕ) → is_ordered
 segment place rows first end h begins ends =
     let reached : Row → Bool = λ row. is_le (place_cmp place row.place) in
     let passed : Row → Bool = λ row. is_lt (place_cmp place row.place) in
-    let s = split reached passed rows (rises_reached place rows h) (rises_passed place rows h) in
+    let s = split reached passed rows (partitioned_reached place rows h) (partitioned_passed place rows h) in
     let less = sooner passed reached (λ row k. grind (arith, k)) rows in
     let order : first ≤ end = omega (arith, less, begins, ends) in
     let same = filter_same (is_at place) (λ row. reached row && not (passed row)) (λ row. grind arith) rows in
@@ -71,7 +72,7 @@ segment place rows first end h begins ends =
       inside = same ∙ s.inside ∙ size ∙ part_range rows first end order;
       others = filter_same (λ row. not (is_at place row)) (λ row. not (reached row && not (passed row))) (λ row. grind arith) rows ∙ s.around ∙ ap₂ (λ a b. take a rows ++ drop b rows) (sym begins) (omega (arith, less, begins, ends));
       front = ap (λ n. list_any (is_at place) (take n rows)) begins ∙ any_less (is_at place) reached (λ row k. grind (arith, k)) (take (position_or_len reached rows) rows) (none_before reached rows);
-      back = ap (λ n. list_any (is_at place) (drop n rows)) ends ∙ none_left passed (is_at place) (λ row k. grind (arith, k)) rows (rises_passed place rows h);
+      back = ap (λ n. list_any (is_at place) (drop n rows)) ends ∙ none_left passed (is_at place) (λ row k. grind (arith, k)) rows (partitioned_passed place rows h);
     }
 
 -- ## Rows that are found
@@ -83,7 +84,7 @@ same_bytes (x ∷ text) = grind (arith, nat_tests, same_bytes text)
 pub same_itself : (row : Row) → is_same row row ≡ true
 same_itself row = let p = itself place_cmp place_total row.place in let s = itself int_cmp int_cmp_total row.score in let t = same_bytes row.text in grind (arith, p, s, t)
 
-passing : (p : Row → Bool) (xs : List Row) (i : ℕ) (x : Row) → slice_get (filter p xs) i ≡ Some x → p x ≡ true
+pub passing : (p : Row → Bool) (xs : List Row) (i : ℕ) (x : Row) → slice_get (filter p xs) i ≡ Some x → p x ≡ true
 passing p [] i x h = cc h
 passing p (y ∷ xs) i x h = cases (p y) refl i h (passing p xs)
   where
@@ -107,7 +108,7 @@ taken_right : (rows : List Row) (at : ℕ) (row : Row) → slice_get rows at ≡
 taken_right rows at row h none = ap (take_row Right row) (parted rows at row h) ∙ last_gone (is_same row) (take at rows) row (drop (suc at) rows) none (same_itself row)
 
 -- what stands at an index of the place
-there : (place : Place) (rows : List Row) (first end i : ℕ) → IsSegment place first end rows → first + i < end → slice_get (rows_at place rows) i ≡ slice_get rows (first + i)
+pub there : (place : Place) (rows : List Row) (first end i : ℕ) → IsSegment place first end rows → first + i < end → slice_get (rows_at place rows) i ≡ slice_get rows (first + i)
 there place rows first end i s h = ap (λ l. slice_get l i) s.inside ∙ get_part rows first end i h
 
 pub length_at : (place : Place) (rows : List Row) (first end : ℕ) → IsSegment place first end rows → length (rows_at place rows) ≡ end - first

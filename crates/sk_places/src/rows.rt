@@ -1,131 +1,99 @@
-// The rows of all places in one list with undo, in the order of places. A place's rows stand together, so where they begin and end is found by
-// halving. Beside the list are the number of bytes of all texts, and the index of the rows by their jobs.
-ghost use Rattle.std.specs.Prelude.{◌≡◌, ◌+◌, ◌^◌, ◌<◌, ◌≤◌, not, true, None, Some, [], IfOk, IsSome, OnErr, OnOk, drop, length, map, option_map, slice_get, take};
-ghost use Rattle.std.specs.List.{position_or_len, remove};
-ghost use Rattle.std.specs.Ordering.{is_le, is_lt};
+// The rows of all places, as one list in the order of places. Beside them are how many rows there are, how many bytes their texts have, and the
+// index of the rows by their jobs.
+ghost use Rattle.std.specs.Prelude.{◌≡◌, ◌+◌, ◌^◌, ◌<◌, ◌≤◌, true, None, Some, [], IfOk, IsSome, OnErr, OnOk, drop, length, map, option_map, slice_get, take};
+ghost use Rattle.std.specs.List.{count_by, position_or_len, remove};
 ghost use Rattle.std.specs.Option.{is_some};
 ghost use Rattle.sk_undo.specs.Balance.{most};
-ghost use Rattle.sk_undo.specs.Moves.{moved};
-ghost use Rattle.sk_undo.specs.Rises.{rises};
-ghost use Rattle.sk_undo.specs.Steps.{begun, closed, committed, edited, undone};
-ghost use Rattle.sk_zset.specs.Bounds.{is_above, is_below};
-ghost use Rattle.sk_places.specs.Lives.{pushed};
+ghost use Rattle.sk_undo.specs.Versions.{begun, closed, committed, edited, undone};
+ghost use Rattle.sk_places.specs.LiveJobs.{all_ended, pushed};
+ghost use Rattle.sk_places.specs.declared.ending.Ending.TheVariants.{Deleted};
 ghost use Rattle.sk_places.specs.Totals.{IsCountable};
-ghost use Rattle.sk_places.specs.Ends.{ended_of};
-ghost use Rattle.sk_cmd.specs.declared.argument.Scored.TheVariants.{Schedule};
+ghost use Rattle.sk_places.specs.Ends.{ended_of, texts_of};
+ghost use Rattle.sk_places.specs.Entries.{as_row, shifted};
+ghost use Rattle.sk_places.specs.RowLists.{listed, rows_in, start_of};
+ghost use Rattle.sk_places.specs.Order.{bytes_of, is_ordered};
+ghost use Rattle.sk_places.specs.Rows.{is_private, next_ident, pair_of, put_row, rows_at, rows_of};
+ghost use Rattle.sk_places.specs.Scores.{HasRange};
 ghost use Rattle.sk_places.specs.declared.row.Place.TheVariants.{Set};
-ghost use Rattle.sk_places.specs.Entries.{as_row, as_rows, rows_in, shifted};
-ghost use Rattle.sk_places.specs.Order.{AreKept, bytes_of, is_beyond, is_ordered};
-ghost use Rattle.sk_places.specs.Rows.{pair_of, place_cmp, put_row, rows_of, stands_before};
-ghost use Rattle.sk_places.specs.Segments.{IsSegment, is_text};
-ghost use Rattle.sk_places.specs.Wanted.{picks};
+ghost use Rattle.sk_zset.specs.Bounds.{is_below};
+ghost use Rattle.sk_places.specs.Segments.{is_text};
+ghost use Rattle.sk_places.specs.RowFilter.{selects};
 
-use crate::copies::{Pairs, Texts};
 use crate::index::{add_job, drop_job, job_of, take_job};
-use crate::row::{Place, Spot};
-use crate::search::{AboveOf, Behind, Beyond, Named, Passed, Reached, ReachedBy};
-use crate::wanted::{Picked, Wanted};
-use crate::{Ending, Lives, Origin};
+use crate::row::{Place, RowKey};
+use crate::row_filter::RowFilter;
+use crate::row_lists::RowLists;
+use crate::{Ending, LiveJobs, Memory, Origin};
+use sk_base::limits::MOST_ROWS;
 use sk_base::{Bound, Score};
 use sk_cmd::{Scored, Side};
 use sk_payload::Payload;
-use sk_resp::{Memory, Word};
-use sk_undo::{UndoList, UndoMultiset};
+use sk_resp::Word;
+use sk_undo::UndoMultiset;
 use sk_zset::ByBytes;
 use std::alloc::Global;
 use std::marker::Model;
+
+/// How many rows there are, and how many bytes their texts have.
+#[derive(Clone, Copy, Drop)]
+pub struct Size {
+    pub rows: usize,
+    pub bytes: u128,
+}
 
 /// At most 2^60 rows in the order of places, each set by score and then by the texts' bytes. Contracts see the list of the rows: what stands now,
 /// and what stood at the begin of an open step.
 #[derive(Drop)]
 pub struct Rows {
     alloc: Global,
-    entries: UndoList<Spot, Payload>,
-    bytes: u128,
+    lists: RowLists,
+    size: Size,
     // At the begin of an open step.
-    bytes_then: u128,
+    size_then: Size,
     index: UndoMultiset<Word>,
 }
 
 impl Model for Rows {
     ghost use Rattle.std.specs.Prelude.{List};
-    ghost use Rattle.sk_undo.specs.Steps.{Steps};
+    ghost use Rattle.sk_undo.specs.Versions.{Versions};
     ghost use Rattle.sk_places.specs.declared.row.Row.{Row};
 
-    ghost Value = { Steps (List Row) };
+    ghost Value = { Versions (List Row) };
 
-    ghost use Rattle.sk_places.specs.Entries.{rows_in};
-    ghost use Rattle.sk_places.specs.Index.{AreSound};
+    ghost use Rattle.sk_places.specs.RowLists.{rows_in};
+    ghost use Rattle.sk_places.specs.Index.{IsSound};
 
-    ghost view = { λ r. rows_in r.entries.list };
+    ghost view = { λ r. rows_in r.lists };
 
-    ghost invariant = { λ r. AreSound (rows_in r.entries.list) r.bytes r.bytes_then r.index.list };
+    ghost invariant = { λ r. IsSound r.lists r.size r.size_then r.index.list };
 }
 
-// Where a new row comes to.
-#[tactic(auto, using(crate::proofs::Entries::position_map))]
-fn place_for(rows: &UndoList<Spot, Payload>, end: Side, spot: &Spot, text: &Word) -> usize
-    requires { is_ordered (as_rows rows.now.list.stands) ≡ true }
-    ensures is { result ≡ position_or_len (λ row. not (stands_before end (as_row (spot.now, text.now)) row)) (as_rows rows.now.list.stands) }
-    ensures within { result ≤ length rows.now.list.stands }
-{
-    rows.first_where(&Behind { end, spot, text })
-}
-
-// Puts a new row in.
-fn put_in(rows: &mut UndoList<Spot, Payload>, spot: Spot, payload: Payload, end: Side)
-    requires ordered { is_ordered (as_rows rows.old.list.stands) ≡ true }
-    requires room { 0 < rows.old.room }
-    ensures { rows_in rows.new.list ≡ edited (put_row end (as_row (spot, payload)) (as_rows rows.old.list.stands)) (rows_in rows.old.list) }
-{
-    let at = place_for(rows, end, &spot, payload.text());
-    rows.insert(at, (spot, payload));
-}
-
-#[tactic(auto, using(crate::proofs::Entries::position_map))]
-fn begin_of(rows: &UndoList<Spot, Payload>, place: &Place) -> usize
-    requires { is_ordered (as_rows rows.now.list.stands) ≡ true }
-    ensures { result ≡ position_or_len (λ row. is_le (place_cmp place.now row.place)) (as_rows rows.now.list.stands) }
-{
-    rows.first_where(&Reached { place })
-}
-
-#[tactic(auto, using(crate::proofs::Entries::position_map))]
-fn end_of(rows: &UndoList<Spot, Payload>, place: &Place) -> usize
-    requires { is_ordered (as_rows rows.now.list.stands) ≡ true }
-    ensures { result ≡ position_or_len (λ row. is_lt (place_cmp place.now row.place)) (as_rows rows.now.list.stands) }
-{
-    rows.first_where(&Passed { place })
-}
-
-// The number of bytes with one more text.
-fn raised(rows: &UndoList<Spot, Payload>, bytes: u128, text: &Word) -> u128
-    requires { AreKept (as_rows rows.now.list.stands) bytes }
-    ensures is { result ≡ bytes + length text.now }
+// The size with one more text.
+fn raised(size: Size, text: &Word) -> Size
+    requires few { size.rows < most }
+    requires small { size.bytes < 2 ^ 127 }
+    ensures rows { result.rows ≡ size.rows + 1 }
+    ensures few { result.rows ≤ most }
+    ensures bytes { result.bytes ≡ size.bytes + length text.now }
     ensures short { length text.now < 2 ^ 64 }
 {
-    let _count = rows.len();
-    bytes + text.bytes().len() as u128
+    Size {
+        rows: size.rows + 1,
+        bytes: size.bytes + text.bytes().len() as u128,
+    }
 }
 
-// The number of bytes without the text at an index.
-fn lowered(rows: &UndoList<Spot, Payload>, bytes: u128, at: usize) -> u128
-    requires kept { AreKept (as_rows rows.now.list.stands) bytes }
-    requires within { at < length rows.now.list.stands }
-    ensures { AreKept (remove (as_rows rows.now.list.stands) at) result }
+// The size without a text.
+fn lowered(size: Size, text: &Word) -> Size
+    requires some { 0 < size.rows }
+    requires enough { length text.now ≤ size.bytes }
+    ensures rows { result.rows + 1 ≡ size.rows }
+    ensures bytes { result.bytes + length text.now ≡ size.bytes }
 {
-    bytes - rows.get(at).1.text().bytes().len() as u128
-}
-
-// Where the row at an index comes to once it is taken out.
-fn place_again(rows: &UndoList<Spot, Payload>, at: usize, spot: &Spot, end: Side) -> usize
-    requires ordered { is_ordered (as_rows rows.now.list.stands) ≡ true }
-    requires within { at < length rows.now.list.stands }
-    ensures is { as_rows (moved at result spot.now rows.now.list.stands) ≡ shifted end at spot.now (as_rows rows.now.list.stands) }
-    ensures within { result < length rows.now.list.stands }
-{
-    let to = place_for(rows, end, spot, rows.get(at).1.text());
-    if at < to { to - 1 } else { to }
+    Size {
+        rows: size.rows - 1,
+        bytes: size.bytes - text.bytes().len() as u128,
+    }
 }
 
 impl Rows {
@@ -133,271 +101,306 @@ impl Rows {
     pub fn new(alloc: Global) -> Rows
         ensures { result ≡ closed [] }
     {
+        let none = Size { rows: 0, bytes: 0 };
         Rows {
             alloc,
-            entries: UndoList::new(alloc),
-            bytes: 0,
-            bytes_then: 0,
+            lists: RowLists::new(alloc),
+            size: none,
+            size_then: none,
             index: UndoMultiset::new(alloc),
         }
     }
 
     pub fn len(&self) -> usize
-        ensures is { result ≡ length self.now.stands }
+        ensures is { result ≡ length self.now.current }
         ensures small { result ≤ most }
-        ensures order { is_ordered self.now.stands ≡ true }
+        ensures order { is_ordered self.now.current ≡ true }
     {
-        self.entries.len()
+        self.size.rows
     }
 
     pub fn is_open(&self) -> bool
-        ensures { result ≡ is_some self.now.stood }
+        ensures { result ≡ is_some self.now.saved }
     {
-        self.entries.is_open()
+        self.lists.is_open()
     }
 
     /// How many bytes the texts of all rows have.
     pub fn byte_count(&self) -> u128
-        ensures { result ≡ bytes_of self.now.stands }
+        ensures { result ≡ bytes_of self.now.current }
     {
-        self.bytes
+        self.size.bytes
     }
 
     /// How many rows name the job. Logarithmic.
     pub fn count_of(&self, jid: &[u8]) -> usize
-        ensures is { result ≡ rows_of jid.now self.now.stands }
+        ensures is { result ≡ rows_of jid.now self.now.current }
         ensures small { result ≤ most }
     {
         self.index.count(&ByBytes { bytes: jid })
     }
 
-    /// The row at an index. Logarithmic.
-    pub fn get(&self, at: usize) -> &(Spot, Payload)
-        requires { at < length self.now.stands }
-        ensures { slice_get self.now.stands at ≡ Some (as_row result.now) }
+    /// How many rows a place has.
+    pub fn len_at(&self, place: &Place) -> usize
+        ensures is { result ≡ length (rows_at place.now self.now.current) }
+        ensures small { result ≤ most }
+        ensures order { is_ordered self.now.current ≡ true }
     {
-        self.entries.get(at)
+        self.lists.len(place)
     }
 
-    /// The index at which a place's rows begin, and that at which they have ended. Logarithmic.
-    pub fn segment(&self, place: &Place) -> (usize, usize)
-        ensures is { IsSegment place.now result.0 result.1 self.now.stands }
-        ensures order { is_ordered self.now.stands ≡ true }
+    /// The row of a place at an index.
+    pub fn get(&self, place: &Place, at: usize) -> (Score, &Payload)
+        requires { at < length (rows_at place.now self.now.current) }
+        ensures own { slice_get (rows_at place.now self.now.current) at ≡ Some (listed place.now (result.0, result.1.now)) }
+        ensures there { slice_get self.now.current (start_of place.now self.now.current + at) ≡ Some (listed place.now (result.0, result.1.now)) }
     {
-        (begin_of(&self.entries, place), end_of(&self.entries, place))
+        self.lists.get(place, at)
     }
 
-    /// The index of the first row of a text, of those from the index `first` to the one before `end`; `end` where none is of it. Looks at these
-    /// rows one after another.
-    pub fn position_of(&self, first: usize, end: usize, text: &[u8]) -> usize
-        requires order { first ≤ end }
-        requires within { end ≤ length self.now.stands }
-        ensures is { result ≡ first + position_or_len (is_text text.now) (drop first (take end self.now.stands)) }
-        ensures within { result ≤ end }
+    /// The index at a place of the first row of a text, or how many rows it has. Looks at its rows one after another.
+    pub fn position_of(&self, place: &Place, text: &[u8]) -> usize
+        ensures { result ≡ position_or_len (is_text text.now) (rows_at place.now self.now.current) }
     {
-        self.entries.position_in(first, end, &Named { text })
+        self.lists.position_of(place, text)
     }
 
-    /// The index of the first row of a place that is wanted, of those from the index `first` to the one before `end`; `end` where none is. Looks at
+    /// The index at a place of the first row that is wanted, of those from the index `first` to the one before `end`; `end` where none is. Looks at
     /// these rows one after another.
-    pub fn position_wanted(&self, first: usize, end: usize, place: &Place, wanted: &Wanted) -> usize
-        requires order { first ≤ end }
-        requires within { end ≤ length self.now.stands }
-        ensures is { result ≡ first + position_or_len (picks place.now wanted.now) (drop first (take end self.now.stands)) }
-        ensures within { result ≤ end }
-    {
-        self.entries
-            .position_in(first, end, &Picked { place, wanted })
-    }
-
-    /// Copies of the texts of the rows from the index `first` to the one before `end`.
-    pub fn texts(&self, alloc: Global, first: usize, end: usize) -> Result<Vec<Word>, Memory>
-        ensures { IfOk result (λ texts. texts.items ≡ map (λ row. row.text) (drop first (take end self.now.stands))) }
-    {
-        let mut copies = Texts {
-            texts: Vec::new(alloc),
-        };
-        self.entries.walk(first, end, &mut copies)?;
-        Ok(copies.texts)
-    }
-
-    /// The same, as pairs of the score and the text.
-    pub fn pairs(
+    pub fn position_wanted(
         &self,
-        alloc: Global,
+        place: &Place,
         first: usize,
         end: usize,
-    ) -> Result<Vec<(Score, Word)>, Memory>
-        ensures { IfOk result (λ pairs. pairs.items ≡ map pair_of (drop first (take end self.now.stands))) }
-    {
-        let mut copies = Pairs {
-            pairs: Vec::new(alloc),
-        };
-        self.entries.walk(first, end, &mut copies)?;
-        Ok(copies.pairs)
-    }
-
-    /// The index of the first row that a range of scores reaches which begins at the bound, of those from the index `first` to the one before
-    /// `end`, which stand by score; `end` where it reaches none. Logarithmic.
-    pub fn first_reached(&self, first: usize, end: usize, low: Bound) -> usize
+        wanted: &RowFilter,
+    ) -> usize
         requires order { first ≤ end }
-        requires within { end ≤ length self.now.stands }
-        requires rises { rises (λ row. not (is_below low row.score)) (drop first (take end self.now.stands)) ≡ true }
-        ensures is { result ≡ first + position_or_len (λ row. not (is_below low row.score)) (drop first (take end self.now.stands)) }
+        requires within { end ≤ length (rows_at place.now self.now.current) }
+        ensures is { result ≡ first + position_or_len (selects place.now wanted.now) (drop first (take end (rows_at place.now self.now.current))) }
         ensures within { result ≤ end }
     {
-        self.entries.first_in(first, end, &ReachedBy { low })
+        self.lists.position_wanted(place, first, end, wanted)
     }
 
-    /// The index of the first row that is above a range of scores which ends at the bound, in the same way.
-    pub fn first_above(&self, first: usize, end: usize, high: Bound) -> usize
-        requires order { first ≤ end }
-        requires within { end ≤ length self.now.stands }
-        requires rises { rises (λ row. is_above high row.score) (drop first (take end self.now.stands)) ≡ true }
-        ensures is { result ≡ first + position_or_len (λ row. is_above high row.score) (drop first (take end self.now.stands)) }
-        ensures within { result ≤ end }
+    /// Copies of the texts of a place's rows, from the index `start` to the one before `end`.
+    pub fn texts(
+        &self,
+        alloc: Global,
+        place: &Place,
+        start: usize,
+        end: usize,
+    ) -> Result<Vec<Word>, Memory>
+        ensures { IfOk result (λ texts. texts.items ≡ map (λ row. row.text) (drop start (take end (rows_at place.now self.now.current)))) }
     {
-        self.entries.first_in(first, end, &AboveOf { high })
+        self.lists.texts(alloc, place, start, end)
     }
 
-    /// The index of the first row that doesn't stand before the private list of an identity behind this one. Logarithmic.
-    pub fn first_past(&self, after: Option<&Word>) -> usize
-        ensures is { result ≡ position_or_len (λ row. is_beyond (option_map (λ word. word.now) after.entry) row.place) self.now.stands }
-        ensures within { result ≤ length self.now.stands }
-    {
-        self.entries.first_where(&Beyond { after })
-    }
-
-    /// The index of the first row of a set. Logarithmic.
-    pub fn first_set(&self) -> usize
-        ensures is { result ≡ position_or_len (λ row. is_le (place_cmp (Set Schedule) row.place)) self.now.stands }
-        ensures order { is_ordered self.now.stands ≡ true }
-    {
-        begin_of(&self.entries, &Place::Set(Scored::Schedule))
-    }
-
-    /// A row is pushed to an end of its place, and that counts in `lives`: its job is fresh, or isn't.
+    /// A row is pushed to an end of its place, and that counts in `jobs`: its job is fresh, or isn't.
     pub fn push(
         &mut self,
-        spot: Spot,
+        row_key: RowKey,
         payload: Payload,
         end: Side,
-        lives: &mut Lives,
+        jobs: &mut LiveJobs,
         from: Origin,
         fresh: bool,
     ) -> Result<(), Memory>
-        requires { IsCountable from lives.old.stands.totals }
-        ensures ok { OnOk result (self.new ≡ edited (put_row end (as_row (spot, payload)) self.old.stands) self.old) }
-        ensures lives { OnOk result (lives.new ≡ edited (pushed from (λ jid. fresh) payload lives.old.stands) lives.old) }
+        requires { IsCountable from jobs.old.current.totals }
+        ensures ok { OnOk result (self.new ≡ edited (put_row end (as_row (row_key, payload)) self.old.current) self.old) }
+        ensures jobs { OnOk result (jobs.new ≡ edited (pushed from (λ jid. fresh) payload jobs.old.current) jobs.old) }
         ensures err { OnErr result (self.new ≡ self.old) }
-        ensures lives_err { OnErr result (lives.new ≡ lives.old) }
+        ensures jobs_err { OnErr result (jobs.new ≡ jobs.old) }
     {
+        if self.size.rows == MOST_ROWS {
+            return Err(Memory);
+        }
         let job = job_of(self.alloc, &payload)?;
-        self.entries.reserve(1)?;
+        self.lists.prepare(&row_key.place, 1)?;
         self.index.reserve(1)?;
-        lives.push(&payload, from, fresh)?;
-        self.bytes = raised(&self.entries, self.bytes, payload.text());
-        put_in(&mut self.entries, spot, payload, end);
+        jobs.push(&payload, from, fresh)?;
+        self.size = raised(self.size, payload.text());
+        self.lists.put(row_key, payload, end);
         add_job(&mut self.index, job);
         Ok(())
     }
 
     /// A row comes to an end of its place.
-    pub fn put_back(&mut self, spot: Spot, payload: Payload, end: Side) -> Result<(), Memory>
-        ensures ok { OnOk result (self.new ≡ edited (put_row end (as_row (spot, payload)) self.old.stands) self.old) }
+    pub fn put_back(&mut self, row_key: RowKey, payload: Payload, end: Side) -> Result<(), Memory>
+        ensures ok { OnOk result (self.new ≡ edited (put_row end (as_row (row_key, payload)) self.old.current) self.old) }
         ensures err { OnErr result (self.new ≡ self.old) }
     {
+        if self.size.rows == MOST_ROWS {
+            return Err(Memory);
+        }
         let job = job_of(self.alloc, &payload)?;
-        self.entries.reserve(1)?;
+        self.lists.prepare(&row_key.place, 1)?;
         self.index.reserve(1)?;
-        self.bytes = raised(&self.entries, self.bytes, payload.text());
-        put_in(&mut self.entries, spot, payload, end);
+        self.size = raised(self.size, payload.text());
+        self.lists.put(row_key, payload, end);
         add_job(&mut self.index, job);
         Ok(())
     }
 
-    /// Moves the row at an index to an end of another place, or of the same. It isn't copied.
-    pub fn shift(&mut self, at: usize, spot: Spot, end: Side) -> Result<(), Memory>
-        requires { at < length self.old.stands }
-        ensures ok { OnOk result (self.new ≡ edited (shifted end at spot self.old.stands) self.old) }
+    /// Moves the row of a place at an index to an end of another place, or of the same. From a queue or a private list to another it isn't copied.
+    pub fn shift(
+        &mut self,
+        from: &Place,
+        at: usize,
+        row_key: RowKey,
+        end: Side,
+    ) -> Result<(), Memory>
+        requires { at < length (rows_at from.now self.old.current) }
+        ensures ok { OnOk result (self.new ≡ edited (shifted end (start_of from.now self.old.current + at) row_key self.old.current) self.old) }
         ensures err { OnErr result (self.new ≡ self.old) }
     {
-        self.entries.reserve(1)?;
-        let to = place_again(&self.entries, at, &spot, end);
-        self.entries.shift(at, to, spot);
+        self.lists.shift(from, at, row_key, end)?;
         Ok(())
     }
 
-    /// Takes the row at an index out. An open step keeps it until it is closed.
-    pub fn drop_out(&mut self, at: usize) -> Result<(), Memory>
-        requires { at < length self.old.stands }
-        ensures ok { OnOk result (self.new ≡ edited (remove self.old.stands at) self.old) }
+    /// Takes the row of a place at an index out. An open step keeps it until it is closed.
+    pub fn drop_out(&mut self, place: &Place, at: usize) -> Result<(), Memory>
+        requires { at < length (rows_at place.now self.old.current) }
+        ensures ok { OnOk result (self.new ≡ edited (remove self.old.current (start_of place.now self.old.current + at)) self.old) }
         ensures err { OnErr result (self.new ≡ self.old) }
     {
-        self.entries.reserve(1)?;
+        self.lists.reserve()?;
         self.index.reserve(1)?;
-        drop_job(&mut self.index, &self.entries.get(at).1);
-        self.bytes = lowered(&self.entries, self.bytes, at);
-        self.entries.drop_out(at);
+        let payload = self.lists.get(place, at).1;
+        drop_job(&mut self.index, payload);
+        self.size = lowered(self.size, payload.text());
+        self.lists.drop_out(place, at);
         Ok(())
     }
 
-    /// The same, and in `lives` the row's job ends in this way.
-    pub fn drop_ended(&mut self, at: usize, lives: &mut Lives, how: Ending) -> Result<(), Memory>
-        requires { at < length self.old.stands }
-        ensures ok { OnOk result (self.new ≡ edited (remove self.old.stands at) self.old) }
-        ensures lives { OnOk result (lives.new ≡ edited (ended_of how (slice_get self.old.stands at) lives.old.stands) lives.old) }
+    /// The same, and in `jobs` the row's job ends in this way.
+    pub fn drop_ended(
+        &mut self,
+        place: &Place,
+        at: usize,
+        jobs: &mut LiveJobs,
+        how: Ending,
+    ) -> Result<(), Memory>
+        requires { at < length (rows_at place.now self.old.current) }
+        ensures ok { OnOk result (self.new ≡ edited (remove self.old.current (start_of place.now self.old.current + at)) self.old) }
+        ensures jobs { OnOk result (jobs.new ≡ edited (ended_of how (slice_get self.old.current (start_of place.now self.old.current + at)) jobs.old.current) jobs.old) }
         ensures err { OnErr result (self.new ≡ self.old) }
-        ensures lives_err { OnErr result (lives.new ≡ lives.old) }
+        ensures jobs_err { OnErr result (jobs.new ≡ jobs.old) }
     {
-        self.entries.reserve(1)?;
+        self.lists.reserve()?;
         self.index.reserve(1)?;
-        lives.end_in_step(&self.entries.get(at).1, how)?;
-        drop_job(&mut self.index, &self.entries.get(at).1);
-        self.bytes = lowered(&self.entries, self.bytes, at);
-        self.entries.drop_out(at);
+        let payload = self.lists.get(place, at).1;
+        jobs.end_in_step(payload, how)?;
+        drop_job(&mut self.index, payload);
+        self.size = lowered(self.size, payload.text());
+        self.lists.drop_out(place, at);
         Ok(())
     }
 
-    /// Takes the row at an index out and gives it to the caller. Takes no memory.
-    pub fn take(&mut self, at: usize) -> (Spot, Payload)
-        requires within { at < length self.old.stands }
-        requires closed { self.old.stood ≡ None }
-        ensures row { slice_get self.old.stands at ≡ Some (as_row result) }
-        ensures rest { self.new ≡ edited (remove self.old.stands at) self.old }
+    /// Takes the row of a place at an index out and gives it to the caller. Takes no memory.
+    pub fn take(&mut self, place: &Place, at: usize) -> (Score, Payload)
+        requires within { at < length (rows_at place.now self.old.current) }
+        requires closed { self.old.saved ≡ None }
+        ensures row { slice_get (rows_at place.now self.old.current) at ≡ Some (listed place.now result) }
+        ensures there { slice_get self.old.current (start_of place.now self.old.current + at) ≡ Some (listed place.now result) }
+        ensures index { start_of place.now self.old.current + at < length self.old.current }
+        ensures start { start_of place.now self.new.current ≡ start_of place.now self.old.current }
+        ensures fewer { length (rows_at place.now self.new.current) + 1 ≡ length (rows_at place.now self.old.current) }
+        ensures rest { self.new ≡ edited (remove self.old.current (start_of place.now self.old.current + at)) self.old }
     {
-        self.bytes = lowered(&self.entries, self.bytes, at);
-        let row = self.entries.take(at);
+        let row = self.lists.take(place, at);
+        self.size = lowered(self.size, row.1.text());
         take_job(&mut self.index, &row.1);
         row
     }
 
     /// Opens a step. Takes no memory.
     pub fn begin(&mut self)
-        requires { self.old.stood ≡ None }
+        requires { self.old.saved ≡ None }
         ensures { self.new ≡ begun self.old }
     {
-        self.bytes_then = self.bytes;
-        self.entries.begin();
+        self.size_then = self.size;
+        self.lists.begin();
         self.index.begin();
     }
 
     /// Closes the step, and what stood at its begin stands again. Takes no memory.
     pub fn undo(&mut self)
-        requires { IsSome self.old.stood }
+        requires { IsSome self.old.saved }
         ensures { self.new ≡ undone self.old }
     {
-        self.bytes = self.bytes_then;
-        self.entries.undo();
+        self.size = self.size_then;
+        self.lists.undo();
         self.index.undo();
     }
 
     /// Closes the step, and what stands now stays. Takes no memory.
     pub fn commit(&mut self)
-        requires { IsSome self.old.stood }
+        requires { IsSome self.old.saved }
         ensures { self.new ≡ committed self.old }
     {
-        self.entries.commit();
+        self.lists.commit();
         self.index.commit();
+    }
+}
+
+impl Rows {
+    /// Copies of a set's pairs of a score and a text, from the index `start` to the one before `end`.
+    pub fn pairs(
+        &self,
+        alloc: Global,
+        set: Scored,
+        start: usize,
+        end: usize,
+    ) -> Result<Vec<(Score, Word)>, Memory>
+        ensures { IfOk result (λ pairs. pairs.items ≡ map pair_of (drop start (take end (rows_at (Set set) self.now.current)))) }
+    {
+        self.lists.pairs(alloc, set, start, end)
+    }
+
+    /// How many rows of a set are below a range of scores that begins at the bound. Logarithmic.
+    pub fn count_below(&self, set: Scored, low: Bound) -> usize
+        ensures { result ≡ count_by (λ row. is_below low row.score) (rows_at (Set set) self.now.current) }
+    {
+        self.lists.count_below(set, low)
+    }
+
+    /// The indexes in a set at which a range of scores begins and has ended. Logarithmic.
+    pub fn range_of(&self, set: Scored, low: Bound, high: Bound) -> (usize, usize)
+        ensures { HasRange low high result.0 result.1 (rows_at (Set set) self.now.current) }
+    {
+        self.lists.range_of(set, low, high)
+    }
+}
+
+impl Rows {
+    /// How many rows are in private lists. Looks at the places that have a deque.
+    pub fn private_count(&self) -> usize
+        ensures is { result ≡ count_by is_private self.now.current }
+        ensures small { result ≤ most }
+    {
+        self.lists.private_count()
+    }
+
+    /// The first identity, by its bytes, behind this one, or of all, that has a private list with a row. Logarithmic, but for private lists that are empty.
+    pub fn next_ident(&self, after: Option<&Word>) -> Option<&Word>
+        ensures is { option_map (λ ident. ident.now) result ≡ next_ident (option_map (λ word. word.now) after.entry) self.now.current }
+        ensures order { is_ordered self.now.current ≡ true }
+    {
+        self.lists.next_ident(after)
+    }
+
+    /// Takes all rows out, and gives their memory back. Their jobs end, if they are live.
+    pub fn clear(&mut self, jobs: &mut LiveJobs)
+        requires closed { self.old.saved ≡ None }
+        requires jobs { jobs.old.saved ≡ None }
+        ensures rest { self.new ≡ edited [] self.old }
+        ensures jobs { jobs.new ≡ edited (all_ended Deleted (texts_of self.old.current) jobs.old.current) jobs.old }
+    {
+        self.lists.end_all(jobs);
+        let none = Size { rows: 0, bytes: 0 };
+        self.size = none;
+        self.size_then = none;
+        self.lists = RowLists::new(self.alloc);
+        self.index = UndoMultiset::new(self.alloc);
     }
 }

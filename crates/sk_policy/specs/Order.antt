@@ -3,6 +3,7 @@ use Rattle.std.specs.Prelude.{◌≡◌, ◌≤◌, ◌<◌, ◌⊎◌, ◌+◌,
 use Rattle.std.specs.List.{range_with_len, flat_map, list_any}
 use Rattle.std.specs.Option.{option_map_or}
 use Rattle.sk_base.specs.Name.{IsName}
+use Rattle.sk_base.specs.declared.limits.TheConstants.{LONGEST_NAME, MOST_QUEUES, MOST_WEIGHT}
 use Rattle.sk_resp.specs.Spelling.{Bytes}
 use Rattle.sk_policy.specs.declared.order_fault.OrderFault.{OrderFault}
 use Rattle.sk_policy.specs.declared.order_fault.OrderFault.TheVariants as fault
@@ -35,11 +36,11 @@ stands_before order place = list_any (bytes_eq (name_at order place)) (take plac
 
 -- Nothing is wrong at this place.
 pub record IsQueue (order : Order) (place : ℕ) : Type 0 where
-  pub room : place < 100
-  pub name : IsName 255 (name_at order place)
+  pub room : place < MOST_QUEUES
+  pub name : IsName LONGEST_NAME (name_at order place)
   pub new : stands_before order place ≡ false
   pub some : 1 ≤ weight_at order place
-  pub most : weight_at order place ≤ 100
+  pub most : weight_at order place ≤ MOST_WEIGHT
 
 -- There is such a place, and nothing is wrong before it.
 pub record IsFirst (order : Order) (place : ℕ) : Type 0 where
@@ -53,10 +54,10 @@ pub record IsOrder (order : Order) : Type 0 where
 -- the first wrong place, and what is wrong there
 abbrev pub IsFault : Order → OrderFault → Type 0
 IsFault order fault.Empty = order.names ≡ []
-IsFault order (fault.Name i) = IsFirst order i × (i < 100 → IsName 255 (name_at order i) → ⊥)
-IsFault order (fault.Repeated i) = IsFirst order i × (i < 100) × IsName 255 (name_at order i) × (stands_before order i ≡ true)
-IsFault order (fault.Weight i) = IsFirst order i × (i < 100) × IsName 255 (name_at order i) × (stands_before order i ≡ false)
-    × ((weight_at order i ≡ 0) ⊎ (100 < weight_at order i))
+IsFault order (fault.Name i) = IsFirst order i × (i < MOST_QUEUES → IsName LONGEST_NAME (name_at order i) → ⊥)
+IsFault order (fault.Repeated i) = IsFirst order i × (i < MOST_QUEUES) × IsName LONGEST_NAME (name_at order i) × (stands_before order i ≡ true)
+IsFault order (fault.Weight i) = IsFirst order i × (i < MOST_QUEUES) × IsName LONGEST_NAME (name_at order i) × (stands_before order i ≡ false)
+    × ((weight_at order i ≡ 0) ⊎ (MOST_WEIGHT < weight_at order i))
 IsFault order fault.Memory = Unit {0}
 
 -- ## Turns

@@ -3,6 +3,7 @@ ghost use Rattle.std.specs.Prelude.{◌≡◌, ◌≤◌, pos};
 ghost use Rattle.sk_policy.specs.Decision.{decision, first_failure as first_failure_in, is_exhausted as is_exhausted_in, retry_score as score_in};
 
 use sk_base::Score;
+use sk_base::limits::{DEFAULT_RETRIES, LAST_MOMENT, LONGEST_DELAY};
 use sk_payload::{Head, Retry};
 
 /// What becomes of a job whose run failed.
@@ -18,11 +19,11 @@ pub enum Decision {
 
 fn retry_score(now: u64, jitter: u64, delay: u64, count: u32) -> Score
     requires jitter { jitter ≤ 9 }
-    requires delay { delay ≤ 1000000000 }
+    requires delay { delay ≤ LONGEST_DELAY }
     ensures { result ≡ pos (score_in now jitter delay count) }
 {
-    let wait = (delay + jitter * (u64::from(count) + 1)).min(1_000_000_000);
-    let moment = now.min(253_370_764_799_999);
+    let wait = (delay + jitter * (u64::from(count) + 1)).min(LONGEST_DELAY);
+    let moment = now.min(LAST_MOMENT);
     Score::of_micros((moment * 1000 + wait * 1_000_000) as i64)
 }
 
@@ -58,12 +59,12 @@ fn is_exhausted(head: &Head, most: u32, now: u64) -> bool
 /// `delay` is in seconds: what the class's rule answers on the generation. Takes no memory.
 pub fn decide(head: &Head, now: u64, jitter: u64, delay: u64) -> Decision
     requires jitter { jitter ≤ 9 }
-    requires delay { delay ≤ 1000000000 }
+    requires delay { delay ≤ LONGEST_DELAY }
     ensures { result ≡ decision head.now now jitter delay }
 {
     let most = match head.retry {
         Retry::Never => return Decision::Discard,
-        Retry::Default => 25,
+        Retry::Default => DEFAULT_RETRIES,
         Retry::Count(most) => most,
     };
     if !is_exhausted(head, most, now) {

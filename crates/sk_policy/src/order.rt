@@ -7,19 +7,11 @@ ghost use Rattle.sk_policy.specs.Order.{IsFault, IsOrder, IsQueue, Order, draws,
 
 use crate::Memory;
 use crate::order_fault::OrderFault;
+use sk_base::limits::{LONGEST_NAME, MOST_QUEUES, MOST_WEIGHT};
 use sk_base::{Dice, is_name};
 use sk_resp::Text;
 use std::alloc::Global;
 use std::marker::Model;
-
-/// The most queues that an order has.
-const MOST_QUEUES: usize = 100;
-
-/// The greatest weight of a queue.
-const MOST_WEIGHT: u8 = 100;
-
-/// The longest name of a queue, in bytes.
-const LONGEST_NAME: usize = 255;
 
 /// The queues of a worker, 1 to 100, and how a turn orders them. Contracts see the names and the weights, and none where the order is strict.
 #[derive(Drop)]

@@ -5,6 +5,7 @@ ghost use Rattle.sk_base.specs.Name.{is_name};
 ghost use Rattle.sk_payload.specs.Draft.{draft_text};
 ghost use Rattle.sk_poller.specs.Loop.{draft_of, is_loop};
 ghost use Rattle.sk_poller.specs.Request.{beat_words, due_words, lead_words, rescue_words};
+ghost use Rattle.sk_base.specs.declared.limits.TheConstants.{LONGEST_ID};
 
 use crate::{Loop, Memory};
 use sk_link::words_of;
@@ -49,7 +50,7 @@ pub(crate) fn lead_request(alloc: Global, ident: &Text) -> Result<Words, Memory>
 // The job of a loop, as it is pushed.
 fn job_of(alloc: Global, job: &Loop, jid: Text, now: u64) -> Result<Payload, Memory>
     requires names { is_loop job.now ≡ true }
-    requires id { is_name 64 jid ≡ true }
+    requires id { is_name LONGEST_ID jid ≡ true }
     ensures { IfOk result (λ payload. payload ≡ draft_text (draft_of job.now jid now)) }
 {
     let draft = JobDraft {
@@ -86,7 +87,7 @@ pub(crate) fn cron_request(
     now: u64,
 ) -> Result<Words, Memory>
     requires names { is_loop job.now ≡ true }
-    requires id { is_name 64 jid ≡ true }
+    requires id { is_name LONGEST_ID jid ≡ true }
     ensures { IfOk result (λ words.
         words ≡ codes "SK.CRON" ∷ ident.now ∷ job.now.name ∷ decimal slot ∷ draft_text (draft_of job.now jid now) ∷ []) }
 {

@@ -1,5 +1,6 @@
 -- What the reader keeps of an item that isn't whole yet, stage by stage. No public contract speaks of it.
-use Rattle.std.specs.Prelude.{◌≡◌, ◌≢◌, ◌<◌, ◌≤◌, ◌+◌, ◌^◌, ℕ, List, [], ◌∷◌, ◌++◌, length, Option, Some, None}
+use Rattle.std.specs.Prelude.{◌≡◌, ◌≢◌, ◌<◌, ◌≤◌, ◌+◌, ℕ, List, [], ◌∷◌, ◌++◌, length, Option, Some, None}
+use Rattle.sk_base.specs.declared.limits.TheConstants.{LONGEST_COMMAND, LONGEST_WORD}
 use Rattle.sk_resp.specs.Spelling.{Bytes, star, dollar, cr, header, opened}
 use Rattle.sk_resp.specs.Request.{Command, bulks, IsLine, IsWanting, IsInline, IsItem, IsFault}
 use Rattle.sk_resp.specs.declared.wire_fault.WireFault.{WireFault}
@@ -34,8 +35,8 @@ seen s = seen_at s.stage s
 -- a word that isn't whole, or that no CRLF follows yet
 pub record IsOpenWord (need : ℕ) (word : Bytes) (total : ℕ) : Type 0 where
   pub fits : length word ≤ need
-  pub short : need ≤ 2 ^ 20
-  pub small : total + need ≤ 2 ^ 24
+  pub short : need ≤ LONGEST_WORD
+  pub small : total + need ≤ LONGEST_COMMAND
 
 -- what holds of the state at that stage
 abbrev pub IsOpenAt : Stage → State → Type 0

@@ -3,6 +3,7 @@
 use Rattle.std.specs.Prelude.{◌≡◌, ◌<◌, ◌≤◌, ◌+◌, ◌-◌, ◌*◌, ◌^◌, ℕ, suc, List, [], ◌∷◌, ◌++◌, length, map, reverse, Option, Some, None, Bool, true, false, cond, eqb, ltb, leb, codes}
 use Rattle.std.specs.Fmt.{decimal}
 use Rattle.std.specs.List.{AllByRecursion}
+use Rattle.sk_base.specs.declared.limits.TheConstants.{DEEPEST_REPLY, LONGEST_BULK, LONGEST_REPLY, LONGEST_TEXT, MOST_ELEMENTS}
 use Rattle.sk_resp.specs.Spelling.{Bytes, star, dollar, plus, minus, colon, cr, lf, line, header, opened, bulk, joined}
 use Rattle.sk_resp.specs.Reply.{wire, array_text}
 use Rattle.sk_resp.specs.ReplyStream.{IsLineText, IsNested, IsRead}
@@ -42,16 +43,16 @@ settled ((count, texts) ∷ stack) text = cond (ltb (suc (length texts)) count) 
 abbrev pub most : Kind → Bool → ℕ
 most kind.Int false = 2 ^ 63 - 1
 most kind.Int true = 2 ^ 63
-most kind.Bulk false = 2 ^ 31
+most kind.Bulk false = LONGEST_BULK
 most kind.Bulk true = 1
-most kind.Array false = 2 ^ 31
+most kind.Array false = MOST_ELEMENTS
 most kind.Array true = 1
 
 -- an array that would be the ninth
 abbrev pub is_full : Kind → ℕ → Bool
 is_full kind.Int depth = false
 is_full kind.Bulk depth = false
-is_full kind.Array depth = leb 8 depth
+is_full kind.Array depth = leb DEEPEST_REPLY depth
 
 abbrev pub digit_of : ℕ → Option ℕ
 digit_of b = cond (ltb b 48) None (cond (ltb 57 b) None (Some (b - 48)))
@@ -68,7 +69,7 @@ abbrev pub lines : Stage → Stage → Bytes → Levels → ℕ → Out
 lines stay end line stack b =
     cond (eqb b cr) (gives [] (at end line stack))
     (cond (eqb b lf) fails
-    (cond (leb (2 ^ 16) (length line)) fails (gives [] (at stay (line ++ b ∷ []) stack))))
+    (cond (leb LONGEST_TEXT (length line)) fails (gives [] (at stay (line ++ b ∷ []) stack))))
 
 abbrev pub ends : Levels → Bytes → ℕ → Out
 ends stack text b = cond (eqb b lf) (settled stack text) fails
@@ -208,7 +209,7 @@ weight m = length (seen m) + needs m
 
 -- a reply has at most 4,294,967,296 bytes
 abbrev pub fit : Out → Out
-fit (gives texts m) = cond (leb (weight m) (2 ^ 32)) (gives texts m) fails
+fit (gives texts m) = cond (leb (weight m) LONGEST_REPLY) (gives texts m) fails
 fit fails = fails
 
 abbrev pub go_within : Machine → ℕ → Out
@@ -261,13 +262,13 @@ IsOpenAt (stage.Sign k) text depth = Unit {0}
 IsOpenAt (stage.Minus k) text depth = Unit {0}
 IsOpenAt (stage.Digits k neg n) text depth = IsNumber k neg n × HasRoom k neg depth
 IsOpenAt (stage.DigitsEnd k neg n) text depth = IsNumber k neg n × HasRoom k neg depth
-IsOpenAt (stage.Body need) text depth = (length text ≤ need) × (need ≤ 2 ^ 31)
-IsOpenAt stage.BodyEnd text depth = length text ≤ 2 ^ 31
+IsOpenAt (stage.Body need) text depth = (length text ≤ need) × (need ≤ LONGEST_BULK)
+IsOpenAt stage.BodyEnd text depth = length text ≤ LONGEST_BULK
 
 -- the levels, in which arrays so many deep may stand
 abbrev pub AreOpen : ℕ → Levels → Type 0
 AreOpen depth [] = depth ≡ 8
-AreOpen depth ((count, texts) ∷ stack) = (length texts < count) × (count ≤ 2 ^ 31) × AllByRecursion (IsNested depth) texts × AreOpen (suc depth) stack
+AreOpen depth ((count, texts) ∷ stack) = (length texts < count) × (count ≤ MOST_ELEMENTS) × AllByRecursion (IsNested depth) texts × AreOpen (suc depth) stack
 
 abbrev pub IsOpen : Machine → Type 0
 IsOpen m = IsOpenAt m.stage m.line (length m.stack) × ((depth : ℕ) × AreOpen depth m.stack)
@@ -275,7 +276,7 @@ IsOpen m = IsOpenAt m.stage m.line (length m.stack) × ((depth : ℕ) × AreOpen
 -- and the reply can end within its limit
 pub record IsOpenWithin (m : Machine) : Type 0 where
   pub is_open : IsOpen m
-  pub small : weight m ≤ 2 ^ 32
+  pub small : weight m ≤ LONGEST_REPLY
 
 -- a state that its own bytes lead to
 pub record IsReached (m : Machine) : Type 0 where
@@ -325,7 +326,7 @@ IsSized s = s.size ≡ length (seen (says s)) + owed (levels s.stack.items)
 -- The bytes have not been counted, but the elements that came or were opened have.
 pub record IsCounted (old new : State) : Type 0 where
   pub same : new.size + owed (levels old.stack.items) ≡ old.size + owed (levels new.stack.items)
-  pub small : new.size ≤ 2 ^ 32
+  pub small : new.size ≤ LONGEST_REPLY
 
 -- What a byte made of the state: it has counted, or it gave a reply and is before the next.
 abbrev pub Made : State → State → Option Reply → Type 0

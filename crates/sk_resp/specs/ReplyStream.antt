@@ -1,7 +1,8 @@
 -- How a stream of bytes is read as replies (RESP2, "RESP protocol description"), with this reader's limits. Contracts see replies as their texts.
-use Rattle.std.specs.Prelude.{◌≡◌, ◌≢◌, ◌<◌, ◌≤◌, ◌^◌, ◌⊎◌, ℕ, ℤ, zero, suc, List, [], ◌∷◌, ◌++◌, length, codes, Option}
+use Rattle.std.specs.Prelude.{◌≡◌, ◌≢◌, ◌<◌, ◌≤◌, ◌⊎◌, ℕ, ℤ, zero, suc, List, [], ◌∷◌, ◌++◌, length, codes, Option}
 use Rattle.std.specs.List.{AllByRecursion}
 use Rattle.std.specs.Fmt.{signed_decimal}
+use Rattle.sk_base.specs.declared.limits.TheConstants.{DEEPEST_REPLY, LONGEST_BULK, LONGEST_REPLY, LONGEST_TEXT, MOST_ELEMENTS}
 use Rattle.sk_resp.specs.Spelling.{Bytes, plus, minus, colon, cr, lf, line, bulk, joined}
 use Rattle.sk_resp.specs.Number.{IsI64}
 use Rattle.sk_resp.specs.Reply.{array_text, wire}
@@ -15,26 +16,26 @@ use Rattle.sk_resp.specs.declared.reply.fault.ReplyFault.TheVariants.{Memory}
 -- what may stand on the line of a simple or an error text: neither CR nor LF, and at most 65,536 bytes
 pub record IsLineText (text : Bytes) : Type 0 where
   pub plain : AllByRecursion (λ b. (b ≢ cr) × (b ≢ lf)) text
-  pub short : length text ≤ 2 ^ 16
+  pub short : length text ≤ LONGEST_TEXT
 
 -- the replies that are no arrays: integers of 64 bits, bulk strings of at most 2,147,483,648 bytes
 pub data IsFlat (text : Bytes) : Type 0 where
   simple_text : (word : Bytes) → IsLineText word → text ≡ line (plus ∷ word) → IsFlat text
   error_text : (word : Bytes) → IsLineText word → text ≡ line (minus ∷ word) → IsFlat text
   int_text : (z : ℤ) → IsI64 z → text ≡ line (colon ∷ signed_decimal z) → IsFlat text
-  bulk_text : (word : Bytes) → length word ≤ 2 ^ 31 → text ≡ bulk word → IsFlat text
+  bulk_text : (word : Bytes) → length word ≤ LONGEST_BULK → text ≡ bulk word → IsFlat text
   null_text : text ≡ line (codes "$-1") → IsFlat text
   null_array_text : text ≡ line (codes "*-1") → IsFlat text
 
 -- A reply in which arrays are nested so many deep at most. An array has at most 2,147,483,648 elements.
 abbrev pub IsNested : ℕ → Bytes → Type 0
 IsNested zero text = IsFlat text
-IsNested (suc depth) text = IsFlat text ⊎ ((texts : List Bytes) × AllByRecursion (IsNested depth) texts × (length texts ≤ 2 ^ 31) × (text ≡ array_text texts))
+IsNested (suc depth) text = IsFlat text ⊎ ((texts : List Bytes) × AllByRecursion (IsNested depth) texts × (length texts ≤ MOST_ELEMENTS) × (text ≡ array_text texts))
 
 -- a reply within the limits: eight arrays deep, and 4,294,967,296 bytes
 pub record IsReplyText (text : Bytes) : Type 0 where
-  pub nested : IsNested 8 text
-  pub short : length text ≤ 2 ^ 32
+  pub nested : IsNested DEEPEST_REPLY text
+  pub short : length text ≤ LONGEST_REPLY
 
 -- ## Streams
 
@@ -106,12 +107,12 @@ IsWithin (reply.Say say) = Unit {0}
 IsWithin (reply.Simple text) = IsLineText text
 IsWithin (reply.Error text) = IsLineText text
 IsWithin (reply.Int n) = IsI64 n
-IsWithin (reply.Bulk bytes) = length bytes ≤ 2 ^ 31
+IsWithin (reply.Bulk bytes) = length bytes ≤ LONGEST_BULK
 IsWithin reply.Null = Unit {0}
-IsWithin (reply.Array texts) = AllByRecursion (IsNested 7) texts × (length texts ≤ 2 ^ 31)
+IsWithin (reply.Array texts) = AllByRecursion (IsNested 7) texts × (length texts ≤ MOST_ELEMENTS)
 IsWithin reply.NullArray = Unit {0}
 
 -- and of at most 4,294,967,296 bytes
 pub record IsWritable (r : Reply) : Type 0 where
   pub within : IsWithin r
-  pub short : length (wire r) ≤ 2 ^ 32
+  pub short : length (wire r) ≤ LONGEST_REPLY

@@ -3,6 +3,7 @@
 use Rattle.std.specs.Prelude.{◌≡◌, ◌≢◌, ◌<◌, ◌≤◌, ◌+◌, ◌^◌, ℕ, ℤ, pos, negsuc, List, [], ◌∷◌, ◌++◌, length, Bool, true, false, cond, eqb, ◌||◌, ◌⊎◌}
 use Rattle.std.specs.List.{flat_map, filter, slice_split, AllByRecursion}
 use Rattle.std.specs.Fmt.{decimal, signed_decimal}
+use Rattle.sk_base.specs.declared.limits.TheConstants.{LONGEST_COMMAND, LONGEST_INLINE, LONGEST_LENGTH_LINE, LONGEST_WORD, MOST_WORDS}
 use Rattle.sk_resp.specs.Spelling.{Bytes, star, dollar, cr, lf, header, opened, bulk, total_length}
 use Rattle.sk_resp.specs.declared.wire_fault.WireFault.{WireFault}
 use Rattle.sk_resp.specs.declared.wire_fault.WireFault.TheVariants.{MultiLength, BulkLength, NoDollar, Quote, InlineLong, Limit, Memory}
@@ -21,7 +22,7 @@ array words = header (length words) ++ bulks words
 
 -- at most 1,048,576 bytes
 abbrev pub IsWord : Bytes → Type 0
-IsWord word = length word ≤ 2 ^ 20
+IsWord word = length word ≤ LONGEST_WORD
 
 -- a word, of no more bytes than these
 abbrev pub IsWordWithin : ℕ → Bytes → Type 0
@@ -30,17 +31,17 @@ IsWordWithin most word = IsWord word × (length word ≤ most)
 -- at least one word and at most 65,536, of at most 16,777,216 bytes together
 pub record IsCommand (words : Command) : Type 0 where
   pub some : 0 < length words
-  pub few : length words ≤ 2 ^ 16
+  pub few : length words ≤ MOST_WORDS
   pub short : AllByRecursion IsWord words
-  pub small : total_length words ≤ 2 ^ 24
+  pub small : total_length words ≤ LONGEST_COMMAND
 
 -- The first words of an array of that many, and not yet all of them.
 pub record IsWanting (count : ℕ) (words : Command) (total : ℕ) : Type 0 where
   pub left : length words < count
-  pub few : count ≤ 2 ^ 16
+  pub few : count ≤ MOST_WORDS
   pub short : AllByRecursion IsWord words
   pub adds : total ≡ total_length words
-  pub small : total ≤ 2 ^ 24
+  pub small : total ≤ LONGEST_COMMAND
 
 -- ## Lines behind `*` and `$`
 
@@ -50,11 +51,11 @@ NoLf bytes = AllByRecursion (λ b. b ≢ lf) bytes
 -- what may stand between the mark and the LF: 32 bytes at most, the CR among them
 pub record IsLine (line : Bytes) : Type 0 where
   pub no_lf : NoLf line
-  pub short : length line ≤ 32
+  pub short : length line ≤ LONGEST_LENGTH_LINE
 
 -- the numbers behind `*`
 abbrev pub IsCount : ℤ → Type 0
-IsCount (pos n) = n ≤ 2 ^ 16
+IsCount (pos n) = n ≤ MOST_WORDS
 IsCount (negsuc n) = n < 2 ^ 63
 
 -- those of them that no words follow
@@ -66,12 +67,12 @@ abbrev pub IsCountLine : Bytes → Type 0
 IsCountLine line = (z : ℤ) × IsCount z × (line ≡ signed_decimal z ++ cr ∷ [])
 
 abbrev pub IsLengthLine : Bytes → Type 0
-IsLengthLine line = (n : ℕ) × (n ≤ 2 ^ 20) × (line ≡ decimal n ++ cr ∷ [])
+IsLengthLine line = (n : ℕ) × (n ≤ LONGEST_WORD) × (line ≡ decimal n ++ cr ∷ [])
 
 -- Bytes behind a mark that are none of the lines allowed there: at their LF, or at the first byte past 32.
 pub data IsBadLine (IsAllowed : Bytes → Type 0) (bytes : Bytes) : Type 0 where
   ended : (line : Bytes) → IsLine line → (IsAllowed line → ⊥) → bytes ≡ line ++ lf ∷ [] → IsBadLine IsAllowed bytes
-  long : NoLf bytes → length bytes ≡ 33 → IsBadLine IsAllowed bytes
+  long : NoLf bytes → length bytes ≡ LONGEST_LENGTH_LINE + 1 → IsBadLine IsAllowed bytes
 
 -- ## Inline lines
 
@@ -90,7 +91,7 @@ IsQuote b = (b ≡ 34) ⊎ (b ≡ 39)
 pub record IsInline (line : Bytes) : Type 0 where
   pub plain : AllByRecursion IsPlain line
   pub no_star : NoStar line
-  pub short : length line ≤ 2 ^ 16
+  pub short : length line ≤ LONGEST_INLINE
 
 -- a CR at the end is dropped
 unfoldable pub without_cr : Bytes → Bytes
@@ -133,15 +134,15 @@ pub record IsInside (text : Bytes) (total : ℕ) (part : Bytes) : Type 0 where
 -- The part is no bulk string any more, at its last byte: the line with the length is none, or no CRLF follows the bytes.
 pub data IsBadBulk (total : ℕ) (part : Bytes) : Type 0 where
   bad_line : (behind : Bytes) → IsBadLine IsLengthLine behind → part ≡ dollar ∷ behind → IsBadBulk total part
-  bad_cr : (word : Bytes) (byte : ℕ) → IsWord word → total + length word ≤ 2 ^ 24 → byte ≢ cr → part ≡ opened (length word) word ++ byte ∷ [] → IsBadBulk total part
-  bad_lf : (word : Bytes) (byte : ℕ) → IsWord word → total + length word ≤ 2 ^ 24 → byte ≢ lf → part ≡ opened (length word) word ++ cr ∷ byte ∷ [] → IsBadBulk total part
+  bad_cr : (word : Bytes) (byte : ℕ) → IsWord word → total + length word ≤ LONGEST_COMMAND → byte ≢ cr → part ≡ opened (length word) word ++ byte ∷ [] → IsBadBulk total part
+  bad_lf : (word : Bytes) (byte : ℕ) → IsWord word → total + length word ≤ LONGEST_COMMAND → byte ≢ lf → part ≡ opened (length word) word ++ cr ∷ byte ∷ [] → IsBadBulk total part
 
 -- The bytes are that fault, at exactly their last byte. `Memory` is a fault of no stream.
 abbrev pub IsFault : Bytes → WireFault → Type 0
 IsFault text MultiLength = (behind : Bytes) × IsBadLine IsCountLine behind × (text ≡ star ∷ behind)
 IsFault text BulkLength = (total : ℕ) × ((part : Bytes) × IsBadBulk total part × IsInside text total part)
 IsFault text (NoDollar byte) = (total : ℕ) × (byte ≢ dollar) × IsInside text total (byte ∷ [])
-IsFault text Limit = (total need : ℕ) × (need ≤ 2 ^ 20) × (2 ^ 24 < total + need) × IsInside text total (opened need [])
+IsFault text Limit = (total need : ℕ) × (need ≤ LONGEST_WORD) × (LONGEST_COMMAND < total + need) × IsInside text total (opened need [])
 IsFault text Quote = (line : Bytes) × ((byte : ℕ) × IsInline line × IsQuote byte × (text ≡ line ++ byte ∷ []))
-IsFault text InlineLong = AllByRecursion IsPlain text × NoStar text × (length text ≡ 2 ^ 16 + 1)
+IsFault text InlineLong = AllByRecursion IsPlain text × NoStar text × (length text ≡ LONGEST_INLINE + 1)
 IsFault text Memory = ⊥

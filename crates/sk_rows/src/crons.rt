@@ -3,19 +3,17 @@ ghost use Rattle.std.specs.Prelude.{IfOk, negsuc, pos};
 ghost use Rattle.jiff.specs.Words.{IsBetween};
 
 use crate::text::{invalid, text_of};
+use sk_base::limits::OFFSET_UTC;
 use sk_cron::Cron;
 use std::alloc::{AllocError, Global};
 use std::io;
-
-/// The greatest offset, in minutes.
-const MOST: i32 = 1_439;
 
 // The offset, in minutes ahead of UTC.
 fn offset(word: &str) -> io::Result<i32>
     ensures { IfOk result (λ minutes. IsBetween (negsuc 1438) (pos 1439) minutes) }
 {
     match word.parse::<i32>() {
-        Ok(minutes) if -MOST <= minutes && minutes <= MOST => Ok(minutes),
+        Ok(minutes) if -OFFSET_UTC <= minutes && minutes <= OFFSET_UTC => Ok(minutes),
         _ => Err(invalid()),
     }
 }

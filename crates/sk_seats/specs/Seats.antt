@@ -14,6 +14,6 @@ pub record HaveRoom (works : Listed) : Type 0 where
   pub room : most_works ≤ vec_capacity works.list
 
 -- the phases are in the order of the seats' numbers
-pub record AreKept (seats : Inside) : Type 0 where
+pub record SeatInvariant (seats : Inside) : Type 0 where
   pub ordered : IsOrdered nat_cmp seats.phases
   pub plain : seats.plain ≡ Plain

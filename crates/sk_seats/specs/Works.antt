@@ -1,6 +1,7 @@
 -- The jobs in a worker's hands, in order of fetching. A command is always about the first that it fits.
 use Rattle.std.specs.Prelude.{ℕ, List, [], ◌∷◌, Option, Some, None, Bool, true, false, ◌&&◌, ◌||◌, not, cond, bytes_eq}
 use Rattle.std.specs.Option.{is_some}
+use Rattle.sk_base.specs.declared.limits.TheConstants.{MOST_PREFETCH}
 use Rattle.sk_resp.specs.Spelling.{Bytes}
 use Rattle.sk_payload.specs.Follows.{follows}
 use Rattle.sk_payload.specs.Head.{head}
@@ -10,7 +11,7 @@ use Rattle.sk_seats.specs.declared.work.Work.{Work}
 
 -- the most that a seat has at a time
 abbrev pub most_works : ℕ
-most_works = 16
+most_works = MOST_PREFETCH
 
 -- a job that was just fetched
 abbrev pub held : Bytes → Work

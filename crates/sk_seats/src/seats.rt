@@ -31,11 +31,11 @@ impl Model for Seats {
 
     ghost Value = { Phases };
 
-    ghost use Rattle.sk_seats.specs.Seats.{AreKept};
+    ghost use Rattle.sk_seats.specs.Seats.{SeatInvariant};
 
     ghost view = { λ seats. seats.phases.entries };
 
-    ghost invariant = { AreKept };
+    ghost invariant = { SeatInvariant };
 }
 
 impl Seats {

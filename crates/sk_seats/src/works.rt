@@ -5,13 +5,11 @@ ghost use Rattle.std.specs.List.{position};
 ghost use Rattle.sk_seats.specs.declared.work.Work.{Work};
 
 use crate::work::{Stage, Work};
+use sk_base::limits::MOST_PREFETCH;
 use sk_payload::{Payload, follows};
 use sk_resp::{Memory, Word};
 use std::alloc::Global;
 use std::marker::Model;
-
-/// The most jobs that a seat has in its hands at a time.
-const MOST_WORKS: usize = 16;
 
 /// At most sixteen jobs in a worker's hands. Contracts see them as a list, in order of fetching.
 #[derive(Drop)]
@@ -55,7 +53,7 @@ impl Works {
         ensures { IfOk result (λ works. works ≡ []) }
     {
         Ok(Works {
-            list: Vec::with_capacity(alloc, MOST_WORKS)?,
+            list: Vec::with_capacity(alloc, MOST_PREFETCH)?,
         })
     }
 
@@ -71,7 +69,7 @@ impl Works {
     pub fn are_full(&self) -> bool
         ensures { result ≡ not (nat_lt (length self.now) most_works) }
     {
-        self.list.len() >= MOST_WORKS
+        self.list.len() >= MOST_PREFETCH
     }
 
     /// The works as a slice, in order of fetching.

@@ -2,20 +2,20 @@
 use Rattle.std.proofs.Common.{◌≡◌, ◌∙◌, refl, sym, ap, subst}
 use Rattle.std.specs.Prelude.{◌≤◌, None, unwrap_or, List, Result, Ok, Err, IfOk, OnOk, OnErr}
 use Rattle.sk_base.specs.Score.{last_moment}
-use Rattle.sk_undo.specs.Steps.{Steps, begun, closed, undone}
+use Rattle.sk_undo.specs.Versions.{Versions, begun, closed, undone}
 use Rattle.sk_store.specs.declared.store.Store.{Store}
 use Rattle.sk_places.specs.Placed.{Placed}
 use Rattle.sk_value.specs.Keys.{Keys}
 use Rattle.sk_seats.specs.Phases.{Phases}
 use Rattle.sk_resp.specs.declared.reply.Reply.{Reply}
 use Rattle.sk_model.specs.Change.{Change, perform}
-use Rattle.sk_model.specs.Outcome.{Comes, Outcome}
+use Rattle.sk_model.specs.Outcome.{Realizes, Outcome}
 use Rattle.sk_model.specs.World.{World}
-use Rattle.sk_store.specs.Stored.{InStep, IsAtomic, IsReady, Runs, begun_in, committed_in, undone_in, world}
+use Rattle.sk_store.specs.Stored.{InStep, IsAtomic, IsReady, Executes, begun_in, committed_in, undone_in, world}
 
 -- a part of the store stands as it stood
-part_undone : {A : Type 0} (old s : Steps A) → old.stood ≡ None → s.stood ≡ (begun old).stood → undone s ≡ old
-part_undone old s none e = ap (λ o. closed (unwrap_or o s.stands)) e ∙ ap (λ o. record old { stood = o }) (sym none)
+part_undone : {A : Type 0} (old s : Versions A) → old.saved ≡ None → s.saved ≡ (begun old).saved → undone s ≡ old
+part_undone old s none e = ap (λ o. closed (unwrap_or o s.current)) e ∙ ap (λ o. record old { saved = o }) (sym none)
 
 -- A step that is undone leaves the store as it was.
 pub undone_is : (old s : Store) → IsReady old → InStep (begun_in old) s → undone_in s ≡ old
@@ -74,11 +74,11 @@ atomic old begun s new changes (Err m) (Err n) ready begin step did e ok err = e
 
 -- What is done in such a step is what the command does.
 pub whole : {E : Type 0} (old begun s new : Store) (o : World → Outcome) (done r : Result Reply E) → IsReady old → begun ≡ begun_in old → InStep begun s
-    → IfOk done (λ reply. Comes (world begun) (o (world begun)) reply (world s)) → r ≡ done → OnOk r (new ≡ committed_in s) → OnErr r (new ≡ undone_in s) → Runs old (o (world old)) r new
+    → IfOk done (λ reply. Realizes (world begun) (o (world begun)) reply (world s)) → r ≡ done → OnOk r (new ≡ committed_in s) → OnErr r (new ≡ undone_in s) → Executes old (o (world old)) r new
 whole old begun s new o (Ok x) (Ok y) ready begin step did e ok err =
     let same : x ≡ y = cc e in
-    let comes : Comes (world old) (o (world old)) x (world s) = subst (λ b. Comes (world b) (o (world b)) x (world s)) begin did in (
-      subst (λ u. Comes (world old) (o (world old)) y u) (sym (ap world ok)) (subst (λ z. Comes (world old) (o (world old)) z (world s)) same comes),
+    let comes : Realizes (world old) (o (world old)) x (world s) = subst (λ b. Realizes (world b) (o (world b)) x (world s)) begin did in (
+      subst (λ u. Realizes (world old) (o (world old)) y u) (sym (ap world ok)) (subst (λ z. Realizes (world old) (o (world old)) z (world s)) same comes),
       subst IsReady (sym ok) (committed_ready old s ready (subst (λ b. InStep b s) begin step)),
     )
 whole old begun s new o (Ok x) (Err m) ready begin step did e ok err = absurd (cc e)
@@ -95,13 +95,13 @@ seats_stay old begun s new begin step ok = ap (λ (u : Store). u.seats) ok ∙ s
 
 -- ## One part alone that changed
 
-pub placed_ready : (s : Store) (p : Steps Placed) → IsReady s → p.stood ≡ s.places.stood → IsReady (record s { places = p })
+pub placed_ready : (s : Store) (p : Versions Placed) → IsReady s → p.saved ≡ s.places.saved → IsReady (record s { places = p })
 placed_ready s p ready e = record { places = e ∙ ready.places; leases = ready.leases; batches = ready.batches; counters = ready.counters; early = ready.early }
 
 pub keyed_ready : (s : Store) (keys : Keys) → IsReady s → IsReady (record s { keys = keys })
 keyed_ready s keys ready = record { places = ready.places; leases = ready.leases; batches = ready.batches; counters = ready.counters; early = ready.early }
 
-pub placed_step : (s : Store) (p : Steps Placed) → p.stood ≡ s.places.stood → InStep s (record s { places = p })
+pub placed_step : (s : Store) (p : Versions Placed) → p.saved ≡ s.places.saved → InStep s (record s { places = p })
 placed_step s p e = record { places = e; leases = refl; batches = refl; counters = refl; limits = refl; moment = refl; seats = refl; keys = refl }
 
 pub seated_ready : (s : Store) (phases : Phases) → IsReady s → IsReady (record s { seats = phases })

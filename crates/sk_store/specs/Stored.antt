@@ -2,9 +2,9 @@
 use Rattle.std.specs.Prelude.{◌≡◌, ◌≤◌, List, Ok, Err, IsSome, None, Result}
 use Rattle.sk_base.specs.Score.{last_moment}
 use Rattle.sk_resp.specs.declared.reply.Reply.{Reply}
-use Rattle.sk_undo.specs.Steps.{begun, committed, undone}
+use Rattle.sk_undo.specs.Versions.{begun, committed, undone}
 use Rattle.sk_model.specs.Change.{Change, perform}
-use Rattle.sk_model.specs.Outcome.{Comes, Outcome}
+use Rattle.sk_model.specs.Outcome.{Realizes, Outcome}
 use Rattle.sk_model.specs.World.{World}
 use Rattle.sk_store.specs.declared.store.Store.{Store}
 
@@ -12,29 +12,29 @@ abbrev pub world : Store → World
 world s = record {
   limits = s.limits;
   moment = s.moment;
-  rows = s.places.stands.rows;
-  names = s.places.stands.names;
-  live = s.places.stands.lives.live;
-  tally = s.places.stands.lives.totals;
+  rows = s.places.current.rows;
+  names = s.places.current.names;
+  live = s.places.current.jobs.live;
+  tally = s.places.current.jobs.totals;
   keys = s.keys;
   phases = s.seats;
-  counters = s.counters.stands;
-  leases = s.leases.stands;
-  batches = s.batches.stands;
+  counters = s.counters.current;
+  leases = s.leases.current;
+  batches = s.batches.current;
 }
 
 -- no step is open, and the moment is one that is told apart
 pub record IsReady (s : Store) : Type 0 where
-  pub places : s.places.stood ≡ None
-  pub leases : s.leases.stood ≡ None
-  pub batches : s.batches.stood ≡ None
-  pub counters : s.counters.stood ≡ None
+  pub places : s.places.saved ≡ None
+  pub leases : s.leases.saved ≡ None
+  pub batches : s.batches.saved ≡ None
+  pub counters : s.counters.saved ≡ None
   pub early : s.moment ≤ last_moment
 
 -- The command came to this outcome and gave its reply; or memory was wanting, and nothing has changed.
-abbrev pub Runs : {E : Type 0} → Store → Outcome → Result Reply E → Store → Type 0
-Runs old o (Ok reply) new = Comes (world old) o reply (world new) × IsReady new
-Runs old o (Err wanting) new = new ≡ old
+abbrev pub Executes : {E : Type 0} → Store → Outcome → Result Reply E → Store → Type 0
+Executes old o (Ok reply) new = Realizes (world old) o reply (world new) × IsReady new
+Executes old o (Err wanting) new = new ≡ old
 
 -- All of these changes were made; or memory was wanting, and nothing has changed.
 abbrev pub IsAtomic : {A E : Type 0} → Store → List Change → Result A E → Store → Type 0
@@ -45,17 +45,17 @@ IsAtomic old changes (Err wanting) new = new ≡ old
 
 -- a step is open over all of it
 pub record IsOpen (s : Store) : Type 0 where
-  pub places : IsSome s.places.stood
-  pub leases : IsSome s.leases.stood
-  pub batches : IsSome s.batches.stood
-  pub counters : IsSome s.counters.stood
+  pub places : IsSome s.places.saved
+  pub leases : IsSome s.leases.saved
+  pub batches : IsSome s.batches.saved
+  pub counters : IsSome s.counters.saved
 
 -- The same step is open, and what no step is over stays.
 pub record InStep (old new : Store) : Type 0 where
-  pub places : new.places.stood ≡ old.places.stood
-  pub leases : new.leases.stood ≡ old.leases.stood
-  pub batches : new.batches.stood ≡ old.batches.stood
-  pub counters : new.counters.stood ≡ old.counters.stood
+  pub places : new.places.saved ≡ old.places.saved
+  pub leases : new.leases.saved ≡ old.leases.saved
+  pub batches : new.batches.saved ≡ old.batches.saved
+  pub counters : new.counters.saved ≡ old.counters.saved
   pub limits : new.limits ≡ old.limits
   pub moment : new.moment ≡ old.moment
   pub seats : new.seats ≡ old.seats

@@ -7,6 +7,7 @@ ghost use Rattle.sk_model.specs.World.{first};
 ghost use Rattle.sk_store.specs.Stored.{IsOpen, IsReady, begun_in, committed_in, undone_in, world};
 
 use crate::room::have_no_bytes;
+use sk_base::limits::{LAST_MOMENT, MOST_PUSHES};
 use sk_batch::Batches;
 use sk_counters::Counters;
 use sk_keys::Keys;
@@ -16,12 +17,6 @@ use sk_places::Places;
 use sk_resp::Memory;
 use sk_seats::Seats;
 use std::alloc::Global;
-
-// The last millisecond of the year 9998. A greater moment is taken for it.
-const LAST_MOMENT: u64 = 253_370_764_799_999;
-
-// The most pushes that a store takes, from its first moment on.
-const MOST_PUSHES: u64 = 1 << 62;
 
 /// All that the store keeps. A step is open over the places, the leases, the batches and the counters together, or over none of them.
 #[derive(Drop)]

@@ -1,7 +1,7 @@
 // What no clause says: that with memory at hand each call answers, and that a long list stays fast however it grows.
 ghost use Rattle.std.specs.Prelude.{◌==◌};
 
-use sk_undo::{Memory, Test, UndoList, Visit};
+use sk_undo::{Memory, Predicate, UndoList, Visit};
 use std::test::Fail;
 
 #[derive(Drop)]
@@ -9,7 +9,7 @@ struct Is {
     item: u8,
 }
 
-impl Test<(u64, u8)> for Is {
+impl Predicate<(u64, u8)> for Is {
     ghost passes = { λ t e. e.1 == t.item };
 
     fn test(&self, entry: &(u64, u8)) -> bool {
@@ -23,9 +23,9 @@ struct Seen {
 }
 
 impl Visit<(u64, u8)> for Seen {
-    type Kept = (u64, u8);
+    type Output = (u64, u8);
 
-    ghost kept = { λ e. e };
+    ghost output = { λ e. e };
 
     ghost visited = { λ s. s.entries.items };
 

@@ -10,7 +10,7 @@ use Rattle.std.specs.Set.{remove_key}
 use Rattle.std.specs.declared.cmp.Ordering.{Ordering}
 use Rattle.sk_undo.specs.Entries.{entries_in, keys_in}
 use Rattle.sk_undo.specs.Queries.{le_le}
-use Rattle.sk_undo.specs.Rises.{all_pass}
+use Rattle.sk_undo.specs.Partitioned.{all_pass}
 use Rattle.sk_undo.specs.Sorted.{IsQuery, is_match, is_ordered, rank, rank_past}
 use Rattle.sk_undo.proofs.Entries.{found_none, found_there, removed_none}
 use Rattle.sk_undo.proofs.Keys.{keys_lookup, keys_remove}

@@ -5,7 +5,7 @@ use Rattle.std.specs.List.{count_by}
 use Rattle.std.specs.Ordering.{is_eq, is_le, is_lt}
 use Rattle.std.specs.declared.cmp.Ordering.{Ordering}
 use Rattle.std.proofs.lemmas.List.Sums.{sum_by-cons}
-use Rattle.sk_undo.specs.Rises.{all_pass}
+use Rattle.sk_undo.specs.Partitioned.{all_pass}
 use Rattle.sk_undo.specs.Sorted.{IsQuery, is_ordered, rank, rank_past}
 use Rattle.sk_undo.proofs.Sorted.{le_rest, lt_rest}
 

@@ -1,12 +1,12 @@
 -- A walk down for the first item that passes.
 use Rattle.std.proofs.Common.{◌≡◌, ◌+◌, ◌≤◌, ◌<◌, Bool, true, false, List, [], ◌∷◌, ◌++◌, length, refl, arith}
 use Rattle.std.specs.List.{position_or_len}
-use Rattle.sk_undo.specs.Rises.{all_pass, rises}
+use Rattle.sk_undo.specs.Partitioned.{all_pass, is_partitioned}
 
 module _ {T : Type 0} (t : T → Bool) where
-  all_rises : (xs : List T) → all_pass t xs ≡ true → rises t xs ≡ true
-  all_rises [] h = refl
-  all_rises (x ∷ xs) h = grind (arith, all_rises xs)
+  all_partitioned : (xs : List T) → all_pass t xs ≡ true → is_partitioned t xs ≡ true
+  all_partitioned [] h = refl
+  all_partitioned (x ∷ xs) h = grind (arith, all_partitioned xs)
 
   all_left : (xs : List T) (x : T) (ys : List T) → all_pass t (xs ++ x ∷ ys) ≡ true → all_pass t xs ≡ true
   all_left [] x ys h = refl
@@ -20,19 +20,19 @@ module _ {T : Type 0} (t : T → Bool) where
   all_here [] x ys h = grind (arith, h)
   all_here (y ∷ xs) x ys h = grind (arith, h, all_here xs x ys)
 
-  pub rises_left : (xs : List T) (x : T) (ys : List T) → rises t (xs ++ x ∷ ys) ≡ true → rises t xs ≡ true
-  rises_left [] x ys h = refl
-  rises_left (y ∷ xs) x ys h = grind (arith, h, rises_left xs x ys, all_left xs x ys)
+  pub partitioned_left : (xs : List T) (x : T) (ys : List T) → is_partitioned t (xs ++ x ∷ ys) ≡ true → is_partitioned t xs ≡ true
+  partitioned_left [] x ys h = refl
+  partitioned_left (y ∷ xs) x ys h = grind (arith, h, partitioned_left xs x ys, all_left xs x ys)
 
-  pub rises_right : (xs : List T) (x : T) (ys : List T) → rises t (xs ++ x ∷ ys) ≡ true → rises t ys ≡ true
-  rises_right [] x ys h = grind (arith, h, all_rises ys)
-  rises_right (y ∷ xs) x ys h = grind (arith, h, rises_right xs x ys, all_right xs x ys, all_rises ys)
+  pub partitioned_right : (xs : List T) (x : T) (ys : List T) → is_partitioned t (xs ++ x ∷ ys) ≡ true → is_partitioned t ys ≡ true
+  partitioned_right [] x ys h = grind (arith, h, all_partitioned ys)
+  partitioned_right (y ∷ xs) x ys h = grind (arith, h, partitioned_right xs x ys, all_right xs x ys, all_partitioned ys)
 
   pub first_left : (xs : List T) (x : T) (ys : List T) → t x ≡ true → position_or_len t (xs ++ x ∷ ys) ≡ position_or_len t xs
   first_left [] x ys h = grind (arith, h)
   first_left (y ∷ xs) x ys h = grind (arith, h, first_left xs x ys)
 
-  pub first_right : (xs : List T) (x : T) (ys : List T) → t x ≡ false → rises t (xs ++ x ∷ ys) ≡ true → position_or_len t (xs ++ x ∷ ys) ≡ length xs + 1 + position_or_len t ys
+  pub first_right : (xs : List T) (x : T) (ys : List T) → t x ≡ false → is_partitioned t (xs ++ x ∷ ys) ≡ true → position_or_len t (xs ++ x ∷ ys) ≡ length xs + 1 + position_or_len t ys
   first_right [] x ys h r = grind (arith, h)
   first_right (y ∷ xs) x ys h r = grind (arith, h, r, first_right xs x ys, all_here xs x ys)
 

@@ -7,7 +7,7 @@ use Rattle.std.specs.Ordering.{is_eq, is_le, is_lt}
 use Rattle.std.specs.declared.cmp.Ordering.{Ordering}
 use Rattle.sk_undo.specs.Entries.{entries_in, keys_in}
 use Rattle.sk_undo.specs.Moves.{moved, put_down}
-use Rattle.sk_undo.specs.Rises.{all_pass, rises}
+use Rattle.sk_undo.specs.Partitioned.{all_pass, is_partitioned}
 use Rattle.sk_undo.specs.Sorted.{IsQuery, is_match, is_ordered, rank}
 use Rattle.sk_undo.proofs.Sorted.{lt_rest}
 
@@ -20,9 +20,9 @@ module _ {K V : Type 0} (t : K → Bool) where
   all_keys [] = refl
   all_keys (x ∷ xs) = grind (arith, all_keys xs)
 
-  pub rises_keys : (xs : List (V × K)) → rises (λ e. t e.1) xs ≡ rises t (keys_in xs)
-  rises_keys [] = refl
-  rises_keys (x ∷ xs) = grind (arith, all_keys xs, rises_keys xs)
+  pub partitioned_keys : (xs : List (V × K)) → is_partitioned (λ e. t e.1) xs ≡ is_partitioned t (keys_in xs)
+  partitioned_keys [] = refl
+  partitioned_keys (x ∷ xs) = grind (arith, all_keys xs, partitioned_keys xs)
 
 module _ {K V : Type 0} (order : K → Ordering) where
   rank_first : (x : V × K) (xs : List (V × K)) → is_le (order x.1) ≡ true → rank order (keys_in (x ∷ xs)) ≡ 0

@@ -11,7 +11,7 @@ use Rattle.std.specs.Set.{remove_key}
 use Rattle.std.specs.declared.cmp.Ordering.{Ordering}
 use Rattle.std.specs.declared.cmp.Ordering.TheVariants.{Less, Equal, Greater}
 use Rattle.sk_undo.specs.Entries.{with_entry}
-use Rattle.sk_undo.specs.Rises.{all_pass}
+use Rattle.sk_undo.specs.Partitioned.{all_pass}
 use Rattle.sk_undo.specs.Sorted.{is_sorted}
 use Rattle.sk_undo.proofs.Sorted.{before_rest}
 

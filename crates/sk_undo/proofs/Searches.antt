@@ -1,8 +1,8 @@
 -- A search in a range of a list in two parts.
 use Rattle.std.proofs.Common.{◌≡◌, ℕ, ◌+◌, ◌-◌, ◌<◌, ◌≤◌, Bool, true, false, List, ◌∷◌, ◌++◌, length, take, drop, sym, arith, ap, length-take, length-drop, ◌∙◌}
 use Rattle.std.specs.List.{position_or_len}
-use Rattle.sk_undo.specs.Rises.{rises}
-use Rattle.sk_undo.proofs.Descents.{first_left, first_right, position_left, position_right, rises_left, rises_right}
+use Rattle.sk_undo.specs.Partitioned.{is_partitioned}
+use Rattle.sk_undo.proofs.Descents.{first_left, first_right, position_left, position_right, partitioned_left, partitioned_right}
 use Rattle.sk_undo.proofs.Ranges.{range_around, range_right}
 
 module _ {X : Type 0} (t : X → Bool) where
@@ -39,17 +39,17 @@ module _ {X : Type 0} (t : X → Bool) where
       omega (arith, is, right, here, same, n, h, there)
 
   -- the same where all behind the first that passes do
-  rises_around : (xs : List X) (x : X) (ys : List X) (first end : ℕ) → first ≤ length xs → length xs < end → rises t (drop first (take end (xs ++ x ∷ ys))) ≡ true → rises t (drop first (take (length xs) xs) ++ x ∷ drop 0 (take (end - length xs - 1) ys)) ≡ true
-  rises_around xs x ys first end h k up = sym (ap (rises t) (range_around xs x ys first end h k)) ∙ up
+  partitioned_around : (xs : List X) (x : X) (ys : List X) (first end : ℕ) → first ≤ length xs → length xs < end → is_partitioned t (drop first (take end (xs ++ x ∷ ys))) ≡ true → is_partitioned t (drop first (take (length xs) xs) ++ x ∷ drop 0 (take (end - length xs - 1) ys)) ≡ true
+  partitioned_around xs x ys first end h k up = sym (ap (is_partitioned t) (range_around xs x ys first end h k)) ∙ up
 
-  pub rises_first : (xs : List X) (x : X) (ys : List X) (first end : ℕ) → first ≤ length xs → length xs < end → rises t (drop first (take end (xs ++ x ∷ ys))) ≡ true → rises t (drop first (take (length xs) xs)) ≡ true
-  rises_first xs x ys first end h k up = rises_left t (drop first (take (length xs) xs)) x (drop 0 (take (end - length xs - 1) ys)) (rises_around xs x ys first end h k up)
+  pub partitioned_first : (xs : List X) (x : X) (ys : List X) (first end : ℕ) → first ≤ length xs → length xs < end → is_partitioned t (drop first (take end (xs ++ x ∷ ys))) ≡ true → is_partitioned t (drop first (take (length xs) xs)) ≡ true
+  partitioned_first xs x ys first end h k up = partitioned_left t (drop first (take (length xs) xs)) x (drop 0 (take (end - length xs - 1) ys)) (partitioned_around xs x ys first end h k up)
 
-  pub rises_second : (xs : List X) (x : X) (ys : List X) (first end : ℕ) → first ≤ length xs → length xs < end → rises t (drop first (take end (xs ++ x ∷ ys))) ≡ true → rises t (drop 0 (take (end - length xs - 1) ys)) ≡ true
-  rises_second xs x ys first end h k up = rises_right t (drop first (take (length xs) xs)) x (drop 0 (take (end - length xs - 1) ys)) (rises_around xs x ys first end h k up)
+  pub partitioned_second : (xs : List X) (x : X) (ys : List X) (first end : ℕ) → first ≤ length xs → length xs < end → is_partitioned t (drop first (take end (xs ++ x ∷ ys))) ≡ true → is_partitioned t (drop 0 (take (end - length xs - 1) ys)) ≡ true
+  partitioned_second xs x ys first end h k up = partitioned_right t (drop first (take (length xs) xs)) x (drop 0 (take (end - length xs - 1) ys)) (partitioned_around xs x ys first end h k up)
 
-  pub rises_past : (xs : List X) (x : X) (ys : List X) (first end : ℕ) → length xs < first → length xs < end → rises t (drop first (take end (xs ++ x ∷ ys))) ≡ true → rises t (drop (first - length xs - 1) (take (end - length xs - 1) ys)) ≡ true
-  rises_past xs x ys first end h k up = sym (ap (rises t) (range_right xs x ys first end h k)) ∙ up
+  pub partitioned_past : (xs : List X) (x : X) (ys : List X) (first end : ℕ) → length xs < first → length xs < end → is_partitioned t (drop first (take end (xs ++ x ∷ ys))) ≡ true → is_partitioned t (drop (first - length xs - 1) (take (end - length xs - 1) ys)) ≡ true
+  partitioned_past xs x ys first end h k up = sym (ap (is_partitioned t) (range_right xs x ys first end h k)) ∙ up
 
   pub first_before : (xs : List X) (x : X) (ys : List X) (first end at : ℕ) → first ≤ length xs → length xs < end → t x ≡ true → at ≡ first + position_or_len t (drop first (take (length xs) xs)) → at ≡ first + position_or_len t (drop first (take end (xs ++ x ∷ ys)))
   first_before xs x ys first end at h k passes is =
@@ -57,9 +57,9 @@ module _ {X : Type 0} (t : X → Bool) where
       let same = ap (position_or_len t) (range_around xs x ys first end h k) in
       omega (arith, is, left, same)
 
-  pub first_behind : (xs : List X) (x : X) (ys : List X) (first end behind : ℕ) → first ≤ length xs → length xs < end → t x ≡ false → rises t (drop first (take end (xs ++ x ∷ ys))) ≡ true → behind ≡ 0 + position_or_len t (drop 0 (take (end - length xs - 1) ys)) → length xs + 1 + behind ≡ first + position_or_len t (drop first (take end (xs ++ x ∷ ys)))
+  pub first_behind : (xs : List X) (x : X) (ys : List X) (first end behind : ℕ) → first ≤ length xs → length xs < end → t x ≡ false → is_partitioned t (drop first (take end (xs ++ x ∷ ys))) ≡ true → behind ≡ 0 + position_or_len t (drop 0 (take (end - length xs - 1) ys)) → length xs + 1 + behind ≡ first + position_or_len t (drop first (take end (xs ++ x ∷ ys)))
   first_behind xs x ys first end behind h k fails up there =
       let n = front_length xs first h in
-      let right = first_right t (drop first (take (length xs) xs)) x (drop 0 (take (end - length xs - 1) ys)) fails (rises_around xs x ys first end h k up) in
+      let right = first_right t (drop first (take (length xs) xs)) x (drop 0 (take (end - length xs - 1) ys)) fails (partitioned_around xs x ys first end h k up) in
       let same = ap (position_or_len t) (range_around xs x ys first end h k) in
       omega (arith, right, same, n, h, there)

@@ -6,7 +6,7 @@ use Rattle.std.specs.Map.{keys_of, remove_entry}
 use Rattle.std.specs.Ordering.{is_le, is_lt}
 use Rattle.std.specs.declared.cmp.Ordering.{Ordering}
 use Rattle.sk_undo.specs.Queries.{lt_le}
-use Rattle.sk_undo.specs.Rises.{all_pass, rises}
+use Rattle.sk_undo.specs.Partitioned.{all_pass, is_partitioned}
 use Rattle.sk_undo.specs.Sorted.{IsQuery, is_ordered, is_sorted}
 
 module _ {K : Type 0} where
@@ -30,13 +30,13 @@ module _ {K : Type 0} (cmp : K → K → Ordering) where
     lt_rest first keys h k = all_more (λ other. is_le (cmp first other)) (λ key. is_lt (order key)) (λ other behind. query.lt first other h behind) keys k
 
     -- the tests by which a rank is found rise
-    pub rises_le : (keys : List K) → is_ordered cmp keys ≡ true → rises (λ key. is_le (order key)) keys ≡ true
-    rises_le [] h = refl
-    rises_le (first ∷ keys) h = grind (arith, h, le_rest first keys, rises_le keys)
+    pub partitioned_le : (keys : List K) → is_ordered cmp keys ≡ true → is_partitioned (λ key. is_le (order key)) keys ≡ true
+    partitioned_le [] h = refl
+    partitioned_le (first ∷ keys) h = grind (arith, h, le_rest first keys, partitioned_le keys)
 
-    pub rises_lt : (keys : List K) → is_ordered cmp keys ≡ true → rises (λ key. is_lt (order key)) keys ≡ true
-    rises_lt [] h = refl
-    rises_lt (first ∷ keys) h = grind (arith, h, lt_rest first keys, rises_lt keys)
+    pub partitioned_lt : (keys : List K) → is_ordered cmp keys ≡ true → is_partitioned (λ key. is_lt (order key)) keys ≡ true
+    partitioned_lt [] h = refl
+    partitioned_lt (first ∷ keys) h = grind (arith, h, lt_rest first keys, partitioned_lt keys)
 
   -- ## Edits
 

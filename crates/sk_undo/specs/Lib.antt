@@ -1,14 +1,14 @@
 pub mod Balance
 pub mod Edits
 pub mod Entries
-pub mod Kept
+pub mod UndoView
 pub mod Moves
 pub mod Node
 pub mod Pairs
 pub mod Queries
-pub mod Rises
+pub mod Partitioned
 pub mod Sorted
-pub mod Steps
+pub mod Versions
 pub mod UndoList
 pub mod UndoMap
 pub mod UndoMultiset

@@ -3,7 +3,7 @@ use Rattle.std.specs.Prelude.{◌≡◌, ℕ, Bool, true, false, ◌&&◌, List,
 use Rattle.std.specs.List.{position_or_len}
 use Rattle.std.specs.Ordering.{is_eq, is_le, is_lt}
 use Rattle.std.specs.declared.cmp.Ordering.{Ordering}
-use Rattle.sk_undo.specs.Rises.{all_pass}
+use Rattle.sk_undo.specs.Partitioned.{all_pass}
 
 module _ {K : Type 0} (cmp : K → K → Ordering) where
   -- in order

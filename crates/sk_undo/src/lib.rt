@@ -2,18 +2,18 @@
 #![tactic(auto)]
 
 mod edit;
+mod predicate;
 mod query;
 mod search;
 mod sequence;
-mod test;
 mod undo_list;
 mod undo_map;
 mod undo_multiset;
 mod undo_set;
 
+pub use predicate::{Predicate, Visit};
 pub use query::Query;
 pub use std::alloc::AllocError as Memory;
-pub use test::{Test, Visit};
 pub use undo_list::UndoList;
 pub use undo_map::UndoMap;
 pub use undo_multiset::UndoMultiset;

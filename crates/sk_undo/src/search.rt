@@ -5,7 +5,7 @@ ghost use Rattle.std.specs.Ordering.{is_le, is_lt};
 ghost use Rattle.sk_undo.specs.Entries.{keys_in};
 ghost use Rattle.sk_undo.specs.Sorted.{is_found, is_match, is_ordered, rank, rank_past};
 
-use crate::{Query, Test, UndoList};
+use crate::{Predicate, Query, UndoList};
 
 // Passes the keys that match, and those behind them.
 #[derive(Drop)]
@@ -13,7 +13,7 @@ struct From<'a, Q> {
     query: &'a Q,
 }
 
-impl<'a, K: Ord, V, Q: Query<K>> Test<(V, K)> for From<'a, Q> {
+impl<'a, K: Ord, V, Q: Query<K>> Predicate<(V, K)> for From<'a, Q> {
     ghost passes = { λ t e. is_le (Q.order t.query.now e.1) };
 
     fn test(&self, entry: &(V, K)) -> bool {
@@ -27,7 +27,7 @@ struct Past<'a, Q> {
     query: &'a Q,
 }
 
-impl<'a, K: Ord, V, Q: Query<K>> Test<(V, K)> for Past<'a, Q> {
+impl<'a, K: Ord, V, Q: Query<K>> Predicate<(V, K)> for Past<'a, Q> {
     ghost passes = { λ t e. is_lt (Q.order t.query.now e.1) };
 
     fn test(&self, entry: &(V, K)) -> bool {
@@ -37,20 +37,20 @@ impl<'a, K: Ord, V, Q: Query<K>> Test<(V, K)> for Past<'a, Q> {
 
 /// How many keys stand before those that match.
 pub fn rank<K: Ord + Drop, V: Drop, Q: Query<K>>(entries: &UndoList<V, K>, query: &Q) -> usize
-    requires { is_ordered K.cmp (keys_in entries.now.list.stands) ≡ true }
-    ensures is { result ≡ rank (Q.order query.now) (keys_in entries.now.list.stands) }
-    ensures within { result ≤ length entries.now.list.stands }
+    requires { is_ordered K.cmp (keys_in entries.now.list.current) ≡ true }
+    ensures is { result ≡ rank (Q.order query.now) (keys_in entries.now.list.current) }
+    ensures within { result ≤ length entries.now.list.current }
 {
-    entries.first_where(&From { query })
+    entries.partition_point(&From { query })
 }
 
 /// How many keys stand before those behind all that match.
 pub fn rank_past<K: Ord + Drop, V: Drop, Q: Query<K>>(entries: &UndoList<V, K>, query: &Q) -> usize
-    requires { is_ordered K.cmp (keys_in entries.now.list.stands) ≡ true }
-    ensures is { result ≡ rank_past (Q.order query.now) (keys_in entries.now.list.stands) }
-    ensures within { result ≤ length entries.now.list.stands }
+    requires { is_ordered K.cmp (keys_in entries.now.list.current) ≡ true }
+    ensures is { result ≡ rank_past (Q.order query.now) (keys_in entries.now.list.current) }
+    ensures within { result ≤ length entries.now.list.current }
 {
-    entries.first_where(&Past { query })
+    entries.partition_point(&Past { query })
 }
 
 // Whether a key stands at an index and matches.
@@ -59,8 +59,8 @@ fn is_match_at<K: Ord + Drop, V: Drop, Q: Query<K>>(
     at: usize,
     query: &Q,
 ) -> bool
-    ensures is { result ≡ is_match (Q.order query.now) (slice_get (keys_in entries.now.list.stands) at) }
-    ensures within { result ≡ true → at < length entries.now.list.stands }
+    ensures is { result ≡ is_match (Q.order query.now) (slice_get (keys_in entries.now.list.current) at) }
+    ensures within { result ≡ true → at < length entries.now.list.current }
 {
     if at < entries.len() {
         query.cmp_key(&entries.get(at).1).is_eq()
@@ -74,10 +74,10 @@ pub fn find<K: Ord + Drop, V: Drop, Q: Query<K>>(
     entries: &UndoList<V, K>,
     query: &Q,
 ) -> Option<usize>
-    requires { is_ordered K.cmp (keys_in entries.now.list.stands) ≡ true }
-    ensures there { is_some result ≡ is_found (Q.order query.now) (keys_in entries.now.list.stands) }
-    ensures place { IfSome result (λ at. at ≡ rank (Q.order query.now) (keys_in entries.now.list.stands)) }
-    ensures within { IfSome result (λ at. at < length entries.now.list.stands) }
+    requires { is_ordered K.cmp (keys_in entries.now.list.current) ≡ true }
+    ensures there { is_some result ≡ is_found (Q.order query.now) (keys_in entries.now.list.current) }
+    ensures place { IfSome result (λ at. at ≡ rank (Q.order query.now) (keys_in entries.now.list.current)) }
+    ensures within { IfSome result (λ at. at < length entries.now.list.current) }
 {
     let at = rank(entries, query);
     if is_match_at(entries, at, query) {

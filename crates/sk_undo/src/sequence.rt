@@ -3,9 +3,9 @@
 ghost use Rattle.std.specs.Prelude.{◌≡◌, ◌+◌, ◌*◌, ◌^◌, ◌<◌, ◌≤◌, [], ◌∷◌, ◌++◌, true, length, slice_index_or, MatchOption, IfSome, OnOk, drop, map, take};
 ghost use Rattle.std.specs.List.{insert, position_or_len, remove};
 ghost use Rattle.sk_undo.specs.Balance.{DifferBy, most};
-ghost use Rattle.sk_undo.specs.Rises.{rises};
+ghost use Rattle.sk_undo.specs.Partitioned.{is_partitioned};
 
-use crate::{Memory, Test, Visit};
+use crate::{Memory, Predicate, Visit};
 use std::alloc::Global;
 use std::marker::Model;
 use std::mem;
@@ -124,9 +124,9 @@ impl<T: Drop> Sequence<T> {
     }
 
     /// The place of the first item that passes, where all behind it pass too; the length where none does. Logarithmic.
-    #[tactic(auto, using(crate::proofs::Descents::first_left, crate::proofs::Descents::first_right, crate::proofs::Descents::rises_left, crate::proofs::Descents::rises_right))]
-    pub fn first_where<F: Test<T>>(&self, test: &F) -> usize
-        requires { rises (F.passes test.now) self.now ≡ true }
+    #[tactic(auto, using(crate::proofs::Descents::first_left, crate::proofs::Descents::first_right, crate::proofs::Descents::partitioned_left, crate::proofs::Descents::partitioned_right))]
+    pub fn partition_point<F: Predicate<T>>(&self, test: &F) -> usize
+        requires { is_partitioned (F.passes test.now) self.now ≡ true }
         ensures is { result ≡ position_or_len (F.passes test.now) self.now }
         ensures within { result ≤ length self.now }
     {
@@ -134,9 +134,9 @@ impl<T: Drop> Sequence<T> {
             None => 0,
             Some((l, x, r)) => {
                 if test.test(x) {
-                    l.first_where(test)
+                    l.partition_point(test)
                 } else {
-                    l.len() + 1 + r.first_where(test)
+                    l.len() + 1 + r.partition_point(test)
                 }
             }
         }
@@ -144,11 +144,11 @@ impl<T: Drop> Sequence<T> {
 
     /// The place of the first item that passes, of those from the place `first` to the one before `end`, where all behind it up to `end` pass too;
     /// `end` where none does. Logarithmic.
-    #[tactic(auto, using(crate::proofs::Ranges::range_left, crate::proofs::Ranges::range_right, crate::proofs::Searches::first_before, crate::proofs::Searches::first_behind, crate::proofs::Searches::rises_first, crate::proofs::Searches::rises_second))]
-    pub fn first_in<F: Test<T>>(&self, first: usize, end: usize, test: &F) -> usize
+    #[tactic(auto, using(crate::proofs::Ranges::range_left, crate::proofs::Ranges::range_right, crate::proofs::Searches::first_before, crate::proofs::Searches::first_behind, crate::proofs::Searches::partitioned_first, crate::proofs::Searches::partitioned_second))]
+    pub fn first_in<F: Predicate<T>>(&self, first: usize, end: usize, test: &F) -> usize
         requires order { first ≤ end }
         requires within { end ≤ length self.now }
-        requires rises { rises (F.passes test.now) (drop first (take end self.now)) ≡ true }
+        requires is_partitioned { is_partitioned (F.passes test.now) (drop first (take end self.now)) ≡ true }
         ensures is { result ≡ first + position_or_len (F.passes test.now) (drop first (take end self.now)) }
         ensures within { result ≤ end }
     {
@@ -171,7 +171,7 @@ impl<T: Drop> Sequence<T> {
 
     /// The place of the first item that passes, or the length where none does. Looks at the items one after another.
     #[tactic(auto, using(crate::proofs::Descents::position_left, crate::proofs::Descents::position_right))]
-    pub fn position<F: Test<T>>(&self, test: &F) -> usize
+    pub fn position<F: Predicate<T>>(&self, test: &F) -> usize
         ensures is { result ≡ position_or_len (F.passes test.now) self.now }
         ensures within { result ≤ length self.now }
     {
@@ -191,7 +191,7 @@ impl<T: Drop> Sequence<T> {
     /// The place of the first item that passes, of those from the place `first` to the one before `end`; `end` where none does. Looks at these
     /// items one after another.
     #[tactic(auto, using(crate::proofs::Ranges::range_left, crate::proofs::Ranges::range_right, crate::proofs::Searches::found_left, crate::proofs::Searches::found_here, crate::proofs::Searches::found_right))]
-    pub fn position_in<F: Test<T>>(&self, first: usize, end: usize, test: &F) -> usize
+    pub fn position_in<F: Predicate<T>>(&self, first: usize, end: usize, test: &F) -> usize
         requires order { first ≤ end }
         requires within { end ≤ length self.now }
         ensures is { result ≡ first + position_or_len (F.passes test.now) (drop first (take end self.now)) }
@@ -222,7 +222,7 @@ impl<T: Drop> Sequence<T> {
     /// Visits the items from the place `first` to the one before `end`, one after another.
     #[tactic(auto, using(crate::proofs::Ranges::range_left, crate::proofs::Ranges::range_right, crate::proofs::Ranges::range_around))]
     pub fn walk<V: Visit<T>>(&self, first: usize, end: usize, visit: &mut V) -> Result<(), Memory>
-        ensures { OnOk result (V.visited visit.new ≡ V.visited visit.old ++ map V.kept (drop first (take end self.now))) }
+        ensures { OnOk result (V.visited visit.new ≡ V.visited visit.old ++ map V.output (drop first (take end self.now))) }
     {
         match self.sides() {
             None => Ok(()),

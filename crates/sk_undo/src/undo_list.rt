@@ -5,12 +5,12 @@ ghost use Rattle.std.specs.List.{insert, position_or_len, remove};
 ghost use Rattle.std.specs.Option.{is_some};
 ghost use Rattle.sk_undo.specs.Balance.{most};
 ghost use Rattle.sk_undo.specs.Moves.{moved};
-ghost use Rattle.sk_undo.specs.Rises.{rises};
-ghost use Rattle.sk_undo.specs.Steps.{begun, closed, committed, edited, undone};
+ghost use Rattle.sk_undo.specs.Partitioned.{is_partitioned};
+ghost use Rattle.sk_undo.specs.Versions.{begun, closed, committed, edited, undone};
 
 use crate::edit::{Edit, shift, take_all_back};
 use crate::sequence::{Sequence, Spare};
-use crate::{Memory, Test, Visit};
+use crate::{Memory, Predicate, Visit};
 use std::alloc::Global;
 use std::marker::Model;
 
@@ -31,15 +31,15 @@ pub struct UndoList<K, T> {
 impl<K, T> Model for UndoList<K, T> {
     ghost use Rattle.std.specs.Prelude.{List};
     ghost use Rattle.std.specs.Coded.{coded_list, coded×};
-    ghost use Rattle.sk_undo.specs.Kept.{Kept, kept_code};
+    ghost use Rattle.sk_undo.specs.UndoView.{UndoView, undo_view_code};
 
-    ghost Value = { Kept (List (K × T)) };
+    ghost Value = { UndoView (List (K × T)) };
 
-    ghost coded = { kept_code (coded_list (coded× K.code T.code)) };
+    ghost coded = { undo_view_code (coded_list (coded× K.code T.code)) };
 
-    ghost use Rattle.sk_undo.specs.UndoList.{is_sound, kept_in};
+    ghost use Rattle.sk_undo.specs.UndoList.{is_sound, view_in};
 
-    ghost view = { kept_in };
+    ghost view = { view_in };
 
     ghost invariant = { is_sound };
 }
@@ -87,61 +87,61 @@ impl<K: Drop, T: Drop> UndoList<K, T> {
     }
 
     pub fn len(&self) -> usize
-        ensures is { result ≡ length self.now.list.stands }
+        ensures is { result ≡ length self.now.list.current }
         ensures small { result ≤ most }
     {
         self.entries.len()
     }
 
     pub fn is_open(&self) -> bool
-        ensures { result ≡ is_some self.now.list.stood }
+        ensures { result ≡ is_some self.now.list.saved }
     {
         self.in_step
     }
 
     /// The entry at a place. Logarithmic.
     pub fn get(&self, at: usize) -> &(K, T)
-        requires { at < length self.now.list.stands }
-        ensures { result.now ≡ slice_index_or self.now.list.stands at result.now }
+        requires { at < length self.now.list.current }
+        ensures { result.now ≡ slice_index_or self.now.list.current at result.now }
     {
         self.entries.get(at)
     }
 
     /// The place of the first entry that passes, where all behind it pass too; the length where none does. Logarithmic.
-    pub fn first_where<F: Test<(K, T)>>(&self, test: &F) -> usize
-        requires { rises (F.passes test.now) self.now.list.stands ≡ true }
-        ensures is { result ≡ position_or_len (F.passes test.now) self.now.list.stands }
-        ensures within { result ≤ length self.now.list.stands }
+    pub fn partition_point<F: Predicate<(K, T)>>(&self, test: &F) -> usize
+        requires { is_partitioned (F.passes test.now) self.now.list.current ≡ true }
+        ensures is { result ≡ position_or_len (F.passes test.now) self.now.list.current }
+        ensures within { result ≤ length self.now.list.current }
     {
-        self.entries.first_where(test)
+        self.entries.partition_point(test)
     }
 
     /// The place of the first entry that passes, of those from the place `first` to the one before `end`, where all behind it up to `end` pass too;
     /// `end` where none does. Logarithmic.
-    pub fn first_in<F: Test<(K, T)>>(&self, first: usize, end: usize, test: &F) -> usize
+    pub fn first_in<F: Predicate<(K, T)>>(&self, first: usize, end: usize, test: &F) -> usize
         requires order { first ≤ end }
-        requires within { end ≤ length self.now.list.stands }
-        requires rises { rises (F.passes test.now) (drop first (take end self.now.list.stands)) ≡ true }
-        ensures is { result ≡ first + position_or_len (F.passes test.now) (drop first (take end self.now.list.stands)) }
+        requires within { end ≤ length self.now.list.current }
+        requires is_partitioned { is_partitioned (F.passes test.now) (drop first (take end self.now.list.current)) ≡ true }
+        ensures is { result ≡ first + position_or_len (F.passes test.now) (drop first (take end self.now.list.current)) }
         ensures within { result ≤ end }
     {
         self.entries.first_in(first, end, test)
     }
 
     /// The place of the first entry that passes, or the length where none does. Looks at the entries one after another.
-    pub fn position<F: Test<(K, T)>>(&self, test: &F) -> usize
-        ensures is { result ≡ position_or_len (F.passes test.now) self.now.list.stands }
-        ensures within { result ≤ length self.now.list.stands }
+    pub fn position<F: Predicate<(K, T)>>(&self, test: &F) -> usize
+        ensures is { result ≡ position_or_len (F.passes test.now) self.now.list.current }
+        ensures within { result ≤ length self.now.list.current }
     {
         self.entries.position(test)
     }
 
     /// The place of the first entry that passes, of those from the place `first` to the one before `end`; `end` where none does. Looks at these
     /// entries one after another.
-    pub fn position_in<F: Test<(K, T)>>(&self, first: usize, end: usize, test: &F) -> usize
+    pub fn position_in<F: Predicate<(K, T)>>(&self, first: usize, end: usize, test: &F) -> usize
         requires order { first ≤ end }
-        requires within { end ≤ length self.now.list.stands }
-        ensures is { result ≡ first + position_or_len (F.passes test.now) (drop first (take end self.now.list.stands)) }
+        requires within { end ≤ length self.now.list.current }
+        ensures is { result ≡ first + position_or_len (F.passes test.now) (drop first (take end self.now.list.current)) }
         ensures within { result ≤ end }
     {
         self.entries.position_in(first, end, test)
@@ -154,7 +154,7 @@ impl<K: Drop, T: Drop> UndoList<K, T> {
         end: usize,
         visit: &mut V,
     ) -> Result<(), Memory>
-        ensures { OnOk result (V.visited visit.new ≡ V.visited visit.old ++ map V.kept (drop first (take end self.now.list.stands))) }
+        ensures { OnOk result (V.visited visit.new ≡ V.visited visit.old ++ map V.output (drop first (take end self.now.list.current))) }
     {
         self.entries.walk(first, end, visit)
     }
@@ -174,9 +174,9 @@ impl<K: Drop, T: Drop> UndoList<K, T> {
 
     /// Puts an entry in at a place.
     pub fn insert(&mut self, at: usize, entry: (K, T))
-        requires within { at ≤ length self.old.list.stands }
+        requires within { at ≤ length self.old.list.current }
         requires room { 0 < self.old.room }
-        ensures list { self.new.list ≡ edited (insert self.old.list.stands at entry) self.old.list }
+        ensures list { self.new.list ≡ edited (insert self.old.list.current at entry) self.old.list }
         ensures room { self.old.room ≤ self.new.room + 1 }
     {
         let spare = next_spare(&mut self.spares);
@@ -188,9 +188,9 @@ impl<K: Drop, T: Drop> UndoList<K, T> {
 
     /// Takes the entry at a place out. An open step keeps it until it is closed.
     pub fn drop_out(&mut self, at: usize)
-        requires within { at < length self.old.list.stands }
+        requires within { at < length self.old.list.current }
         requires room { 0 < self.old.room }
-        ensures list { self.new.list ≡ edited (remove self.old.list.stands at) self.old.list }
+        ensures list { self.new.list ≡ edited (remove self.old.list.current at) self.old.list }
         ensures room { self.old.room ≤ self.new.room + 1 }
     {
         let (entry, spare) = self.entries.remove(at);
@@ -201,10 +201,10 @@ impl<K: Drop, T: Drop> UndoList<K, T> {
 
     /// Moves the item at the place `from` to the place `to`, with another tag. The item isn't copied.
     pub fn shift(&mut self, from: usize, to: usize, tag: K)
-        requires from { from < length self.old.list.stands }
-        requires to { to < length self.old.list.stands }
+        requires from { from < length self.old.list.current }
+        requires to { to < length self.old.list.current }
         requires room { 0 < self.old.room }
-        ensures list { self.new.list ≡ edited (moved from to tag self.old.list.stands) self.old.list }
+        ensures list { self.new.list ≡ edited (moved from to tag self.old.list.current) self.old.list }
         ensures room { self.old.room ≤ self.new.room + 1 }
     {
         let old = shift(&mut self.entries, from, to, tag);
@@ -215,10 +215,10 @@ impl<K: Drop, T: Drop> UndoList<K, T> {
 
     /// Takes the entry at a place out and gives it to the caller. Takes no memory.
     pub fn take(&mut self, at: usize) -> (K, T)
-        requires within { at < length self.old.list.stands }
-        requires closed { self.old.list.stood ≡ None }
-        ensures entry { result ≡ slice_index_or self.old.list.stands at result }
-        ensures list { self.new.list ≡ edited (remove self.old.list.stands at) self.old.list }
+        requires within { at < length self.old.list.current }
+        requires closed { self.old.list.saved ≡ None }
+        ensures entry { result ≡ slice_index_or self.old.list.current at result }
+        ensures list { self.new.list ≡ edited (remove self.old.list.current at) self.old.list }
     {
         let (entry, _) = self.entries.remove(at);
         entry
@@ -226,7 +226,7 @@ impl<K: Drop, T: Drop> UndoList<K, T> {
 
     /// Takes all entries out. Takes no memory.
     pub fn clear(&mut self)
-        requires { self.old.list.stood ≡ None }
+        requires { self.old.list.saved ≡ None }
         ensures { self.new.list ≡ edited [] self.old.list }
     {
         self.entries = Sequence::new();
@@ -234,7 +234,7 @@ impl<K: Drop, T: Drop> UndoList<K, T> {
 
     /// Opens a step. Takes no memory.
     pub fn begin(&mut self)
-        requires { self.old.list.stood ≡ None }
+        requires { self.old.list.saved ≡ None }
         ensures list { self.new.list ≡ begun self.old.list }
         ensures room { self.new.room ≡ self.old.room }
     {
@@ -243,7 +243,7 @@ impl<K: Drop, T: Drop> UndoList<K, T> {
 
     /// Closes the step, and what stood at its begin stands again. Takes no memory.
     pub fn undo(&mut self)
-        requires { IsSome self.old.list.stood }
+        requires { IsSome self.old.list.saved }
         ensures { self.new.list ≡ undone self.old.list }
     {
         take_all_back(&mut self.entries, &mut self.log);
@@ -252,7 +252,7 @@ impl<K: Drop, T: Drop> UndoList<K, T> {
 
     /// Closes the step, and what stands now stays. Takes no memory.
     pub fn commit(&mut self)
-        requires { IsSome self.old.list.stood }
+        requires { IsSome self.old.list.saved }
         ensures { self.new.list ≡ committed self.old.list }
     {
         self.log.clear();

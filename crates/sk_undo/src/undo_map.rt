@@ -6,7 +6,7 @@ ghost use Rattle.std.specs.Option.{is_some};
 ghost use Rattle.sk_undo.specs.Balance.{most};
 ghost use Rattle.sk_undo.specs.Entries.{keys_in, with_entry, with_new};
 ghost use Rattle.sk_undo.specs.Sorted.{is_ordered, is_sorted, rank, rank_past};
-ghost use Rattle.sk_undo.specs.Steps.{begun, closed, committed, edited, undone};
+ghost use Rattle.sk_undo.specs.Versions.{begun, closed, committed, edited, undone};
 
 use crate::search::{find, rank, rank_past};
 use crate::{Memory, Query, UndoList};
@@ -24,11 +24,11 @@ pub struct UndoMap<K: Ord, V> {
 impl<K: Ord, V> Model for UndoMap<K, V> {
     ghost use Rattle.std.specs.Prelude.{List};
     ghost use Rattle.std.specs.Coded.{coded_list, coded×};
-    ghost use Rattle.sk_undo.specs.Kept.{Kept, kept_code};
+    ghost use Rattle.sk_undo.specs.UndoView.{UndoView, undo_view_code};
 
-    ghost Value = { Kept (List (K × V)) };
+    ghost Value = { UndoView (List (K × V)) };
 
-    ghost coded = { kept_code (coded_list (coded× K.code V.code)) };
+    ghost coded = { undo_view_code (coded_list (coded× K.code V.code)) };
 
     ghost use Rattle.sk_undo.specs.UndoMap.{AreSorted, map_in};
 
@@ -40,8 +40,8 @@ impl<K: Ord, V> Model for UndoMap<K, V> {
 // Puts an entry in at its place, where its key has none.
 fn put_new<K: Ord + Drop, V: Drop>(entries: &mut UndoList<V, K>, key: K, value: V)
     requires room { 0 < entries.old.room }
-    requires ordered { is_ordered K.cmp (keys_in entries.old.list.stands) ≡ true }
-    ensures list { entries.new.list ≡ edited (with_new K.cmp entries.old.list.stands key value) entries.old.list }
+    requires ordered { is_ordered K.cmp (keys_in entries.old.list.current) ≡ true }
+    ensures list { entries.new.list ≡ edited (with_new K.cmp entries.old.list.current key value) entries.old.list }
     ensures room { entries.old.room ≤ entries.new.room + 1 }
 {
     let at = rank(entries, &key);
@@ -61,22 +61,22 @@ impl<K: Ord + Drop, V: Drop> UndoMap<K, V> {
 
     /// How many entries there are.
     pub fn len(&self) -> usize
-        ensures is { result ≡ length self.now.list.stands }
+        ensures is { result ≡ length self.now.list.current }
         ensures small { result ≤ most }
-        ensures sorted { is_sorted K.cmp (keys_of self.now.list.stands) ≡ true }
+        ensures sorted { is_sorted K.cmp (keys_of self.now.list.current) ≡ true }
     {
         self.entries.len()
     }
 
     pub fn is_open(&self) -> bool
-        ensures { result ≡ is_some self.now.list.stood }
+        ensures { result ≡ is_some self.now.list.saved }
     {
         self.entries.is_open()
     }
 
     /// The entry at an index. Logarithmic.
     pub fn at(&self, index: usize) -> Option<(&K, &V)>
-        ensures { option_map (λ entry. (entry.0.now, entry.1.now)) result ≡ slice_get self.now.list.stands index }
+        ensures { option_map (λ entry. (entry.0.now, entry.1.now)) result ≡ slice_get self.now.list.current index }
     {
         if index >= self.entries.len() {
             return None;
@@ -87,7 +87,7 @@ impl<K: Ord + Drop, V: Drop> UndoMap<K, V> {
 
     /// The value of a key. Logarithmic.
     pub fn get<Q: Query<K>>(&self, query: &Q) -> Option<&V>
-        ensures { option_map (λ value. value.now) result ≡ lookup (is_at (Q.order query.now)) self.now.list.stands }
+        ensures { option_map (λ value. value.now) result ≡ lookup (is_at (Q.order query.now)) self.now.list.current }
     {
         match find(&self.entries, query) {
             Some(at) => Some(&self.entries.get(at).0),
@@ -97,23 +97,23 @@ impl<K: Ord + Drop, V: Drop> UndoMap<K, V> {
 
     /// Whether a key has an entry. Logarithmic.
     pub fn has<Q: Query<K>>(&self, query: &Q) -> bool
-        ensures { result ≡ is_some (lookup (is_at (Q.order query.now)) self.now.list.stands) }
+        ensures { result ≡ is_some (lookup (is_at (Q.order query.now)) self.now.list.current) }
     {
         find(&self.entries, query).is_some()
     }
 
     /// How many entries stand before those that match. Logarithmic.
     pub fn rank<Q: Query<K>>(&self, query: &Q) -> usize
-        ensures is { result ≡ rank (Q.order query.now) (keys_of self.now.list.stands) }
-        ensures within { result ≤ length self.now.list.stands }
+        ensures is { result ≡ rank (Q.order query.now) (keys_of self.now.list.current) }
+        ensures within { result ≤ length self.now.list.current }
     {
         rank(&self.entries, query)
     }
 
     /// How many entries stand before those behind all that match. Logarithmic.
     pub fn rank_past<Q: Query<K>>(&self, query: &Q) -> usize
-        ensures is { result ≡ rank_past (Q.order query.now) (keys_of self.now.list.stands) }
-        ensures within { result ≤ length self.now.list.stands }
+        ensures is { result ≡ rank_past (Q.order query.now) (keys_of self.now.list.current) }
+        ensures within { result ≤ length self.now.list.current }
     {
         rank_past(&self.entries, query)
     }
@@ -129,7 +129,7 @@ impl<K: Ord + Drop, V: Drop> UndoMap<K, V> {
     /// Gives a key this value. Logarithmic.
     pub fn put(&mut self, key: K, value: V)
         requires { 0 < self.old.room }
-        ensures list { self.new.list ≡ edited (insert_entry K.cmp self.old.list.stands key value) self.old.list }
+        ensures list { self.new.list ≡ edited (insert_entry K.cmp self.old.list.current key value) self.old.list }
         ensures room { self.old.room ≤ self.new.room + 1 }
     {
         match find(&self.entries, &key) {
@@ -141,8 +141,8 @@ impl<K: Ord + Drop, V: Drop> UndoMap<K, V> {
     /// Gives a key this value where it has none, and answers whether it had none. Logarithmic.
     pub fn add(&mut self, key: K, value: V) -> bool
         requires { 0 < self.old.room }
-        ensures answer { result ≡ not (is_some (lookup (is_at (K.cmp key)) self.old.list.stands)) }
-        ensures list { self.new.list ≡ edited (with_entry K.cmp self.old.list.stands key value) self.old.list }
+        ensures answer { result ≡ not (is_some (lookup (is_at (K.cmp key)) self.old.list.current)) }
+        ensures list { self.new.list ≡ edited (with_entry K.cmp self.old.list.current key value) self.old.list }
         ensures room { self.old.room ≤ self.new.room + 1 }
     {
         if find(&self.entries, &key).is_some() {
@@ -155,8 +155,8 @@ impl<K: Ord + Drop, V: Drop> UndoMap<K, V> {
     /// Removes an entry, and answers whether there was one. An open step keeps it until it is closed. Logarithmic.
     pub fn remove<Q: Query<K>>(&mut self, query: &Q) -> bool
         requires { 0 < self.old.room }
-        ensures answer { result ≡ is_some (lookup (is_at (Q.order query.now)) self.old.list.stands) }
-        ensures list { self.new.list ≡ edited (remove_entry (is_at (Q.order query.now)) self.old.list.stands) self.old.list }
+        ensures answer { result ≡ is_some (lookup (is_at (Q.order query.now)) self.old.list.current) }
+        ensures list { self.new.list ≡ edited (remove_entry (is_at (Q.order query.now)) self.old.list.current) self.old.list }
         ensures room { self.old.room ≤ self.new.room + 1 }
     {
         match find(&self.entries, query) {
@@ -170,9 +170,9 @@ impl<K: Ord + Drop, V: Drop> UndoMap<K, V> {
 
     /// Removes an entry and gives its value, where no step is open. Takes no memory. Logarithmic.
     pub fn take<Q: Query<K>>(&mut self, query: &Q) -> Option<V>
-        requires { self.old.list.stood ≡ None }
-        ensures answer { result ≡ lookup (is_at (Q.order query.now)) self.old.list.stands }
-        ensures list { self.new.list ≡ edited (remove_entry (is_at (Q.order query.now)) self.old.list.stands) self.old.list }
+        requires { self.old.list.saved ≡ None }
+        ensures answer { result ≡ lookup (is_at (Q.order query.now)) self.old.list.current }
+        ensures list { self.new.list ≡ edited (remove_entry (is_at (Q.order query.now)) self.old.list.current) self.old.list }
     {
         match find(&self.entries, query) {
             Some(at) => Some(self.entries.take(at).0),
@@ -182,7 +182,7 @@ impl<K: Ord + Drop, V: Drop> UndoMap<K, V> {
 
     /// Removes all entries, where no step is open. Takes no memory.
     pub fn clear(&mut self)
-        requires { self.old.list.stood ≡ None }
+        requires { self.old.list.saved ≡ None }
         ensures { self.new.list ≡ edited [] self.old.list }
     {
         self.entries.clear();
@@ -190,7 +190,7 @@ impl<K: Ord + Drop, V: Drop> UndoMap<K, V> {
 
     /// Opens a step. Takes no memory.
     pub fn begin(&mut self)
-        requires { self.old.list.stood ≡ None }
+        requires { self.old.list.saved ≡ None }
         ensures list { self.new.list ≡ begun self.old.list }
         ensures room { self.new.room ≡ self.old.room }
     {
@@ -199,7 +199,7 @@ impl<K: Ord + Drop, V: Drop> UndoMap<K, V> {
 
     /// Closes the step, and what stood at its begin stands again. Takes no memory.
     pub fn undo(&mut self)
-        requires { IsSome self.old.list.stood }
+        requires { IsSome self.old.list.saved }
         ensures { self.new.list ≡ undone self.old.list }
     {
         self.entries.undo();
@@ -207,7 +207,7 @@ impl<K: Ord + Drop, V: Drop> UndoMap<K, V> {
 
     /// Closes the step, and what stands now stays. Takes no memory.
     pub fn commit(&mut self)
-        requires { IsSome self.old.list.stood }
+        requires { IsSome self.old.list.saved }
         ensures { self.new.list ≡ committed self.old.list }
     {
         self.entries.commit();

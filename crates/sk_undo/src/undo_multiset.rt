@@ -6,7 +6,7 @@ ghost use Rattle.std.specs.Option.{is_some};
 ghost use Rattle.std.specs.Set.{remove_key};
 ghost use Rattle.sk_undo.specs.Balance.{most};
 ghost use Rattle.sk_undo.specs.Sorted.{is_ordered, rank, rank_past};
-ghost use Rattle.sk_undo.specs.Steps.{begun, closed, committed, edited, undone};
+ghost use Rattle.sk_undo.specs.Versions.{begun, closed, committed, edited, undone};
 
 use crate::search::{find, rank, rank_past};
 use crate::{Memory, Query, UndoList};
@@ -23,13 +23,13 @@ pub struct UndoMultiset<K: Ord> {
 impl<K: Ord> Model for UndoMultiset<K> {
     ghost use Rattle.std.specs.Prelude.{List};
     ghost use Rattle.std.specs.Coded.{coded_list};
-    ghost use Rattle.sk_undo.specs.Kept.{Kept, kept_code};
+    ghost use Rattle.sk_undo.specs.UndoView.{UndoView, undo_view_code};
     ghost use Rattle.sk_undo.specs.Sorted.{is_ordered};
-    ghost use Rattle.sk_undo.specs.Steps.{BothPass};
+    ghost use Rattle.sk_undo.specs.Versions.{BothPass};
 
-    ghost Value = { Kept (List K) };
+    ghost Value = { UndoView (List K) };
 
-    ghost coded = { kept_code (coded_list K.code) };
+    ghost coded = { undo_view_code (coded_list K.code) };
 
     ghost use Rattle.sk_undo.specs.UndoMultiset.{multiset_in};
 
@@ -50,46 +50,46 @@ impl<K: Ord + Drop> UndoMultiset<K> {
 
     /// How many keys there are.
     pub fn len(&self) -> usize
-        ensures is { result ≡ length self.now.list.stands }
+        ensures is { result ≡ length self.now.list.current }
         ensures small { result ≤ most }
-        ensures ordered { is_ordered K.cmp self.now.list.stands ≡ true }
+        ensures ordered { is_ordered K.cmp self.now.list.current ≡ true }
     {
         self.keys.len()
     }
 
     pub fn is_open(&self) -> bool
-        ensures { result ≡ is_some self.now.list.stood }
+        ensures { result ≡ is_some self.now.list.saved }
     {
         self.keys.is_open()
     }
 
     /// The key at an index. Logarithmic.
     pub fn at(&self, index: usize) -> &K
-        requires { index < length self.now.list.stands }
-        ensures { result.now ≡ slice_index_or self.now.list.stands index result.now }
+        requires { index < length self.now.list.current }
+        ensures { result.now ≡ slice_index_or self.now.list.current index result.now }
     {
         &self.keys.get(index).1
     }
 
     /// How many keys stand before those that match. Logarithmic.
     pub fn rank<Q: Query<K>>(&self, query: &Q) -> usize
-        ensures is { result ≡ rank (Q.order query.now) self.now.list.stands }
-        ensures within { result ≤ length self.now.list.stands }
+        ensures is { result ≡ rank (Q.order query.now) self.now.list.current }
+        ensures within { result ≤ length self.now.list.current }
     {
         rank(&self.keys, query)
     }
 
     /// How many keys stand before those behind all that match. Logarithmic.
     pub fn rank_past<Q: Query<K>>(&self, query: &Q) -> usize
-        ensures is { result ≡ rank_past (Q.order query.now) self.now.list.stands }
-        ensures within { result ≤ length self.now.list.stands }
+        ensures is { result ≡ rank_past (Q.order query.now) self.now.list.current }
+        ensures within { result ≤ length self.now.list.current }
     {
         rank_past(&self.keys, query)
     }
 
     /// How many keys match. Logarithmic.
     pub fn count<Q: Query<K>>(&self, query: &Q) -> usize
-        ensures is { result ≡ count_by (is_at (Q.order query.now)) self.now.list.stands }
+        ensures is { result ≡ count_by (is_at (Q.order query.now)) self.now.list.current }
         ensures small { result ≤ most }
     {
         let _len = self.keys.len(); // its contract bounds the number
@@ -109,7 +109,7 @@ impl<K: Ord + Drop> UndoMultiset<K> {
     /// Puts a key in, behind those that are equal to it. Logarithmic.
     pub fn put(&mut self, key: K)
         requires { 0 < self.old.room }
-        ensures list { self.new.list ≡ edited (insert self.old.list.stands (rank_past (K.cmp key) self.old.list.stands) key) self.old.list }
+        ensures list { self.new.list ≡ edited (insert self.old.list.current (rank_past (K.cmp key) self.old.list.current) key) self.old.list }
         ensures room { self.old.room ≤ self.new.room + 1 }
     {
         let at = rank_past(&self.keys, &key);
@@ -119,8 +119,8 @@ impl<K: Ord + Drop> UndoMultiset<K> {
     /// Removes the first key that matches, and answers whether there was one. An open step keeps it until it is closed. Logarithmic.
     pub fn remove<Q: Query<K>>(&mut self, query: &Q) -> bool
         requires { 0 < self.old.room }
-        ensures answer { result ≡ list_any (is_at (Q.order query.now)) self.old.list.stands }
-        ensures list { self.new.list ≡ edited (remove_key (is_at (Q.order query.now)) self.old.list.stands) self.old.list }
+        ensures answer { result ≡ list_any (is_at (Q.order query.now)) self.old.list.current }
+        ensures list { self.new.list ≡ edited (remove_key (is_at (Q.order query.now)) self.old.list.current) self.old.list }
         ensures room { self.old.room ≤ self.new.room + 1 }
     {
         match find(&self.keys, query) {
@@ -134,9 +134,9 @@ impl<K: Ord + Drop> UndoMultiset<K> {
 
     /// Removes the first key that matches, where no step is open, and answers whether there was one. Takes no memory. Logarithmic.
     pub fn take<Q: Query<K>>(&mut self, query: &Q) -> bool
-        requires { self.old.list.stood ≡ None }
-        ensures answer { result ≡ list_any (is_at (Q.order query.now)) self.old.list.stands }
-        ensures list { self.new.list ≡ edited (remove_key (is_at (Q.order query.now)) self.old.list.stands) self.old.list }
+        requires { self.old.list.saved ≡ None }
+        ensures answer { result ≡ list_any (is_at (Q.order query.now)) self.old.list.current }
+        ensures list { self.new.list ≡ edited (remove_key (is_at (Q.order query.now)) self.old.list.current) self.old.list }
     {
         match find(&self.keys, query) {
             Some(at) => {
@@ -149,7 +149,7 @@ impl<K: Ord + Drop> UndoMultiset<K> {
 
     /// Removes all keys, where no step is open. Takes no memory.
     pub fn clear(&mut self)
-        requires { self.old.list.stood ≡ None }
+        requires { self.old.list.saved ≡ None }
         ensures { self.new.list ≡ edited [] self.old.list }
     {
         self.keys.clear();
@@ -157,7 +157,7 @@ impl<K: Ord + Drop> UndoMultiset<K> {
 
     /// Opens a step. Takes no memory.
     pub fn begin(&mut self)
-        requires { self.old.list.stood ≡ None }
+        requires { self.old.list.saved ≡ None }
         ensures list { self.new.list ≡ begun self.old.list }
         ensures room { self.new.room ≡ self.old.room }
     {
@@ -166,7 +166,7 @@ impl<K: Ord + Drop> UndoMultiset<K> {
 
     /// Closes the step, and what stood at its begin stands again. Takes no memory.
     pub fn undo(&mut self)
-        requires { IsSome self.old.list.stood }
+        requires { IsSome self.old.list.saved }
         ensures { self.new.list ≡ undone self.old.list }
     {
         self.keys.undo();
@@ -174,7 +174,7 @@ impl<K: Ord + Drop> UndoMultiset<K> {
 
     /// Closes the step, and what stands now stays. Takes no memory.
     pub fn commit(&mut self)
-        requires { IsSome self.old.list.stood }
+        requires { IsSome self.old.list.saved }
         ensures { self.new.list ≡ committed self.old.list }
     {
         self.keys.commit();

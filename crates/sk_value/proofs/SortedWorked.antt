@@ -13,9 +13,9 @@ use Rattle.sk_zset.specs.Pairs.{put, without}
 use Rattle.sk_value.specs.declared.keys_fault.KeysFault.TheVariants as fault
 use Rattle.sk_value.specs.declared.value.Value.{Value}
 use Rattle.sk_value.specs.declared.value.Value.TheVariants as value
-use Rattle.sk_value.specs.declared.look.Look.{Look}
-use Rattle.sk_value.specs.declared.look.Look.TheVariants as look
-use Rattle.sk_value.specs.declared.edit.Edit.TheVariants as edit
+use Rattle.sk_value.specs.declared.read_op.ReadOp.{ReadOp}
+use Rattle.sk_value.specs.declared.read_op.ReadOp.TheVariants as look
+use Rattle.sk_value.specs.declared.write_op.WriteOp.TheVariants as edit
 use Rattle.sk_value.specs.Answer.{counted, texts}
 use Rattle.sk_value.specs.Lists.{edit_list}
 use Rattle.sk_value.specs.Sorted.{edit_sorted}
@@ -34,11 +34,11 @@ abbrev cab : Value
 cab = sorted ((score 1, codes "c") ∷ (score 2, codes "a") ∷ (score 2, codes "b") ∷ [])
 
 -- what a command that reads `cab` gives
-abbrev gives : Look → List Bytes → Type 0
+abbrev gives : ReadOp → List Bytes → Type 0
 gives l list = looks l (k cab) ≡ answers (Ok (texts list)) (k cab)
 
 -- options of ZRANGEBYSCORE
-abbrev by_score : Option (ℤ × ℤ) → Look
+abbrev by_score : Option (ℤ × ℤ) → ReadOp
 by_score limit = look.Zrangebyscore bound.Low bound.High (record { with_scores = false; limit = limit })
 
 -- ## Adding

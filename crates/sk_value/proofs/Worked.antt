@@ -14,10 +14,10 @@ use Rattle.sk_cmd.specs.declared.argument.Expire.TheVariants as expire
 use Rattle.sk_value.specs.declared.keys_fault.KeysFault.TheVariants as fault
 use Rattle.sk_value.specs.declared.value.Value.{Value}
 use Rattle.sk_value.specs.declared.value.Value.TheVariants as value
-use Rattle.sk_value.specs.declared.look.Look.{Look}
-use Rattle.sk_value.specs.declared.look.Look.TheVariants as look
-use Rattle.sk_value.specs.declared.edit.Edit.{Edit}
-use Rattle.sk_value.specs.declared.edit.Edit.TheVariants as edit
+use Rattle.sk_value.specs.declared.read_op.ReadOp.{ReadOp}
+use Rattle.sk_value.specs.declared.read_op.ReadOp.TheVariants as look
+use Rattle.sk_value.specs.declared.write_op.WriteOp.{WriteOp}
+use Rattle.sk_value.specs.declared.write_op.WriteOp.TheVariants as edit
 use Rattle.sk_value.specs.declared.action.Action.TheVariants as action
 use Rattle.sk_value.specs.Answer.{counted, texts}
 use Rattle.sk_value.specs.Number.{int_of}
@@ -36,11 +36,11 @@ abbrev pub k : Value → Keys
 k v = holds v None
 
 -- the command on `k`, at the moment 1000
-abbrev pub looks : Look → Keys → Applied
-looks l keys = applied 1000 (action.Look (codes "k") l) keys
+abbrev pub looks : ReadOp → Keys → Applied
+looks l keys = applied 1000 (action.ReadOp (codes "k") l) keys
 
-abbrev pub edits : Edit → Keys → Applied
-edits e keys = applied 1000 (action.Edit (codes "k") e) keys
+abbrev pub edits : WriteOp → Keys → Applied
+edits e keys = applied 1000 (action.WriteOp (codes "k") e) keys
 
 abbrev pub abc : Value
 abc = value.List (codes "a" ∷ codes "b" ∷ codes "c" ∷ [])

@@ -41,9 +41,9 @@ fault_say fault.BadExpire = say.BadExpire
 fault_say fault.Memory = say.Oom
 
 -- A call gave this answer, or found no memory.
-abbrev pub Gives : Answer → Answer → Type 0
-Gives answer result = MatchResult result (λ r. answer ≡ Ok r) (λ f. f ≢ fault.Memory → answer ≡ Err f)
+abbrev pub AnswersWith : Answer → Answer → Type 0
+AnswersWith answer result = MatchResult result (λ r. answer ≡ Ok r) (λ f. f ≢ fault.Memory → answer ≡ Err f)
 
 -- A call gave this answer and left this behind, or found no memory.
-abbrev pub Leaves : {A : Type 0} → AndThen A → Answer → A → Type 0
-Leaves due result after = MatchResult result (λ r. due ≡ Ok (r, after)) (λ f. f ≢ fault.Memory → due ≡ Err f)
+abbrev pub UpdatesTo : {A : Type 0} → AndThen A → Answer → A → Type 0
+UpdatesTo due result after = MatchResult result (λ r. due ≡ Ok (r, after)) (λ f. f ≢ fault.Memory → due ≡ Err f)

@@ -2,6 +2,7 @@
 use Rattle.std.specs.Prelude.{ℕ, ◌==◌, ◌+◌, ◌-◌, ◌*◌, ℤ, pos, negsuc, List, [], Option, Some, None, Bool, cond, ◌&&◌, nat_lt, nat_le, length, Result, Ok, Err}
 use Rattle.std.specs.Option.{is_some}
 use Rattle.std.specs.Str.{bytes_eq}
+use Rattle.sk_base.specs.declared.limits.TheConstants.{LAST_CALENDAR_MOMENT}
 use Rattle.sk_resp.specs.Spelling.{Bytes}
 use Rattle.sk_resp.specs.declared.reply.Reply.{Reply}
 use Rattle.sk_resp.specs.declared.reply.Reply.TheVariants as reply
@@ -15,7 +16,7 @@ use Rattle.sk_value.specs.declared.keys_fault.KeysFault.TheVariants as fault
 use Rattle.sk_value.specs.declared.value.Value.{Value}
 use Rattle.sk_value.specs.declared.value.Value.TheVariants as value
 use Rattle.sk_value.specs.declared.entry.Entry.{Entry}
-use Rattle.sk_value.specs.declared.edit.Edit.{Edit}
+use Rattle.sk_value.specs.declared.write_op.WriteOp.{WriteOp}
 use Rattle.sk_value.specs.declared.action.Action.{Action}
 use Rattle.sk_value.specs.declared.action.Action.TheVariants as action
 use Rattle.sk_value.specs.Answer.{Answer, AndThen, counted}
@@ -62,7 +63,7 @@ edited (Ok p) deadline = keeps p.0 p.1 deadline
 edited (Err f) deadline = refuses f
 
 -- An edit leaves the deadline.
-unfoldable pub edit_at : Edit → Option Entry → Turn
+unfoldable pub edit_at : WriteOp → Option Entry → Turn
 edit_at e None = edited (edit_in e (blank e)) None
 edit_at e (Some entry) = edited (edit_in e entry.value) entry.deadline
 
@@ -70,25 +71,25 @@ edit_at e (Some entry) = edited (edit_in e entry.value) entry.deadline
 
 -- the last millisecond of the year 9999
 abbrev pub latest : ℕ
-latest = 253402300799999
+latest = LAST_CALENDAR_MOMENT
 
 -- so many milliseconds from now, where that isn't past the latest deadline
 abbrev pub after : ℕ → ℕ → Option ℕ
 after now millis = cond (nat_le (now + millis) latest) (Some (now + millis)) None
 
 -- a time to live: at least 1
-abbrev pub lives : ℕ → ℕ → ℤ → Result (Option ℕ) KeysFault
-lives now unit (pos n) = deadline (cond (nat_lt 0 n) (after now (unit * n)) None) where
+abbrev pub deadline_after : ℕ → ℕ → ℤ → Result (Option ℕ) KeysFault
+deadline_after now unit (pos n) = deadline (cond (nat_lt 0 n) (after now (unit * n)) None) where
   deadline : Option ℕ → Result (Option ℕ) KeysFault
   deadline None = Err fault.BadExpire
   deadline (Some d) = Ok (Some d)
-lives now unit (negsuc n) = Err fault.BadExpire
+deadline_after now unit (negsuc n) = Err fault.BadExpire
 
 -- the deadline that the options of SET give
 abbrev pub deadline_of : ℕ → Expire → Result (Option ℕ) KeysFault
 deadline_of now expire.Never = Ok None
-deadline_of now (expire.Seconds n) = lives now 1000 n
-deadline_of now (expire.Millis n) = lives now 1 n
+deadline_of now (expire.Seconds n) = deadline_after now 1000 n
+deadline_of now (expire.Millis n) = deadline_after now 1 n
 
 abbrev pub set_until : Bytes → Bool → Result (Option ℕ) KeysFault → Option Entry → Turn
 set_until text only_new (Err f) before = refuses f
@@ -171,8 +172,8 @@ abbrev pub applied : ℕ → Action → Keys → Applied
 applied now action.Ping keys = answers (Ok (reply.Say say.Pong)) keys
 applied now (action.Echo text) keys = answers (Ok (reply.Bulk text)) keys
 applied now action.Quit keys = answers (Ok (reply.Say say.Ok)) keys
-applied now (action.Look name look) keys = answers (look_at now look (at name keys)) keys
-applied now (action.Edit name edit) keys = turns name (edit_at edit (at name keys)) keys
+applied now (action.ReadOp name look) keys = answers (look_at now look (at name keys)) keys
+applied now (action.WriteOp name edit) keys = turns name (edit_at edit (at name keys)) keys
 applied now (action.Set name text options) keys = turns name (set_at now text options (at name keys)) keys
 applied now (action.Expire name millis) keys = turns name (expires_at now millis (at name keys)) keys
 applied now (action.Exists names) keys = answers (Ok (counted (how_many (λ name. at name keys) names))) keys

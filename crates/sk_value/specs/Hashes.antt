@@ -4,10 +4,10 @@ use Rattle.std.specs.BTreeMap.{is_at}
 use Rattle.std.specs.Map.{lookup}
 use Rattle.sk_resp.specs.Spelling.{Bytes}
 use Rattle.sk_value.specs.declared.keys_fault.KeysFault.TheVariants as fault
-use Rattle.sk_value.specs.declared.look.Look.{Look}
-use Rattle.sk_value.specs.declared.look.Look.TheVariants as look
-use Rattle.sk_value.specs.declared.edit.Edit.{Edit}
-use Rattle.sk_value.specs.declared.edit.Edit.TheVariants as edit
+use Rattle.sk_value.specs.declared.read_op.ReadOp.{ReadOp}
+use Rattle.sk_value.specs.declared.read_op.ReadOp.TheVariants as look
+use Rattle.sk_value.specs.declared.write_op.WriteOp.{WriteOp}
+use Rattle.sk_value.specs.declared.write_op.WriteOp.TheVariants as edit
 use Rattle.sk_value.specs.Answer.{Answer, AndThen, counted, texts, text_or_null}
 use Rattle.sk_resp.specs.WordOrder.{text_cmp}
 use Rattle.sk_value.specs.Maps.{with_pairs, without_texts}
@@ -32,14 +32,14 @@ flat (pair ∷ pairs) = pair.0 ∷ pair.1 ∷ flat pairs
 
 -- ## The commands
 
-abbrev pub look_hash : Look → Pairs → Answer
+abbrev pub look_hash : ReadOp → Pairs → Answer
 look_hash (look.Hget field) pairs = Ok (text_or_null (field_of field pairs))
 look_hash look.Hlen pairs = Ok (counted (length pairs))
 look_hash look.Hgetall pairs = Ok (texts (flat pairs))
 look_hash other pairs = Err fault.WrongType
 
 -- HSET answers how many fields are new, HDEL how many went.
-unfoldable pub edit_hash : Edit → Pairs → AndThen Pairs
+unfoldable pub edit_hash : WriteOp → Pairs → AndThen Pairs
 edit_hash (edit.Hset more) pairs = Ok (counted (length (with_fields more pairs) - length pairs), with_fields more pairs)
 edit_hash (edit.Hdel fields) pairs = Ok (counted (length pairs - length (without_fields fields pairs)), without_fields fields pairs)
 edit_hash other pairs = Err fault.WrongType

@@ -5,10 +5,10 @@ use Rattle.sk_resp.specs.Spelling.{Bytes}
 use Rattle.sk_cmd.specs.declared.argument.Side.{Side}
 use Rattle.sk_cmd.specs.declared.argument.Side.TheVariants.{Left, Right}
 use Rattle.sk_value.specs.declared.keys_fault.KeysFault.TheVariants as fault
-use Rattle.sk_value.specs.declared.look.Look.{Look}
-use Rattle.sk_value.specs.declared.look.Look.TheVariants as look
-use Rattle.sk_value.specs.declared.edit.Edit.{Edit}
-use Rattle.sk_value.specs.declared.edit.Edit.TheVariants as edit
+use Rattle.sk_value.specs.declared.read_op.ReadOp.{ReadOp}
+use Rattle.sk_value.specs.declared.read_op.ReadOp.TheVariants as look
+use Rattle.sk_value.specs.declared.write_op.WriteOp.{WriteOp}
+use Rattle.sk_value.specs.declared.write_op.WriteOp.TheVariants as edit
 use Rattle.sk_value.specs.Answer.{Answer, AndThen, counted, texts}
 
 -- ## Ends
@@ -72,12 +72,12 @@ without_some (negsuc n) text list = reverse (without_first (suc n) text (reverse
 
 -- ## The commands
 
-abbrev pub look_list : Look → List Bytes → Answer
+abbrev pub look_list : ReadOp → List Bytes → Answer
 look_list (look.Lrange first last) list = Ok (texts (range_of first last list))
 look_list look.Llen list = Ok (counted (length list))
 look_list other list = Err fault.WrongType
 
-unfoldable pub edit_list : Edit → List Bytes → AndThen (List Bytes)
+unfoldable pub edit_list : WriteOp → List Bytes → AndThen (List Bytes)
 edit_list (edit.Push side more) list = Ok (counted (length (push_all side more list)), push_all side more list)
 edit_list (edit.Lrem count text) list = Ok (counted (length list - length (without_some count text list)), without_some count text list)
 edit_list other list = Err fault.WrongType

@@ -8,10 +8,10 @@ use Rattle.sk_zset.specs.Pair.{Pair}
 use Rattle.sk_zset.specs.Pairs.{added, score_of, without, without_ranks}
 use Rattle.sk_zset.specs.Bounds.{is_between}
 use Rattle.sk_value.specs.declared.keys_fault.KeysFault.TheVariants as fault
-use Rattle.sk_value.specs.declared.look.Look.{Look}
-use Rattle.sk_value.specs.declared.look.Look.TheVariants as look
-use Rattle.sk_value.specs.declared.edit.Edit.{Edit}
-use Rattle.sk_value.specs.declared.edit.Edit.TheVariants as edit
+use Rattle.sk_value.specs.declared.read_op.ReadOp.{ReadOp}
+use Rattle.sk_value.specs.declared.read_op.ReadOp.TheVariants as look
+use Rattle.sk_value.specs.declared.write_op.WriteOp.{WriteOp}
+use Rattle.sk_value.specs.declared.write_op.WriteOp.TheVariants as edit
 use Rattle.sk_value.specs.Answer.{Answer, AndThen, counted, texts, text_or_null}
 use Rattle.sk_value.specs.Lists.{first_index, end_index, range_of}
 
@@ -62,7 +62,7 @@ without_between least greatest pairs = filter (λ pair. not (is_between least gr
 
 -- ## The commands
 
-abbrev pub look_sorted : Look → List Pair → Answer
+abbrev pub look_sorted : ReadOp → List Pair → Answer
 look_sorted look.Zcard pairs = Ok (counted (length pairs))
 look_sorted (look.Zscore member) pairs = Ok (text_or_null (option_map score_text (score_of member pairs)))
 look_sorted (look.Zrange first last scores) pairs = Ok (texts (listed scores (range_of first last pairs)))
@@ -74,7 +74,7 @@ abbrev pub remaining : List Pair → List Pair → AndThen (List Pair)
 remaining pairs left = Ok (counted (length pairs - length left), left)
 
 -- ZADD answers how many members are new, and the others how many went.
-unfoldable pub edit_sorted : Edit → List Pair → AndThen (List Pair)
+unfoldable pub edit_sorted : WriteOp → List Pair → AndThen (List Pair)
 edit_sorted (edit.Zadd more) pairs = Ok (counted (length (all_added more pairs) - length pairs), all_added more pairs)
 edit_sorted (edit.Zrem members) pairs = remaining pairs (all_without members pairs)
 edit_sorted (edit.Zremrangebyrank first last) pairs = remaining pairs (without_range first last pairs)

@@ -8,10 +8,10 @@ use Rattle.sk_resp.specs.declared.kind.Kind.TheVariants as kind
 use Rattle.sk_value.specs.declared.value.Value.{Value}
 use Rattle.sk_value.specs.declared.value.Value.TheVariants as value
 use Rattle.sk_value.specs.declared.entry.Entry.{Entry}
-use Rattle.sk_value.specs.declared.look.Look.{Look}
-use Rattle.sk_value.specs.declared.look.Look.TheVariants as look
-use Rattle.sk_value.specs.declared.edit.Edit.{Edit}
-use Rattle.sk_value.specs.declared.edit.Edit.TheVariants as edit
+use Rattle.sk_value.specs.declared.read_op.ReadOp.{ReadOp}
+use Rattle.sk_value.specs.declared.read_op.ReadOp.TheVariants as look
+use Rattle.sk_value.specs.declared.write_op.WriteOp.{WriteOp}
+use Rattle.sk_value.specs.declared.write_op.WriteOp.TheVariants as edit
 use Rattle.sk_value.specs.Answer.{Answer, AndThen, counted}
 use Rattle.sk_value.specs.Strings.{look_string, edit_string}
 use Rattle.sk_value.specs.Lists.{look_list, edit_list}
@@ -37,7 +37,7 @@ is_empty (value.Sorted pairs) = length pairs == 0
 -- ## Reading
 
 -- what a command that reads a value answers
-abbrev pub look_in : Look → Value → Answer
+abbrev pub look_in : ReadOp → Value → Answer
 look_in l (value.String text) = look_string l text
 look_in l (value.List list) = look_list l list
 look_in l (value.Set members) = look_set l members
@@ -45,7 +45,7 @@ look_in l (value.Hash pairs) = look_hash l pairs
 look_in l (value.Sorted pairs) = look_sorted l pairs
 
 -- What it answers where there is no key: what it would of a value with nothing in it.
-abbrev pub look_absent : Look → Answer
+abbrev pub look_absent : ReadOp → Answer
 look_absent look.Get = Ok reply.Null
 look_absent look.KindOf = Ok (reply.Say (say.Kind kind.Absent))
 look_absent look.Pttl = Ok (reply.Int (negsuc 1))
@@ -67,13 +67,13 @@ abbrev pub left_until : ℕ → Option ℕ → Reply
 left_until now None = reply.Int (negsuc 0)
 left_until now (Some deadline) = counted (min (deadline - now) (2 ^ 63 - 1))
 
-abbrev pub look_there : ℕ → Look → Entry → Answer
+abbrev pub look_there : ℕ → ReadOp → Entry → Answer
 look_there now look.KindOf entry = Ok (reply.Say (say.Kind (kind_of entry.value)))
 look_there now look.Pttl entry = Ok (left_until now entry.deadline)
 look_there now other entry = look_in other entry.value
 
 -- what a command that reads one key answers at a moment, where the key holds this
-abbrev pub look_at : ℕ → Look → Option Entry → Answer
+abbrev pub look_at : ℕ → ReadOp → Option Entry → Answer
 look_at now l None = look_absent l
 look_at now l (Some entry) = look_there now l entry
 
@@ -84,7 +84,7 @@ as_value make (Ok p) = Ok (p.0, make p.1)
 as_value make (Err f) = Err f
 
 -- what a command that edits a value answers, and the value afterwards
-abbrev pub edit_in : Edit → Value → AndThen Value
+abbrev pub edit_in : WriteOp → Value → AndThen Value
 edit_in e (value.String text) = as_value value.String (edit_string e text)
 edit_in e (value.List list) = as_value value.List (edit_list e list)
 edit_in e (value.Set members) = as_value value.Set (edit_set e members)
@@ -92,7 +92,7 @@ edit_in e (value.Hash pairs) = as_value value.Hash (edit_hash e pairs)
 edit_in e (value.Sorted pairs) = as_value value.Sorted (edit_sorted e pairs)
 
 -- the value on which it acts where there is no key
-abbrev pub blank : Edit → Value
+abbrev pub blank : WriteOp → Value
 blank (edit.Incrby n) = value.String (codes "0")
 blank (edit.Push side more) = value.List []
 blank (edit.Lrem count text) = value.List []

@@ -2,7 +2,7 @@
 ghost use Rattle.std.specs.Prelude.{◌≡◌};
 ghost use Rattle.sk_value.specs.Action.{action_of};
 
-use crate::{Edit, Look};
+use crate::{ReadOp, WriteOp};
 use sk_cmd::{PlainCommand, SetOptions, Side};
 use sk_resp::{Word, Words};
 
@@ -16,9 +16,9 @@ pub enum Action {
     /// `QUIT`, `SHUTDOWN`
     Quit,
     /// A command that reads one key.
-    Look(Word, Look),
+    ReadOp(Word, ReadOp),
     /// A command that edits what one key holds.
-    Edit(Word, Edit),
+    WriteOp(Word, WriteOp),
     /// `SET key value [NX] [EX seconds | PX milliseconds]`
     Set(Word, Word, SetOptions),
     /// `PEXPIRE key milliseconds`
@@ -44,47 +44,47 @@ pub fn action_of(command: PlainCommand) -> Action
         PlainCommand::Quit => Action::Quit,
         PlainCommand::Shutdown => Action::Quit,
         PlainCommand::Flushall => Action::Flush,
-        PlainCommand::Get(key) => Action::Look(key, Look::Get),
+        PlainCommand::Get(key) => Action::ReadOp(key, ReadOp::Get),
         PlainCommand::Set(key, value, options) => Action::Set(key, value, options),
         PlainCommand::Del(keys) => Action::Delete(keys),
         PlainCommand::Exists(keys) => Action::Exists(keys),
-        PlainCommand::KindOf(key) => Action::Look(key, Look::KindOf),
-        PlainCommand::Incrby(key, n) => Action::Edit(key, Edit::Incrby(n)),
+        PlainCommand::KindOf(key) => Action::ReadOp(key, ReadOp::KindOf),
+        PlainCommand::Incrby(key, n) => Action::WriteOp(key, WriteOp::Incrby(n)),
         PlainCommand::Pexpire(key, millis) => Action::Expire(key, millis),
-        PlainCommand::Pttl(key) => Action::Look(key, Look::Pttl),
-        PlainCommand::Lpush(key, texts) => Action::Edit(key, Edit::Push(Side::Left, texts)),
-        PlainCommand::Rpush(key, texts) => Action::Edit(key, Edit::Push(Side::Right, texts)),
-        PlainCommand::Lrange(key, first, last) => Action::Look(key, Look::Lrange(first, last)),
-        PlainCommand::Llen(key) => Action::Look(key, Look::Llen),
-        PlainCommand::Lrem(key, count, text) => Action::Edit(key, Edit::Lrem(count, text)),
+        PlainCommand::Pttl(key) => Action::ReadOp(key, ReadOp::Pttl),
+        PlainCommand::Lpush(key, texts) => Action::WriteOp(key, WriteOp::Push(Side::Left, texts)),
+        PlainCommand::Rpush(key, texts) => Action::WriteOp(key, WriteOp::Push(Side::Right, texts)),
+        PlainCommand::Lrange(key, first, last) => Action::ReadOp(key, ReadOp::Lrange(first, last)),
+        PlainCommand::Llen(key) => Action::ReadOp(key, ReadOp::Llen),
+        PlainCommand::Lrem(key, count, text) => Action::WriteOp(key, WriteOp::Lrem(count, text)),
         PlainCommand::Lmove(source, destination, from, to) => {
             Action::Move(source, destination, from, to)
         }
-        PlainCommand::Sadd(key, members) => Action::Edit(key, Edit::Sadd(members)),
-        PlainCommand::Srem(key, members) => Action::Edit(key, Edit::Srem(members)),
-        PlainCommand::Smembers(key) => Action::Look(key, Look::Smembers),
-        PlainCommand::Scard(key) => Action::Look(key, Look::Scard),
-        PlainCommand::Sismember(key, member) => Action::Look(key, Look::Sismember(member)),
-        PlainCommand::Hset(key, pairs) => Action::Edit(key, Edit::Hset(pairs)),
-        PlainCommand::Hget(key, field) => Action::Look(key, Look::Hget(field)),
-        PlainCommand::Hlen(key) => Action::Look(key, Look::Hlen),
-        PlainCommand::Hdel(key, fields) => Action::Edit(key, Edit::Hdel(fields)),
-        PlainCommand::Hgetall(key) => Action::Look(key, Look::Hgetall),
-        PlainCommand::Zadd(key, scores) => Action::Edit(key, Edit::Zadd(scores)),
-        PlainCommand::Zrem(key, members) => Action::Edit(key, Edit::Zrem(members)),
-        PlainCommand::Zcard(key) => Action::Look(key, Look::Zcard),
-        PlainCommand::Zscore(key, member) => Action::Look(key, Look::Zscore(member)),
+        PlainCommand::Sadd(key, members) => Action::WriteOp(key, WriteOp::Sadd(members)),
+        PlainCommand::Srem(key, members) => Action::WriteOp(key, WriteOp::Srem(members)),
+        PlainCommand::Smembers(key) => Action::ReadOp(key, ReadOp::Smembers),
+        PlainCommand::Scard(key) => Action::ReadOp(key, ReadOp::Scard),
+        PlainCommand::Sismember(key, member) => Action::ReadOp(key, ReadOp::Sismember(member)),
+        PlainCommand::Hset(key, pairs) => Action::WriteOp(key, WriteOp::Hset(pairs)),
+        PlainCommand::Hget(key, field) => Action::ReadOp(key, ReadOp::Hget(field)),
+        PlainCommand::Hlen(key) => Action::ReadOp(key, ReadOp::Hlen),
+        PlainCommand::Hdel(key, fields) => Action::WriteOp(key, WriteOp::Hdel(fields)),
+        PlainCommand::Hgetall(key) => Action::ReadOp(key, ReadOp::Hgetall),
+        PlainCommand::Zadd(key, scores) => Action::WriteOp(key, WriteOp::Zadd(scores)),
+        PlainCommand::Zrem(key, members) => Action::WriteOp(key, WriteOp::Zrem(members)),
+        PlainCommand::Zcard(key) => Action::ReadOp(key, ReadOp::Zcard),
+        PlainCommand::Zscore(key, member) => Action::ReadOp(key, ReadOp::Zscore(member)),
         PlainCommand::Zrange(key, first, last, scores) => {
-            Action::Look(key, Look::Zrange(first, last, scores))
+            Action::ReadOp(key, ReadOp::Zrange(first, last, scores))
         }
         PlainCommand::Zrangebyscore(key, least, greatest, options) => {
-            Action::Look(key, Look::Zrangebyscore(least, greatest, options))
+            Action::ReadOp(key, ReadOp::Zrangebyscore(least, greatest, options))
         }
         PlainCommand::Zremrangebyrank(key, first, last) => {
-            Action::Edit(key, Edit::Zremrangebyrank(first, last))
+            Action::WriteOp(key, WriteOp::Zremrangebyrank(first, last))
         }
         PlainCommand::Zremrangebyscore(key, least, greatest) => {
-            Action::Edit(key, Edit::Zremrangebyscore(least, greatest))
+            Action::WriteOp(key, WriteOp::Zremrangebyscore(least, greatest))
         }
     }
 }

@@ -1,9 +1,9 @@
 // What stands under a key's name.
 ghost use Rattle.std.specs.Prelude.{◌≡◌};
-ghost use Rattle.sk_value.specs.Answer.{Gives};
+ghost use Rattle.sk_value.specs.Answer.{AnswersWith};
 ghost use Rattle.sk_value.specs.Values.{left_until, look_there};
 
-use crate::{KeysFault, Look, Value};
+use crate::{KeysFault, ReadOp, Value};
 use sk_resp::{Reply, Say};
 use std::alloc::Global;
 
@@ -18,12 +18,12 @@ pub struct Entry {
 impl Entry {
     /// What a command that reads one key answers at the moment `now`, in milliseconds since 1970, where the key holds this. One for another
     /// kind than the value's is `WrongType`; TYPE and PTTL are for all kinds.
-    pub fn look(&self, alloc: Global, now: u64, look: &Look) -> Result<Reply, KeysFault>
-        ensures { Gives (look_there now look.now self.now) result }
+    pub fn look(&self, alloc: Global, now: u64, look: &ReadOp) -> Result<Reply, KeysFault>
+        ensures { AnswersWith (look_there now look.now self.now) result }
     {
         match look {
-            Look::KindOf => Ok(Reply::Say(Say::Kind(self.value.kind()))),
-            Look::Pttl => Ok(left_until(now, self.deadline)),
+            ReadOp::KindOf => Ok(Reply::Say(Say::Kind(self.value.kind()))),
+            ReadOp::Pttl => Ok(left_until(now, self.deadline)),
             _ => self.value.look(alloc, look),
         }
     }

@@ -2,12 +2,12 @@
 ghost use Rattle.std.specs.Prelude.{◌≡◌, ◌<◌, ◌^◌, [], length, map, IfOk, OnErr};
 ghost use Rattle.sk_resp.specs.Reply.{wire};
 ghost use Rattle.sk_resp.specs.Spelling.{bulk};
-ghost use Rattle.sk_value.specs.Answer.{Gives, Leaves};
+ghost use Rattle.sk_value.specs.Answer.{AnswersWith, UpdatesTo};
 ghost use Rattle.sk_value.specs.Hashes.{edit_hash, flat, look_hash};
 
 use crate::maps::{insert_all, remove_all};
 use crate::replies::counted;
-use crate::{Edit, KeysFault, Look};
+use crate::{KeysFault, ReadOp, WriteOp};
 use sk_resp::{Memory, Replies, Reply, Word};
 use std::alloc::Global;
 use std::collections::BTreeMap;
@@ -45,16 +45,16 @@ impl Fields {
     }
 
     /// What `HGET key field`, `HLEN key` and `HGETALL key` answer (Redis, "Hashes"). Another command is `WrongType`.
-    pub fn look(&self, alloc: Global, look: &Look) -> Result<Reply, KeysFault>
-        ensures { Gives (look_hash look.now self.now) result }
+    pub fn look(&self, alloc: Global, look: &ReadOp) -> Result<Reply, KeysFault>
+        ensures { AnswersWith (look_hash look.now self.now) result }
     {
         match look {
-            Look::Hget(field) => match self.map.get(field) {
+            ReadOp::Hget(field) => match self.map.get(field) {
                 None => Ok(Reply::Null),
                 Some(value) => Ok(Reply::Bulk(value.copy()?)),
             },
-            Look::Hlen => Ok(counted(self.len())),
-            Look::Hgetall => Ok(Reply::Array(Replies::new(self.copies(alloc)?))),
+            ReadOp::Hlen => Ok(counted(self.len())),
+            ReadOp::Hgetall => Ok(Reply::Array(Replies::new(self.copies(alloc)?))),
             _ => Err(KeysFault::WrongType),
         }
     }
@@ -62,13 +62,13 @@ impl Fields {
     /// What `HSET key field value ..` and `HDEL key field ..` answer, and the hash afterwards. Another command is `WrongType`. HDEL takes no
     /// memory.
     #[tactic(auto, unfolding(crate::specs::Hashes::edit_hash))]
-    pub fn edit(&mut self, edit: Edit) -> Result<Reply, KeysFault>
-        ensures done { Leaves (edit_hash edit self.old) result self.new }
+    pub fn edit(&mut self, edit: WriteOp) -> Result<Reply, KeysFault>
+        ensures done { UpdatesTo (edit_hash edit self.old) result self.new }
         ensures err { OnErr result (self.new ≡ self.old) }
     {
         match edit {
-            Edit::Hset(more) => Ok(counted(insert_all(&mut self.map, more.into_list())?)),
-            Edit::Hdel(fields) => Ok(counted(remove_all(&mut self.map, fields.list()))),
+            WriteOp::Hset(more) => Ok(counted(insert_all(&mut self.map, more.into_list())?)),
+            WriteOp::Hdel(fields) => Ok(counted(remove_all(&mut self.map, fields.list()))),
             _ => Err(KeysFault::WrongType),
         }
     }

@@ -5,11 +5,11 @@ ghost use Rattle.std.specs.Option.{option_copied};
 ghost use Rattle.std.specs.VecDeque.{deque_capacity, deque_len};
 ghost use Rattle.sk_resp.specs.Reply.{wire};
 ghost use Rattle.sk_resp.specs.Spelling.{bulk};
-ghost use Rattle.sk_value.specs.Answer.{Gives, Leaves, texts};
+ghost use Rattle.sk_value.specs.Answer.{AnswersWith, UpdatesTo, texts};
 ghost use Rattle.sk_value.specs.Lists.{edit_list, end_index, end_of, first_index, look_list, push_all, push_one, range_of, read_from, take_one, without_first, without_some};
 
 use crate::replies::counted;
-use crate::{Edit, KeysFault, Look};
+use crate::{KeysFault, ReadOp, WriteOp};
 use sk_cmd::Side;
 use sk_resp::{Memory, Replies, Reply, Word, Words};
 use std::alloc::Global;
@@ -48,12 +48,12 @@ impl Items {
     }
 
     /// What `LRANGE key first last` and `LLEN key` answer (Redis, "Lists"). Another command is `WrongType`.
-    pub fn look(&self, alloc: Global, look: &Look) -> Result<Reply, KeysFault>
-        ensures { Gives (look_list look.now self.now) result }
+    pub fn look(&self, alloc: Global, look: &ReadOp) -> Result<Reply, KeysFault>
+        ensures { AnswersWith (look_list look.now self.now) result }
     {
         match look {
-            Look::Lrange(first, last) => Ok(self.range(alloc, *first, *last)?),
-            Look::Llen => Ok(counted(self.len())),
+            ReadOp::Lrange(first, last) => Ok(self.range(alloc, *first, *last)?),
+            ReadOp::Llen => Ok(counted(self.len())),
             _ => Err(KeysFault::WrongType),
         }
     }
@@ -61,16 +61,16 @@ impl Items {
     /// What `LPUSH key element ..`, `RPUSH key element ..` and `LREM key count element` answer, and the list afterwards. Another command is
     /// `WrongType`. LREM takes no memory.
     #[tactic(auto, unfolding(crate::specs::Lists::edit_list))]
-    pub fn edit(&mut self, edit: Edit) -> Result<Reply, KeysFault>
-        ensures done { Leaves (edit_list edit self.old) result self.new }
+    pub fn edit(&mut self, edit: WriteOp) -> Result<Reply, KeysFault>
+        ensures done { UpdatesTo (edit_list edit self.old) result self.new }
         ensures err { OnErr result (self.new ≡ self.old) }
     {
         match edit {
-            Edit::Push(side, texts) => {
+            WriteOp::Push(side, texts) => {
                 self.push_all(side, texts)?;
                 Ok(counted(self.len()))
             }
-            Edit::Lrem(count, text) => Ok(counted(self.remove_some(count, &text))),
+            WriteOp::Lrem(count, text) => Ok(counted(self.remove_some(count, &text))),
             _ => Err(KeysFault::WrongType),
         }
     }

@@ -3,33 +3,33 @@
 #![tactic(auto)]
 
 mod action;
-mod edit;
 mod entry;
 mod fields;
 mod items;
 mod keys_fault;
-mod look;
 mod maps;
 mod members;
 mod number;
 mod pairs;
+mod read_op;
 mod replies;
 mod sorted;
 mod strings;
 mod value;
+mod write_op;
 
 pub use action::{Action, action_of};
-pub use edit::Edit;
 pub use entry::Entry;
 pub use fields::Fields;
 pub use items::{Items, end_index, first_index};
 pub use keys_fault::KeysFault;
-pub use look::Look;
 pub use maps::insert_all;
 pub use members::{Members, look_members};
 pub use number::int_of;
 pub use pairs::{Pairs, look_sorted};
+pub use read_op::ReadOp;
 pub use replies::{as_reply, counted, one_if, refused};
 pub use sorted::Sorted;
 pub use std::alloc::AllocError as Memory;
 pub use value::Value;
+pub use write_op::WriteOp;

@@ -3,12 +3,12 @@ ghost use Rattle.std.specs.Prelude.{◌≡◌, ◌<◌, ◌^◌, [], length, map
 ghost use Rattle.std.specs.Map.{keys_of};
 ghost use Rattle.sk_resp.specs.Reply.{wire};
 ghost use Rattle.sk_resp.specs.Spelling.{bulk};
-ghost use Rattle.sk_value.specs.Answer.{Gives, Leaves};
+ghost use Rattle.sk_value.specs.Answer.{AnswersWith, UpdatesTo};
 ghost use Rattle.sk_value.specs.Sets.{edit_set, look_set};
 
 use crate::maps::{insert_all, remove_all};
 use crate::replies::{counted, one_if};
-use crate::{Edit, KeysFault, Look};
+use crate::{KeysFault, ReadOp, WriteOp};
 use sk_resp::{Memory, Replies, Reply, Word, Words};
 use std::alloc::Global;
 use std::collections::BTreeMap;
@@ -48,21 +48,21 @@ impl Members {
     }
 
     /// What `SMEMBERS key`, `SCARD key` and `SISMEMBER key member` answer (Redis, "Sets"). Another command is `WrongType`.
-    pub fn look(&self, alloc: Global, look: &Look) -> Result<Reply, KeysFault>
-        ensures { Gives (look_set look.now self.now) result }
+    pub fn look(&self, alloc: Global, look: &ReadOp) -> Result<Reply, KeysFault>
+        ensures { AnswersWith (look_set look.now self.now) result }
     {
         look_members(alloc, &self.map, look)
     }
 
     /// What `SADD key member ..` and `SREM key member ..` answer, and the set afterwards. Another command is `WrongType`. SREM takes no memory.
     #[tactic(auto, using(crate::proofs::Names::keys_inserted, crate::proofs::Names::keys_removed, crate::proofs::Names::how_many_keys), unfolding(crate::specs::Sets::edit_set))]
-    pub fn edit(&mut self, edit: Edit) -> Result<Reply, KeysFault>
-        ensures done { Leaves (edit_set edit self.old) result self.new }
+    pub fn edit(&mut self, edit: WriteOp) -> Result<Reply, KeysFault>
+        ensures done { UpdatesTo (edit_set edit self.old) result self.new }
         ensures err { OnErr result (self.new ≡ self.old) }
     {
         match edit {
-            Edit::Sadd(more) => Ok(counted(insert_all(&mut self.map, bare(more)?)?)),
-            Edit::Srem(others) => Ok(counted(remove_all(&mut self.map, others.list()))),
+            WriteOp::Sadd(more) => Ok(counted(insert_all(&mut self.map, bare(more)?)?)),
+            WriteOp::Srem(others) => Ok(counted(remove_all(&mut self.map, others.list()))),
             _ => Err(KeysFault::WrongType),
         }
     }
@@ -73,14 +73,14 @@ impl Members {
 pub fn look_members<V>(
     alloc: Global,
     map: &BTreeMap<Word, V>,
-    look: &Look,
+    look: &ReadOp,
 ) -> Result<Reply, KeysFault>
-    ensures { Gives (look_set look.now (keys_of map.now.entries)) result }
+    ensures { AnswersWith (look_set look.now (keys_of map.now.entries)) result }
 {
     match look {
-        Look::Smembers => Ok(Reply::Array(Replies::new(copies(alloc, map)?))),
-        Look::Scard => Ok(counted(map.len())),
-        Look::Sismember(text) => Ok(one_if(map.contains_key(text))),
+        ReadOp::Smembers => Ok(Reply::Array(Replies::new(copies(alloc, map)?))),
+        ReadOp::Scard => Ok(counted(map.len())),
+        ReadOp::Sismember(text) => Ok(one_if(map.contains_key(text))),
         _ => Err(KeysFault::WrongType),
     }
 }

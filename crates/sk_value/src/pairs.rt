@@ -6,13 +6,13 @@ ghost use Rattle.sk_resp.specs.Spelling.{bulk};
 ghost use Rattle.sk_zset.specs.Bounds.{is_between};
 ghost use Rattle.sk_zset.specs.Pair.{Pair};
 ghost use Rattle.sk_zset.specs.Pairs.{score_of};
-ghost use Rattle.sk_value.specs.Answer.{Gives, texts};
+ghost use Rattle.sk_value.specs.Answer.{AnswersWith, texts};
 ghost use Rattle.sk_value.specs.Lists.{range_of};
 ghost use Rattle.sk_value.specs.Sorted.{between, limited, listed, look_sorted};
 
 use crate::items::{end_index, first_index};
 use crate::replies::counted;
-use crate::{KeysFault, Look};
+use crate::{KeysFault, ReadOp};
 use sk_base::{Bound, Score};
 use sk_cmd::RangeOptions;
 use sk_resp::{Memory, Replies, Reply, Word};
@@ -50,7 +50,7 @@ pub trait Pairs {
 }
 
 impl Pairs for ZSet {
-    ghost pairs = { λ set. set.stands };
+    ghost pairs = { λ set. set.current };
 
     fn len(&self) -> u64 {
         self.len()
@@ -78,17 +78,17 @@ impl Pairs for ZSet {
 
 /// What `ZCARD key`, `ZSCORE key member`, `ZRANGE key first last [WITHSCORES]` and `ZRANGEBYSCORE key min max [WITHSCORES] [LIMIT skip count]`
 /// answer (Redis, "Sorted sets"). Another command is `WrongType`.
-pub fn look_sorted<P: Pairs>(alloc: Global, pairs: &P, look: &Look) -> Result<Reply, KeysFault>
-    ensures { Gives (look_sorted look.now (P.pairs pairs.now)) result }
+pub fn look_sorted<P: Pairs>(alloc: Global, pairs: &P, look: &ReadOp) -> Result<Reply, KeysFault>
+    ensures { AnswersWith (look_sorted look.now (P.pairs pairs.now)) result }
 {
     match look {
-        Look::Zcard => Ok(counted(pairs.len() as usize)),
-        Look::Zscore(member) => match pairs.score(member.bytes()) {
+        ReadOp::Zcard => Ok(counted(pairs.len() as usize)),
+        ReadOp::Zscore(member) => match pairs.score(member.bytes()) {
             None => Ok(Reply::Null),
             Some(score) => Ok(Reply::Bulk(text_of(alloc, score)?)),
         },
-        Look::Zrange(first, last, scores) => Ok(range(alloc, pairs, *first, *last, *scores)?),
-        Look::Zrangebyscore(least, greatest, options) => {
+        ReadOp::Zrange(first, last, scores) => Ok(range(alloc, pairs, *first, *last, *scores)?),
+        ReadOp::Zrangebyscore(least, greatest, options) => {
             Ok(by_score(alloc, pairs, *least, *greatest, options)?)
         }
         _ => Err(KeysFault::WrongType),

@@ -1,14 +1,14 @@
 // Sorted sets (Redis, "Sorted sets"): pairs of a score and a member over `ZSet`, with no open step. A ZADD of several pairs is one step, which
 // is taken back where memory runs out; what takes pairs out takes no memory.
 ghost use Rattle.std.specs.Prelude.{◌≡◌, ◌<◌, ◌^◌, [], None, length, OnErr, OnOk};
-ghost use Rattle.sk_undo.specs.Steps.{edited};
-ghost use Rattle.sk_value.specs.Answer.{Gives, Leaves};
+ghost use Rattle.sk_undo.specs.Versions.{edited};
+ghost use Rattle.sk_value.specs.Answer.{AnswersWith, UpdatesTo};
 ghost use Rattle.sk_value.specs.Sorted.{all_added, all_without, edit_sorted, look_sorted, without_range};
 
 use crate::items::{end_index, first_index};
 use crate::pairs::look_sorted;
 use crate::replies::counted;
-use crate::{Edit, KeysFault, Look};
+use crate::{KeysFault, ReadOp, WriteOp};
 use sk_base::Score;
 use sk_resp::{Memory, Reply, Word, Words};
 use sk_zset::ZSet;
@@ -27,9 +27,9 @@ impl Model for Sorted {
 
     ghost Value = { List Pair };
 
-    ghost view = { λ sorted. sorted.set.stands };
+    ghost view = { λ sorted. sorted.set.current };
 
-    ghost invariant = { λ sorted. sorted.set.stood ≡ None };
+    ghost invariant = { λ sorted. sorted.set.saved ≡ None };
 }
 
 impl Sorted {
@@ -51,8 +51,8 @@ impl Sorted {
 
     /// What `ZCARD key`, `ZSCORE key member`, `ZRANGE key first last [WITHSCORES]` and `ZRANGEBYSCORE key min max [WITHSCORES] [LIMIT skip count]`
     /// answer (Redis, "Sorted sets"). Another command is `WrongType`.
-    pub fn look(&self, alloc: Global, look: &Look) -> Result<Reply, KeysFault>
-        ensures { Gives (look_sorted look.now self.now) result }
+    pub fn look(&self, alloc: Global, look: &ReadOp) -> Result<Reply, KeysFault>
+        ensures { AnswersWith (look_sorted look.now self.now) result }
     {
         look_sorted(alloc, &self.set, look)
     }
@@ -60,25 +60,25 @@ impl Sorted {
     /// What `ZADD key score member ..`, `ZREM key member ..`, `ZREMRANGEBYRANK key first last` and `ZREMRANGEBYSCORE key min max` answer, and the
     /// sorted set afterwards. Another command is `WrongType`. All but ZADD take no memory.
     #[tactic(auto, unfolding(crate::specs::Sorted::edit_sorted))]
-    pub fn edit(&mut self, edit: Edit) -> Result<Reply, KeysFault>
-        ensures done { Leaves (edit_sorted edit self.old) result self.new }
+    pub fn edit(&mut self, edit: WriteOp) -> Result<Reply, KeysFault>
+        ensures done { UpdatesTo (edit_sorted edit self.old) result self.new }
         ensures err { OnErr result (self.new ≡ self.old) }
     {
         let before = self.len();
         match edit {
-            Edit::Zadd(more) => {
+            WriteOp::Zadd(more) => {
                 add_all(&mut self.set, more.into_list())?;
                 Ok(counted(self.len().saturating_sub(before)))
             }
-            Edit::Zrem(members) => {
+            WriteOp::Zrem(members) => {
                 remove_all(&mut self.set, &members);
                 Ok(counted(before.saturating_sub(self.len())))
             }
-            Edit::Zremrangebyrank(first, last) => {
+            WriteOp::Zremrangebyrank(first, last) => {
                 remove_range(&mut self.set, first, last);
                 Ok(counted(before.saturating_sub(self.len())))
             }
-            Edit::Zremrangebyscore(least, greatest) => {
+            WriteOp::Zremrangebyscore(least, greatest) => {
                 self.set.remove_scores(least, greatest);
                 Ok(counted(before.saturating_sub(self.len())))
             }
@@ -89,8 +89,8 @@ impl Sorted {
 
 // Adds each pair in turn, all of them or none.
 fn add_all(set: &mut ZSet, pairs: Vec<(Score, Word)>) -> Result<(), Memory>
-    requires { set.old.stood ≡ None }
-    ensures ok { OnOk result (set.new ≡ edited (all_added pairs.items set.old.stands) set.old) }
+    requires { set.old.saved ≡ None }
+    ensures ok { OnOk result (set.new ≡ edited (all_added pairs.items set.old.current) set.old) }
     ensures err { OnErr result (set.new ≡ set.old) }
 {
     set.begin();
@@ -108,8 +108,8 @@ fn add_all(set: &mut ZSet, pairs: Vec<(Score, Word)>) -> Result<(), Memory>
 
 // Adds each pair in turn. After want of memory some of them stand.
 fn add_each(set: &mut ZSet, pairs: Vec<(Score, Word)>) -> Result<(), Memory>
-    ensures ok { OnOk result (set.new ≡ edited (all_added pairs.items set.old.stands) set.old) }
-    ensures step { set.new.stood ≡ set.old.stood }
+    ensures ok { OnOk result (set.new ≡ edited (all_added pairs.items set.old.current) set.old) }
+    ensures step { set.new.saved ≡ set.old.saved }
 {
     for (score, member) in pairs {
         set.add(score, member)?;
@@ -119,8 +119,8 @@ fn add_each(set: &mut ZSet, pairs: Vec<(Score, Word)>) -> Result<(), Memory>
 
 // Takes each member's pair out.
 fn remove_all(set: &mut ZSet, members: &Words)
-    requires { set.old.stood ≡ None }
-    ensures { set.new ≡ edited (all_without members.now set.old.stands) set.old }
+    requires { set.old.saved ≡ None }
+    ensures { set.new ≡ edited (all_without members.now set.old.current) set.old }
 {
     for member in members.list() {
         set.take(member.bytes());
@@ -130,8 +130,8 @@ fn remove_all(set: &mut ZSet, members: &Words)
 // Takes the pairs from index `first` to index `last` out, both included.
 #[tactic(auto, using(crate::proofs::Ranks::ranks_taken))]
 fn remove_range(set: &mut ZSet, first: i64, last: i64)
-    requires { set.old.stood ≡ None }
-    ensures { set.new ≡ edited (without_range first last set.old.stands) set.old }
+    requires { set.old.saved ≡ None }
+    ensures { set.new ≡ edited (without_range first last set.old.current) set.old }
 {
     let count = set.len() as usize;
     let start = first_index(first, count);

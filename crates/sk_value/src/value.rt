@@ -1,10 +1,10 @@
 // What a key holds: a value of one of five kinds.
 ghost use Rattle.std.specs.Prelude.{◌≡◌, OnErr};
-ghost use Rattle.sk_value.specs.Answer.{Gives, Leaves};
+ghost use Rattle.sk_value.specs.Answer.{AnswersWith, UpdatesTo};
 ghost use Rattle.sk_value.specs.Values.{edit_in, is_empty, kind_of, look_in};
 
 use crate::strings::{edit_string, look_string};
-use crate::{Edit, Fields, Items, KeysFault, Look, Members, Sorted};
+use crate::{Fields, Items, KeysFault, Members, ReadOp, Sorted, WriteOp};
 use sk_resp::{Kind, Reply, Word};
 use std::alloc::Global;
 
@@ -50,8 +50,8 @@ impl Value {
     }
 
     /// What a command that reads a value answers. One for another kind is `WrongType`.
-    pub fn look(&self, alloc: Global, look: &Look) -> Result<Reply, KeysFault>
-        ensures { Gives (look_in look.now self.now) result }
+    pub fn look(&self, alloc: Global, look: &ReadOp) -> Result<Reply, KeysFault>
+        ensures { AnswersWith (look_in look.now self.now) result }
     {
         match self {
             Value::String(text) => look_string(text, look),
@@ -64,8 +64,8 @@ impl Value {
 
     /// What a command that edits a value answers, and the value afterwards. One for another kind is `WrongType`, INCRBY of a string that is no
     /// integer `NotInt`, and past 64 bits `Overflow`. After a fault the value is as before.
-    pub fn edit(&mut self, alloc: Global, edit: Edit) -> Result<Reply, KeysFault>
-        ensures done { Leaves (edit_in edit self.old) result self.new }
+    pub fn edit(&mut self, alloc: Global, edit: WriteOp) -> Result<Reply, KeysFault>
+        ensures done { UpdatesTo (edit_in edit self.old) result self.new }
         ensures err { OnErr result (self.new ≡ self.old) }
     {
         match self {

@@ -1,5 +1,6 @@
 -- What a worker does with one job: the stages, what is asked in each, and where each event leads.
 use Rattle.std.specs.Prelude.{◌≡◌, ◌≢◌, ◌%◌, ℕ, ℤ, true, List, Some, None, IsSome, IsSomeAnd, Result, Ok, Err, codes}
+use Rattle.sk_base.specs.declared.limits.TheConstants.{LAST_GENERATION}
 use Rattle.sk_resp.specs.Spelling.{Bytes}
 use Rattle.sk_resp.specs.declared.reply.Reply.{Reply}
 use Rattle.sk_payload.specs.Failed.{failed as failed_text}
@@ -89,7 +90,7 @@ pub data Step (w : Settings) : Stage → Event → Stage → Type 0 where
 
 -- It was decided that the job is retried or buried, and its generation is the last.
 abbrev pub AtLimit : Stage → Type 0
-AtLimit (decided c r now d) = (d ≢ decide.Discard) × IsSomeAnd (head c) (λ h. h.gen_ ≡ 1000000000)
+AtLimit (decided c r now d) = (d ≢ decide.Discard) × IsSomeAnd (head c) (λ h. h.gen_ ≡ LAST_GENERATION)
 AtLimit stage = ⊥
 
 -- The events are those of one job, from this stage on: to its end, or as far as they came.

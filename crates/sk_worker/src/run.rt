@@ -9,6 +9,7 @@ ghost use Rattle.sk_worker.specs.Request.{script_words};
 ghost use Rattle.sk_worker.specs.Run.{RunsTold};
 ghost use Rattle.sk_worker.specs.Stage.{JobTranscript, Line, Stage, Settings, failed, holding, started, unknown as unknown_class};
 ghost use Rattle.sk_worker.specs.Turn.{Parts, RulesAnswered};
+ghost use Rattle.sk_base.specs.declared.limits.TheConstants.{LAST_GENERATION};
 
 use crate::Memory;
 use crate::job::{Outcome, Raised};
@@ -35,7 +36,7 @@ fn choose<L: Link, C: Clock, D: Dice>(
     head: &Head,
     raised: &Raised,
 ) -> Result<Turn, WorkFault>
-    requires { head.now.gen_ ≤ 1000000000 }
+    requires { head.now.gen_ ≤ LAST_GENERATION }
     ensures { (w : Settings) → w.ident ≡ ident.now → (events : List Event)
         × Parts (λ cs. L.carried link.old link.new cs) (λ rs. rs ≡ [])
         (λ ms. YieldsAll (C.moments clock.old) ms (C.moments clock.new)) (λ ws. YieldsAll (D.words dice.old) ws (D.words dice.new))
@@ -63,7 +64,7 @@ fn fail<L: Link, C: Clock, D: Dice>(
     head: &Head,
     raised: &Raised,
 ) -> Result<Turn, WorkFault>
-    requires { head.now.gen_ ≤ 1000000000 }
+    requires { head.now.gen_ ≤ LAST_GENERATION }
     ensures { (w : Settings) (from : Stage) → w.ident ≡ ident.now
         → Line w from (script_words (codes "SK.FAIL") held.now) answer.List (λ _. failed held.now head.now raised.now) → (events : List Event)
         × Parts (λ cs. L.carried link.old link.new cs) (λ rs. rs ≡ [])
@@ -104,7 +105,7 @@ fn attend<L: Link, C: Clock, D: Dice>(
     held: &Payload,
     head: &Head,
 ) -> Result<Turn, WorkFault>
-    requires count { head.now.gen_ ≤ 1000000000 }
+    requires count { head.now.gen_ ≤ LAST_GENERATION }
     requires slots { length classes.now ≡ length slots.old }
     requires rules { length classes.now ≡ length rules.now }
     ensures { (w : Settings) → w.ident ≡ ident.now → w.classes ≡ classes.now → (events : List Event)

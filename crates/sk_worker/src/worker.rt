@@ -11,6 +11,7 @@ ghost use Rattle.sk_worker.specs.Run.{RunsTold};
 ghost use Rattle.sk_worker.specs.Saying.{Joins};
 ghost use Rattle.sk_worker.specs.Stage.{Settings};
 ghost use Rattle.sk_worker.specs.Turn.{Parts, RulesAnswered, TurnTranscript};
+ghost use Rattle.sk_base.specs.declared.limits.TheConstants.{MOST_PREFETCH};
 
 use crate::fetch::fill;
 use crate::leave::give_back_all;
@@ -94,7 +95,7 @@ impl Worker {
         prefetch: usize,
     ) -> Worker
         requires some { 1 ≤ prefetch }
-        requires most { prefetch ≤ 16 }
+        requires most { prefetch ≤ MOST_PREFETCH }
         ensures ident { result.ident ≡ ident }
         ensures order { result.order ≡ order }
         ensures plain { result.plain ≡ plain }

@@ -6,11 +6,11 @@ use Rattle.sk_zset.specs.Bounds.{is_above, is_below, is_between}
 use Rattle.sk_zset.specs.Order.{is_ordered}
 use Rattle.sk_zset.specs.Pair.{Pair}
 use Rattle.sk_zset.specs.Pairs.{part, without_ranks}
-use Rattle.sk_zset.proofs.Rising.{rises_above, rises_below}
+use Rattle.sk_zset.proofs.Rising.{partitioned_above, partitioned_below}
 use Rattle.sk_zset.proofs.Splits.{Split, count_before, split}
 
 range_split : (low high : Bound) (ps : List Pair) → is_ordered ps ≡ true → Split (λ p. not (is_below low p.0)) (λ p. is_above high p.0) ps
-range_split low high ps h = split (λ p. not (is_below low p.0)) (λ p. is_above high p.0) ps (rises_below low ps h) (rises_above high ps h)
+range_split low high ps h = split (λ p. not (is_below low p.0)) (λ p. is_above high p.0) ps (partitioned_below low ps h) (partitioned_above high ps h)
 
 -- the pairs of a range, by the ranks at which it begins and has ended
 pub record HasRange (low high : Bound) (first end : ℕ) (ps : List Pair) : Type 0 where
@@ -29,4 +29,4 @@ has_range low high ps first left end h begins leaves ends =
     }
 
 pub count_below : (low : Bound) (ps : List Pair) → is_ordered ps ≡ true → count_by (λ p. is_below low p.0) ps ≡ position_or_len (λ p. not (is_below low p.0)) ps
-count_below low ps h = count_before (λ p. is_below low p.0) ps (rises_below low ps h)
+count_below low ps h = count_before (λ p. is_below low p.0) ps (partitioned_below low ps h)

@@ -2,7 +2,7 @@
 use Rattle.std.proofs.Common.{◌≡◌, ℕ, zero, suc, ◌+◌, ◌-◌, Bool, true, false, not, ◌&&◌, List, [], ◌∷◌, ◌++◌, take, drop, refl, sym, arith, ap, ap₂, ◌∙◌, cond}
 use Rattle.std.specs.List.{count_by, filter, position_or_len}
 use Rattle.std.proofs.lemmas.List.Sums.{sum_by-cons}
-use Rattle.sk_undo.specs.Rises.{all_pass, rises}
+use Rattle.sk_undo.specs.Partitioned.{all_pass, is_partitioned}
 
 module _ {X : Type 0} (p : X → Bool) where
   place_yes : (x : X) (xs : List X) → p x ≡ true → position_or_len p (x ∷ xs) ≡ 0
@@ -62,9 +62,9 @@ module _ {X : Type 0} (t u : X → Bool) where
   none_outside [] h = refl
   none_outside (x ∷ xs) h = grind (arith, h, none_outside xs)
 
-  all_rises : (xs : List X) → all_pass t xs ≡ true → rises t xs ≡ true
-  all_rises [] h = refl
-  all_rises (x ∷ xs) h = grind (arith, h)
+  all_partitioned : (xs : List X) → all_pass t xs ≡ true → is_partitioned t xs ≡ true
+  all_partitioned [] h = refl
+  all_partitioned (x ∷ xs) h = grind (arith, h)
 
   -- where the first test passes all, its place is the first
   all_place : (xs : List X) → all_pass t xs ≡ true → position_or_len t xs ≡ 0
@@ -118,18 +118,18 @@ module _ {X : Type 0} (t u : X → Bool) where
         count = count_no between x xs no ∙ s.count ∙ sym same;
       }
 
-  pub split : (xs : List X) → rises t xs ≡ true → rises u xs ≡ true → Split xs
+  pub split : (xs : List X) → is_partitioned t xs ≡ true → is_partitioned u xs ≡ true → Split xs
   split [] ht hu = record { inside = refl; around = refl; count = refl }
   split (x ∷ xs) ht hu = cases (t x) (u x) refl refl (λ a b. split xs a b)
     where
-      cases : (a b : Bool) → t x ≡ a → u x ≡ b → (rises t xs ≡ true → rises u xs ≡ true → Split xs) → Split (x ∷ xs)
+      cases : (a b : Bool) → t x ≡ a → u x ≡ b → (is_partitioned t xs ≡ true → is_partitioned u xs ≡ true → Split xs) → Split (x ∷ xs)
       cases a true h k s = past x xs k (grind (arith, hu, k))
-      cases true false h k s = let all : all_pass t xs ≡ true = grind (arith, ht, h) in within x xs h k all (s (all_rises xs all) (grind (arith, hu, k)))
+      cases true false h k s = let all : all_pass t xs ≡ true = grind (arith, ht, h) in within x xs h k all (s (all_partitioned xs all) (grind (arith, hu, k)))
       cases false false h k s = ahead x xs h k (s (grind (arith, ht, h)) (grind (arith, hu, k)))
 
 -- what comes before the place of a test that rises
 module _ {X : Type 0} (b : X → Bool) where
-  pub count_before : (xs : List X) → rises (λ x. not (b x)) xs ≡ true → count_by b xs ≡ position_or_len (λ x. not (b x)) xs
+  pub count_before : (xs : List X) → is_partitioned (λ x. not (b x)) xs ≡ true → count_by b xs ≡ position_or_len (λ x. not (b x)) xs
   count_before [] h = refl
   count_before (x ∷ xs) h = cases (b x) refl (λ k. count_before xs k)
     where
@@ -137,6 +137,6 @@ module _ {X : Type 0} (b : X → Bool) where
       none [] k = refl
       none (y ∷ ys) k = let e = sum_by-cons (λ z. cond (b z) 1 0) y ys in grind (arith, e, k, none ys)
 
-      cases : (a : Bool) → b x ≡ a → (rises (λ y. not (b y)) xs ≡ true → count_by b xs ≡ position_or_len (λ y. not (b y)) xs) → count_by b (x ∷ xs) ≡ position_or_len (λ y. not (b y)) (x ∷ xs)
+      cases : (a : Bool) → b x ≡ a → (is_partitioned (λ y. not (b y)) xs ≡ true → count_by b xs ≡ position_or_len (λ y. not (b y)) xs) → count_by b (x ∷ xs) ≡ position_or_len (λ y. not (b y)) (x ∷ xs)
       cases true k s = count_yes b x xs k ∙ ap suc (s (grind (arith, h, k))) ∙ sym (place_no (λ y. not (b y)) x xs (grind (arith, k)))
       cases false k s = count_no b x xs k ∙ none xs (grind (arith, h, k)) ∙ sym (place_yes (λ y. not (b y)) x xs (grind (arith, k)))

@@ -6,7 +6,7 @@ use Rattle.std.specs.Map.{keys_of, remove_entry}
 use Rattle.std.specs.Str.{bytes_eq}
 use Rattle.sk_resp.specs.WordOrder.{text_cmp}
 use Rattle.sk_undo.specs.Sorted.{is_sorted}
-use Rattle.sk_undo.specs.Steps.{Steps, edited}
+use Rattle.sk_undo.specs.Versions.{Versions, edited}
 use Rattle.sk_zset.specs.Order.{is_ordered}
 use Rattle.sk_zset.specs.Pair.{Pair, names, precedes}
 use Rattle.sk_zset.specs.Pairs.{put, score_of, without}
@@ -31,25 +31,25 @@ agree_put p ps es h agree m =
 agree_without : (k : List ℕ) (ps : List Pair) (es : Scores) → is_ordered ps ≡ true → is_sorted text_cmp (keys_of es) ≡ true → Agree ps es → Agree (remove ps (position_or_len (names k) ps)) (remove_entry (is_at (text_cmp k)) es)
 agree_without k ps es h up agree m = score_removed k m es up ∙ ap (cond (bytes_eq k m) None) (agree m) ∙ sym (score_without k m ps h)
 
-module _ (s : Steps (List Pair)) (t : Steps Scores) (tied : IsTied s t) where
-  pub tied_put : (p : Pair) → IsTied (edited (put p (without p.1 s.stands)) s) (edited (insert_entry text_cmp t.stands p.1 p.0) t)
+module _ (s : Versions (List Pair)) (t : Versions Scores) (tied : IsTied s t) where
+  pub tied_put : (p : Pair) → IsTied (edited (put p (without p.1 s.current)) s) (edited (insert_entry text_cmp t.current p.1 p.0) t)
   tied_put p = record {
-    order = record { stands = ordered_added p s.stands tied.order.stands; stood = tied.order.stood };
-    stands = agree_put p s.stands t.stands tied.order.stands tied.stands;
-    stood = tied.stood;
+    order = record { current = ordered_added p s.current tied.order.current; saved = tied.order.saved };
+    current = agree_put p s.current t.current tied.order.current tied.current;
+    saved = tied.saved;
   }
 
-  pub tied_without : (k : List ℕ) → is_sorted text_cmp (keys_of t.stands) ≡ true → IsTied (edited (without k s.stands) s) (edited (remove_entry (is_at (text_cmp k)) t.stands) t)
+  pub tied_without : (k : List ℕ) → is_sorted text_cmp (keys_of t.current) ≡ true → IsTied (edited (without k s.current) s) (edited (remove_entry (is_at (text_cmp k)) t.current) t)
   unfolding without
   tied_without k up = record {
-    order = record { stands = ordered_without k s.stands tied.order.stands; stood = tied.order.stood };
-    stands = agree_without k s.stands t.stands tied.order.stands up tied.stands;
-    stood = tied.stood;
+    order = record { current = ordered_without k s.current tied.order.current; saved = tied.order.saved };
+    current = agree_without k s.current t.current tied.order.current up tied.current;
+    saved = tied.saved;
   }
 
-  pub tied_remove : (p : Pair) (at : ℕ) → at < length s.stands → p ≡ get_or s.stands at p → is_sorted text_cmp (keys_of t.stands) ≡ true → IsTied (edited (remove s.stands at) s) (edited (remove_entry (is_at (text_cmp p.1)) t.stands) t)
+  pub tied_remove : (p : Pair) (at : ℕ) → at < length s.current → p ≡ get_or s.current at p → is_sorted text_cmp (keys_of t.current) ≡ true → IsTied (edited (remove s.current at) s) (edited (remove_entry (is_at (text_cmp p.1)) t.current) t)
   tied_remove p at h e up = record {
-    order = record { stands = ordered_remove s.stands at tied.order.stands; stood = tied.order.stood };
-    stands = λ m. agree_without p.1 s.stands t.stands tied.order.stands up tied.stands m ∙ ap (λ i. score_of m (remove s.stands i)) (place_at p s.stands at tied.order.stands h e);
-    stood = tied.stood;
+    order = record { current = ordered_remove s.current at tied.order.current; saved = tied.order.saved };
+    current = λ m. agree_without p.1 s.current t.current tied.order.current up tied.current m ∙ ap (λ i. score_of m (remove s.current i)) (place_at p s.current at tied.order.current h e);
+    saved = tied.saved;
   }

@@ -1,6 +1,6 @@
 -- A list of pairs in order, each member once.
 use Rattle.std.specs.Prelude.{◌≡◌, Bool, true, not, ◌&&◌, List, [], ◌∷◌, Option, Some, None}
-use Rattle.sk_undo.specs.Steps.{Steps}
+use Rattle.sk_undo.specs.Versions.{Versions}
 use Rattle.sk_zset.specs.Pair.{Pair, names, precedes}
 
 -- the pair stands before each of these, and none has its member
@@ -17,6 +17,6 @@ was_ordered None = true
 was_ordered (Some ps) = is_ordered ps
 
 -- what stands and what stood are in order, each member once
-pub record InOrder (s : Steps (List Pair)) : Type 0 where
-  pub stands : is_ordered s.stands ≡ true
-  pub stood : was_ordered s.stood ≡ true
+pub record InOrder (s : Versions (List Pair)) : Type 0 where
+  pub current : is_ordered s.current ≡ true
+  pub saved : was_ordered s.saved ≡ true

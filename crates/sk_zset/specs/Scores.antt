@@ -3,7 +3,7 @@ use Rattle.std.specs.Prelude.{◌≡◌, ℕ, ℤ, List, Option, Some, None}
 use Rattle.std.specs.BTreeMap.{is_at}
 use Rattle.std.specs.Map.{lookup}
 use Rattle.sk_resp.specs.WordOrder.{text_cmp}
-use Rattle.sk_undo.specs.Steps.{Steps}
+use Rattle.sk_undo.specs.Versions.{Versions}
 use Rattle.sk_zset.specs.Order.{InOrder}
 use Rattle.sk_zset.specs.Pair.{Pair}
 use Rattle.sk_zset.specs.Pairs.{score_of}
@@ -26,7 +26,7 @@ StoodAgree (Some ps) None = ⊥
 StoodAgree None (Some scores) = ⊥
 
 -- the pairs are in order, each member once, and the map agrees with them, now and at the begin of an open step
-pub record IsTied (pairs : Steps (List Pair)) (scores : Steps Scores) : Type 0 where
+pub record IsTied (pairs : Versions (List Pair)) (scores : Versions Scores) : Type 0 where
   pub order : InOrder pairs
-  pub stands : Agree pairs.stands scores.stands
-  pub stood : StoodAgree pairs.stood scores.stood
+  pub current : Agree pairs.current scores.current
+  pub saved : StoodAgree pairs.saved scores.saved

@@ -8,7 +8,7 @@ ghost use Rattle.sk_zset.specs.Pairs.{part, without_ranks};
 
 use sk_base::{Bound, Score};
 use sk_resp::Word;
-use sk_undo::{Test, UndoList};
+use sk_undo::{Predicate, UndoList};
 use std::cmp::Ordering;
 
 pub fn compare(a: Score, b: Score) -> Ordering
@@ -23,7 +23,7 @@ struct Reached {
     low: Bound,
 }
 
-impl Test<(Score, Word)> for Reached {
+impl Predicate<(Score, Word)> for Reached {
     ghost passes = { λ t p. not (is_below t.low p.0) };
 
     fn test(&self, pair: &(Score, Word)) -> bool {
@@ -42,7 +42,7 @@ struct Left {
     high: Bound,
 }
 
-impl Test<(Score, Word)> for Left {
+impl Predicate<(Score, Word)> for Left {
     ghost passes = { λ t p. is_above t.high p.0 };
 
     fn test(&self, pair: &(Score, Word)) -> bool {
@@ -57,38 +57,38 @@ impl Test<(Score, Word)> for Left {
 
 // The rank at which a range that begins at the bound begins.
 fn begin_of(pairs: &UndoList<Score, Word>, low: Bound) -> usize
-    requires { is_ordered pairs.now.list.stands ≡ true }
-    ensures is { result ≡ position_or_len (λ p. not (is_below low p.0)) pairs.now.list.stands }
-    ensures within { result ≤ length pairs.now.list.stands }
+    requires { is_ordered pairs.now.list.current ≡ true }
+    ensures is { result ≡ position_or_len (λ p. not (is_below low p.0)) pairs.now.list.current }
+    ensures within { result ≤ length pairs.now.list.current }
 {
-    pairs.first_where(&Reached { low })
+    pairs.partition_point(&Reached { low })
 }
 
 // The rank at which a range that ends at the bound has ended.
 fn end_of(pairs: &UndoList<Score, Word>, high: Bound) -> usize
-    requires { is_ordered pairs.now.list.stands ≡ true }
-    ensures is { result ≡ position_or_len (λ p. is_above high p.0) pairs.now.list.stands }
-    ensures within { result ≤ length pairs.now.list.stands }
+    requires { is_ordered pairs.now.list.current ≡ true }
+    ensures is { result ≡ position_or_len (λ p. is_above high p.0) pairs.now.list.current }
+    ensures within { result ≤ length pairs.now.list.current }
 {
-    pairs.first_where(&Left { high })
+    pairs.partition_point(&Left { high })
 }
 
 /// How many pairs are below a range that begins at the bound.
 pub fn count_below(pairs: &UndoList<Score, Word>, low: Bound) -> usize
-    requires { is_ordered pairs.now.list.stands ≡ true }
-    ensures { result ≡ count_by (λ p. is_below low p.0) pairs.now.list.stands }
+    requires { is_ordered pairs.now.list.current ≡ true }
+    ensures { result ≡ count_by (λ p. is_below low p.0) pairs.now.list.current }
 {
     begin_of(pairs, low)
 }
 
 /// The rank at which a range begins, and that at which it has ended.
 pub fn range_of(pairs: &UndoList<Score, Word>, low: Bound, high: Bound) -> (usize, usize)
-    requires { is_ordered pairs.now.list.stands ≡ true }
-    ensures is { filter (is_between low high) pairs.now.list.stands ≡ part result.0 (result.1 - result.0) pairs.now.list.stands }
-    ensures others { filter (λ p. not (is_between low high p)) pairs.now.list.stands ≡ without_ranks result.0 (result.1 - result.0) pairs.now.list.stands }
-    ensures count { count_by (is_between low high) pairs.now.list.stands ≡ result.1 - result.0 }
+    requires { is_ordered pairs.now.list.current ≡ true }
+    ensures is { filter (is_between low high) pairs.now.list.current ≡ part result.0 (result.1 - result.0) pairs.now.list.current }
+    ensures others { filter (λ p. not (is_between low high p)) pairs.now.list.current ≡ without_ranks result.0 (result.1 - result.0) pairs.now.list.current }
+    ensures count { count_by (is_between low high) pairs.now.list.current ≡ result.1 - result.0 }
     ensures order { result.0 ≤ result.1 }
-    ensures within { result.1 ≤ length pairs.now.list.stands }
+    ensures within { result.1 ≤ length pairs.now.list.current }
 {
     let first = begin_of(pairs, low);
     (first, end_of(pairs, high).max(first))

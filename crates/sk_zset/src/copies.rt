@@ -15,9 +15,9 @@ struct Copies {
 }
 
 impl Visit<(Score, Word)> for Copies {
-    type Kept = (Score, Word);
+    type Output = (Score, Word);
 
-    ghost kept = { λ p. p };
+    ghost output = { λ p. p };
 
     ghost visited = { λ c. c.pairs.items };
 
@@ -39,8 +39,8 @@ pub fn copy_part(
     count: u64,
 ) -> Result<Vec<(Score, Word)>, Memory>
     requires order { first ≤ end }
-    requires within { end ≤ length pairs.now.list.stands }
-    ensures { IfOk result (λ copies. copies.items ≡ take count (drop skip (part first (end - first) pairs.now.list.stands))) }
+    requires within { end ≤ length pairs.now.list.current }
+    ensures { IfOk result (λ copies. copies.items ≡ take count (drop skip (part first (end - first) pairs.now.list.current))) }
 {
     let from = first + (end - first).min(skip as usize);
     let to = from + (end - from).min(count as usize);

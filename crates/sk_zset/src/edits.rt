@@ -1,6 +1,6 @@
 // Edits of the list of pairs, once there is room for them.
 ghost use Rattle.std.specs.Prelude.{◌≡◌, ◌+◌, ◌<◌, ◌≤◌, true, false};
-ghost use Rattle.sk_undo.specs.Steps.{edited};
+ghost use Rattle.sk_undo.specs.Versions.{edited};
 ghost use Rattle.sk_zset.specs.Order.{is_ordered};
 ghost use Rattle.sk_zset.specs.Pairs.{added, has, put, score_of, without};
 
@@ -13,9 +13,9 @@ use sk_undo::UndoList;
 #[tactic(auto, using(crate::proofs::Places::without_none), unfolding(crate::specs::Pairs::without))]
 pub fn drop_pair(pairs: &mut UndoList<Score, Word>, score: Option<Score>, member: &[u8])
     requires room { 0 < pairs.old.room }
-    requires ordered { is_ordered pairs.old.list.stands ≡ true }
-    requires score { score_of member.now pairs.old.list.stands ≡ score }
-    ensures list { pairs.new.list ≡ edited (without member.now pairs.old.list.stands) pairs.old.list }
+    requires ordered { is_ordered pairs.old.list.current ≡ true }
+    requires score { score_of member.now pairs.old.list.current ≡ score }
+    ensures list { pairs.new.list ≡ edited (without member.now pairs.old.list.current) pairs.old.list }
     ensures room { pairs.old.room ≤ pairs.new.room + 1 }
 {
     if let Some(score) = score {
@@ -28,9 +28,9 @@ pub fn drop_pair(pairs: &mut UndoList<Score, Word>, score: Option<Score>, member
 #[tactic(auto, unfolding(crate::specs::Pairs::put))]
 fn put_pair(pairs: &mut UndoList<Score, Word>, score: Score, member: Word)
     requires room { 0 < pairs.old.room }
-    requires ordered { is_ordered pairs.old.list.stands ≡ true }
-    requires new { has member pairs.old.list.stands ≡ false }
-    ensures { pairs.new.list ≡ edited (put (score, member) pairs.old.list.stands) pairs.old.list }
+    requires ordered { is_ordered pairs.old.list.current ≡ true }
+    requires new { has member pairs.old.list.current ≡ false }
+    ensures { pairs.new.list ≡ edited (put (score, member) pairs.old.list.current) pairs.old.list }
 {
     let at = place_for(pairs, score, member.bytes());
     pairs.insert(at, (score, member));
@@ -40,9 +40,9 @@ fn put_pair(pairs: &mut UndoList<Score, Word>, score: Score, member: Word)
 #[tactic(auto, using(crate::proofs::Order::ordered_without, crate::proofs::Scores::has_without))]
 pub fn add_pair(pairs: &mut UndoList<Score, Word>, was: Option<Score>, score: Score, member: Word)
     requires room { 1 < pairs.old.room }
-    requires ordered { is_ordered pairs.old.list.stands ≡ true }
-    requires was { score_of member pairs.old.list.stands ≡ was }
-    ensures { pairs.new.list ≡ edited (added (score, member) pairs.old.list.stands) pairs.old.list }
+    requires ordered { is_ordered pairs.old.list.current ≡ true }
+    requires was { score_of member pairs.old.list.current ≡ was }
+    ensures { pairs.new.list ≡ edited (added (score, member) pairs.old.list.current) pairs.old.list }
 {
     drop_pair(pairs, was, member.bytes());
     put_pair(pairs, score, member);

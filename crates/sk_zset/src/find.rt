@@ -8,7 +8,7 @@ ghost use Rattle.sk_zset.specs.Pairs.{has, score_of};
 use crate::bounds::compare;
 use sk_base::Score;
 use sk_resp::Word;
-use sk_undo::{Test, UndoList};
+use sk_undo::{Predicate, UndoList};
 
 // Passes the pair of a score and a member, and those that stand behind it.
 #[derive(Drop)]
@@ -17,7 +17,7 @@ struct From<'a> {
     member: &'a [u8],
 }
 
-impl<'a> Test<(Score, Word)> for From<'a> {
+impl<'a> Predicate<(Score, Word)> for From<'a> {
     ghost passes = { λ t p. not (precedes p (t.score, t.member.now)) };
 
     fn test(&self, pair: &(Score, Word)) -> bool {
@@ -29,20 +29,20 @@ impl<'a> Test<(Score, Word)> for From<'a> {
 
 /// The rank of the member's pair, which has this score.
 pub fn place_of(pairs: &UndoList<Score, Word>, score: Score, member: &[u8]) -> usize
-    requires ordered { is_ordered pairs.now.list.stands ≡ true }
-    requires there { score_of member.now pairs.now.list.stands ≡ Some score }
-    ensures is { result ≡ position_or_len (names member.now) pairs.now.list.stands }
-    ensures within { result < length pairs.now.list.stands }
+    requires ordered { is_ordered pairs.now.list.current ≡ true }
+    requires there { score_of member.now pairs.now.list.current ≡ Some score }
+    ensures is { result ≡ position_or_len (names member.now) pairs.now.list.current }
+    ensures within { result < length pairs.now.list.current }
 {
-    pairs.first_where(&From { score, member })
+    pairs.partition_point(&From { score, member })
 }
 
 /// The rank that a pair is to have, whose member has none yet.
 pub fn place_for(pairs: &UndoList<Score, Word>, score: Score, member: &[u8]) -> usize
-    requires ordered { is_ordered pairs.now.list.stands ≡ true }
-    requires new { has member.now pairs.now.list.stands ≡ false }
-    ensures is { result ≡ position_or_len (precedes (score, member.now)) pairs.now.list.stands }
-    ensures within { result ≤ length pairs.now.list.stands }
+    requires ordered { is_ordered pairs.now.list.current ≡ true }
+    requires new { has member.now pairs.now.list.current ≡ false }
+    ensures is { result ≡ position_or_len (precedes (score, member.now)) pairs.now.list.current }
+    ensures within { result ≤ length pairs.now.list.current }
 {
-    pairs.first_where(&From { score, member })
+    pairs.partition_point(&From { score, member })
 }

@@ -1,5 +1,5 @@
 // The reader of replies. It keeps the part of a reply that has come, and takes the stream in any pieces.
-ghost use Rattle.std.specs.Prelude.{◌≡◌, ◌≢◌, ◌+◌, ◌^◌, ◌<◌, ◌≤◌, ◌++◌, ◌∷◌, [], ℕ, List, Some, None, IfOk, OnOk, IfErr, length, take, get_or, map};
+ghost use Rattle.std.specs.Prelude.{◌≡◌, ◌≢◌, ◌+◌, ◌<◌, ◌≤◌, ◌++◌, ◌∷◌, [], ℕ, List, Some, None, IfOk, OnOk, IfErr, length, take, get_or, map};
 ghost use Rattle.sk_resp.specs.Spelling.{Bytes, IsPart};
 ghost use Rattle.sk_resp.specs.Reply.{wire};
 ghost use Rattle.sk_resp.specs.ReplyStream.{ReadsReplies, StopsReplies, AddsReplies};
@@ -8,6 +8,7 @@ ghost use Rattle.sk_resp.specs.ReplyMachine.{go, go_within, run_within, gives, f
 ghost use Rattle.sk_resp.specs.declared.reply.Reply.{Reply};
 ghost use Rattle.sk_resp.specs.declared.reply.fault.ReplyFault.{ReplyFault};
 ghost use Rattle.sk_resp.specs.declared.reply.fault.ReplyFault.TheVariants.{Memory};
+ghost use Rattle.sk_base.specs.declared.limits.TheConstants.{LONGEST_REPLY};
 
 use super::fault::ReplyFault;
 use super::state::{Stage, State};
@@ -21,7 +22,7 @@ impl State {
         requires is_open { IsOpen (says self.old) }
         requires filled { (need : ℕ) → self.old.stage ≡ Stage.Body need → need ≤ length self.old.line.items }
         requires owed { owed (levels self.old.stack.items) ≤ self.old.size }
-        requires small { self.old.size + stage_needs self.old.stage (length self.old.line.items) (length (levels self.old.stack.items)) ≤ 2 ^ 32 }
+        requires small { self.old.size + stage_needs self.old.stage (length self.old.line.items) (length (levels self.old.stack.items)) ≤ LONGEST_REPLY }
         ensures ok { IfOk result (λ found. go (says self.old) byte ≡ gives (given found) (says self.new)) }
         ensures made { IfOk result (Made self.old self.new) }
         ensures fault { IfErr result (λ e. e ≢ Memory → go (says self.old) byte ≡ fails) }

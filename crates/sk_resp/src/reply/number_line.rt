@@ -1,12 +1,13 @@
 // Lines with a number: integers, the lengths of bulk strings and the numbers of elements of arrays. A number that can no longer be one of
 // its kind in its one spelling is refused at that byte.
-ghost use Rattle.std.specs.Prelude.{◌≡◌, ◌≢◌, ◌+◌, ◌*◌, ◌^◌, ◌<◌, ◌≤◌, [], ◌∷◌, Some, None, IfOk, IfErr};
+ghost use Rattle.std.specs.Prelude.{◌≡◌, ◌≢◌, ◌+◌, ◌*◌, ◌<◌, ◌≤◌, [], ◌∷◌, Some, None, IfOk, IfErr};
 ghost use Rattle.sk_resp.specs.Reply.{wire};
 ghost use Rattle.sk_resp.specs.ReplyMachine;
 ghost use Rattle.sk_resp.specs.ReplyMachine.{signs, minus_digit, digits, digits_end, done_to, gives, fails, levels, says, given, owed, behind, number_text, LeadsTo, IsNumber, IsCounted, Made};
 ghost use Rattle.sk_resp.specs.declared.reply.Reply.TheVariants as reply;
 ghost use Rattle.sk_resp.specs.declared.reply.fault.ReplyFault.TheVariants.{Memory};
 ghost use Rattle.sk_resp.specs.declared.reply.state.Kind.TheVariants as kind;
+ghost use Rattle.sk_base.specs.declared.limits.TheConstants.{LONGEST_REPLY};
 
 use super::fault::ReplyFault;
 use super::state::{Kind, Level, SHORTEST_REPLY, Stage, State};
@@ -44,7 +45,7 @@ fn int_of(negative: bool, n: usize) -> i64
 impl State {
     /// Takes the first byte of a number.
     pub fn take_sign(&mut self, kind: Kind, byte: u8) -> Result<Option<Reply>, ReplyFault>
-        requires { self.old.size ≤ 2 ^ 32 }
+        requires { self.old.size ≤ LONGEST_REPLY }
         ensures ok { IfOk result (λ found. LeadsTo (done_to (signs kind) self.old byte) found self.new) }
         ensures made { IfOk result (Made self.old self.new) }
         ensures fault { IfErr result (λ e. e ≢ Memory → done_to (signs kind) self.old byte ≡ fails) }
@@ -65,7 +66,7 @@ impl State {
 
     /// Takes the first digit behind a `-`.
     pub fn take_minus(&mut self, kind: Kind, byte: u8) -> Result<Option<Reply>, ReplyFault>
-        requires { self.old.size ≤ 2 ^ 32 }
+        requires { self.old.size ≤ LONGEST_REPLY }
         ensures ok { IfOk result (λ found. LeadsTo (done_to (minus_digit kind) self.old (ReplyMachine.digit_of byte)) found self.new) }
         ensures made { IfOk result (Made self.old self.new) }
         ensures fault { IfErr result (λ e. e ≢ Memory → done_to (minus_digit kind) self.old (ReplyMachine.digit_of byte) ≡ fails) }
@@ -91,7 +92,7 @@ impl State {
         n: usize,
         byte: u8,
     ) -> Result<Option<Reply>, ReplyFault>
-        requires { self.old.size ≤ 2 ^ 32 }
+        requires { self.old.size ≤ LONGEST_REPLY }
         ensures ok { IfOk result (λ found. LeadsTo (done_to (digits kind negative n) self.old byte) found self.new) }
         ensures made { IfOk result (Made self.old self.new) }
         ensures fault { IfErr result (λ e. e ≢ Memory → done_to (digits kind negative n) self.old byte ≡ fails) }
@@ -117,7 +118,7 @@ impl State {
     // Opens an array of so many elements.
     fn open_array(&mut self, alloc: Global, count: usize) -> Result<(), ReplyFault>
         requires some { 0 < count }
-        requires small { self.old.size + 3 * count ≤ 2 ^ 32 }
+        requires small { self.old.size + 3 * count ≤ LONGEST_REPLY }
         ensures ok { IfOk result (λ _. says self.new ≡ ReplyMachine.at Stage.Start [] ((count, []) ∷ levels self.old.stack.items)) }
         ensures counted { IfOk result (λ _. IsCounted self.old self.new) }
         ensures fault { IfErr result (λ e. e ≡ Memory) }
@@ -143,7 +144,7 @@ impl State {
     ) -> Result<Option<Reply>, ReplyFault>
         requires number { IsNumber kind negative n }
         requires owed { owed (levels self.old.stack.items) ≤ self.old.size }
-        requires small { self.old.size + behind kind negative n ≤ 2 ^ 32 }
+        requires small { self.old.size + behind kind negative n ≤ LONGEST_REPLY }
         ensures ok { IfOk result (λ found. digits_end kind negative n (levels self.old.stack.items) byte ≡ gives (given found) (says self.new)) }
         ensures made { IfOk result (Made self.old self.new) }
         ensures fault { IfErr result (λ e. e ≢ Memory → digits_end kind negative n (levels self.old.stack.items) byte ≡ fails) }

@@ -9,13 +9,8 @@ ghost use Rattle.sk_resp.specs.declared.reply.fault.ReplyFault.TheVariants.{Memo
 
 use super::fault::ReplyFault;
 use crate::{Replies, Reply};
+use sk_base::limits::{DEEPEST_REPLY, LONGEST_BULK, LONGEST_REPLY, MOST_ELEMENTS};
 use std::alloc::Global;
-
-/// The most arrays that are nested in one another.
-const DEEPEST: usize = 8;
-
-/// The most bytes of a whole reply.
-pub const LONGEST_REPLY: usize = 1 << 32;
 
 /// The fewest bytes of a reply: a mark and CRLF.
 pub const SHORTEST_REPLY: usize = 3;
@@ -38,8 +33,8 @@ impl Kind {
     {
         match self {
             Kind::Int => { if negative { 1 << 63 } else { (1 << 63) - 1 } }
-            Kind::Bulk => { if negative { 1 } else { 1 << 31 } }
-            Kind::Array => { if negative { 1 } else { 1 << 31 } }
+            Kind::Bulk => { if negative { 1 } else { LONGEST_BULK } }
+            Kind::Array => { if negative { 1 } else { MOST_ELEMENTS } }
         }
     }
 
@@ -50,7 +45,7 @@ impl Kind {
         match self {
             Kind::Int => false,
             Kind::Bulk => false,
-            Kind::Array => depth >= DEEPEST,
+            Kind::Array => depth >= DEEPEST_REPLY,
         }
     }
 
@@ -61,7 +56,7 @@ impl Kind {
         match self {
             Kind::Int => 3,
             Kind::Bulk => 4,
-            Kind::Array => { if depth < DEEPEST { 3 } else { 4 } }
+            Kind::Array => { if depth < DEEPEST_REPLY { 3 } else { 4 } }
         }
     }
 
@@ -163,7 +158,7 @@ impl State {
     pub fn fits(&self) -> bool
         requires is_open { IsOpen (says self.now) }
         requires small { self.now.size ≤ 2 ^ 33 }
-        ensures { result ≡ leb (self.now.size + still_needs self.now) (2 ^ 32) }
+        ensures { result ≡ leb (self.now.size + still_needs self.now) LONGEST_REPLY }
     {
         self.size + self.needs() <= LONGEST_REPLY
     }
@@ -172,7 +167,7 @@ impl State {
     /// wants.
     pub fn settle(&mut self, reply: Reply) -> Result<Option<Reply>, ReplyFault>
         requires owed { owed (levels self.old.stack.items) ≤ self.old.size }
-        requires small { self.old.size ≤ 2 ^ 32 }
+        requires small { self.old.size ≤ LONGEST_REPLY }
         requires read { IsRead reply }
         ensures ok { IfOk result (λ found. settled (levels self.old.stack.items) (wire reply) ≡ gives (given found) (says self.new)) }
         ensures made { IfOk result (Made self.old self.new) }

@@ -1,5 +1,5 @@
 // The texts of replies: lines that end at a CR, and bulk strings, whose length is known.
-ghost use Rattle.std.specs.Prelude.{◌≡◌, ◌≢◌, ◌+◌, ◌^◌, ◌<◌, ◌≤◌, ◌++◌, ◌∷◌, [], ◌↔◌, ℕ, IsTrue, IfOk, IfErr, length, take};
+ghost use Rattle.std.specs.Prelude.{◌≡◌, ◌≢◌, ◌+◌, ◌<◌, ◌≤◌, ◌++◌, ◌∷◌, [], ◌↔◌, ℕ, IsTrue, IfOk, IfErr, length, take};
 ghost use Rattle.std.specs.List.{AllByRecursion};
 ghost use Rattle.sk_resp.specs.Spelling.{cr, lf};
 ghost use Rattle.sk_resp.specs.ReplyMachine;
@@ -7,13 +7,11 @@ ghost use Rattle.sk_resp.specs.ReplyMachine.{starts, lines, bodies, go_at, done_
 ghost use Rattle.sk_resp.specs.declared.reply.fault.ReplyFault.TheVariants.{Memory};
 
 use super::fault::ReplyFault;
-use super::state::{Kind, LONGEST_REPLY, Stage, State};
+use super::state::{Kind, Stage, State};
 use crate::{Reply, Word};
+use sk_base::limits::{LONGEST_REPLY, LONGEST_TEXT};
 use std::alloc::Global;
 use std::mem;
-
-/// The most bytes of a simple or an error text.
-const LONGEST_TEXT: usize = 1 << 16;
 
 // A byte of a text.
 fn is_plain(byte: u8) -> bool
@@ -38,7 +36,7 @@ fn plain_front(input: &[u8], most: usize) -> usize
 impl State {
     /// Takes the mark of a reply.
     pub fn take_mark(&mut self, byte: u8) -> Result<Option<Reply>, ReplyFault>
-        requires { self.old.size ≤ 2 ^ 32 }
+        requires { self.old.size ≤ LONGEST_REPLY }
         ensures ok { IfOk result (λ found. LeadsTo (done_to starts self.old byte) found self.new) }
         ensures made { IfOk result (Made self.old self.new) }
         ensures fault { IfErr result (λ e. e ≢ Memory → done_to starts self.old byte ≡ fails) }
@@ -61,7 +59,7 @@ impl State {
         end: Stage,
         byte: u8,
     ) -> Result<Option<Reply>, ReplyFault>
-        requires { self.old.size ≤ 2 ^ 32 }
+        requires { self.old.size ≤ LONGEST_REPLY }
         ensures ok { IfOk result (λ found. LeadsTo (done_to (lines stay end) self.old byte) found self.new) }
         ensures made { IfOk result (Made self.old self.new) }
         ensures fault { IfErr result (λ e. e ≢ Memory → done_to (lines stay end) self.old byte ≡ fails) }
@@ -100,10 +98,10 @@ impl State {
 
     // How many bytes the open text may still have.
     fn text_room(&self) -> usize
-        requires short { length self.now.line.items ≤ 2 ^ 16 }
-        requires small { self.now.size + 2 ≤ 2 ^ 32 }
-        ensures short { length self.now.line.items + result ≤ 2 ^ 16 }
-        ensures small { self.now.size + 2 + result ≤ 2 ^ 32 }
+        requires short { length self.now.line.items ≤ LONGEST_TEXT }
+        requires small { self.now.size + 2 ≤ LONGEST_REPLY }
+        ensures short { length self.now.line.items + result ≤ LONGEST_TEXT }
+        ensures small { self.now.size + 2 + result ≤ LONGEST_REPLY }
     {
         (LONGEST_TEXT - self.line.len()).min(LONGEST_REPLY - 2 - self.size)
     }
@@ -111,7 +109,7 @@ impl State {
     /// Takes the CR behind the bytes of a bulk string.
     pub fn take_cr(&mut self, need: usize, byte: u8) -> Result<Option<Reply>, ReplyFault>
         requires filled { need ≤ length self.old.line.items }
-        requires small { self.old.size ≤ 2 ^ 32 }
+        requires small { self.old.size ≤ LONGEST_REPLY }
         ensures ok { IfOk result (λ found. LeadsTo (done_to (bodies need) self.old byte) found self.new) }
         ensures made { IfOk result (Made self.old self.new) }
         ensures fault { IfErr result (λ e. e ≢ Memory → done_to (bodies need) self.old byte ≡ fails) }
@@ -138,7 +136,7 @@ impl State {
     /// Takes the LF behind a simple text, and gives the reply that it makes whole.
     pub fn end_simple(&mut self, alloc: Global, byte: u8) -> Result<Option<Reply>, ReplyFault>
         requires owed { owed (levels self.old.stack.items) ≤ self.old.size }
-        requires small { self.old.size ≤ 2 ^ 32 }
+        requires small { self.old.size ≤ LONGEST_REPLY }
         ensures ok { IfOk result (λ found. LeadsTo (done_to (go_at Stage.SimpleEnd) self.old byte) found self.new) }
         ensures made { IfOk result (Made self.old self.new) }
         ensures fault { IfErr result (λ e. e ≢ Memory → done_to (go_at Stage.SimpleEnd) self.old byte ≡ fails) }
@@ -152,7 +150,7 @@ impl State {
     /// Takes the LF behind an error text, and gives the reply that it makes whole.
     pub fn end_error(&mut self, alloc: Global, byte: u8) -> Result<Option<Reply>, ReplyFault>
         requires owed { owed (levels self.old.stack.items) ≤ self.old.size }
-        requires small { self.old.size ≤ 2 ^ 32 }
+        requires small { self.old.size ≤ LONGEST_REPLY }
         ensures ok { IfOk result (λ found. LeadsTo (done_to (go_at Stage.ErrorEnd) self.old byte) found self.new) }
         ensures made { IfOk result (Made self.old self.new) }
         ensures fault { IfErr result (λ e. e ≢ Memory → done_to (go_at Stage.ErrorEnd) self.old byte ≡ fails) }
@@ -166,7 +164,7 @@ impl State {
     /// Takes the LF behind a bulk string, and gives the reply that it makes whole.
     pub fn end_bulk(&mut self, alloc: Global, byte: u8) -> Result<Option<Reply>, ReplyFault>
         requires owed { owed (levels self.old.stack.items) ≤ self.old.size }
-        requires small { self.old.size ≤ 2 ^ 32 }
+        requires small { self.old.size ≤ LONGEST_REPLY }
         ensures ok { IfOk result (λ found. LeadsTo (done_to (go_at Stage.BodyEnd) self.old byte) found self.new) }
         ensures made { IfOk result (Made self.old self.new) }
         ensures fault { IfErr result (λ e. e ≢ Memory → done_to (go_at Stage.BodyEnd) self.old byte ≡ fails) }

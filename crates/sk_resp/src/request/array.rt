@@ -1,7 +1,7 @@
 // Arrays of bulk strings: a header, and then a line with its length before each word. Each stage takes one byte, or many where they
 // stand in the input together; the plain byte decides wherever anything is unlike the usual form.
 ghost use Rattle.std.specs.Prelude;
-ghost use Rattle.std.specs.Prelude.{◌≡◌, ◌+◌, ◌^◌, ◌<◌, ◌≤◌, ◌++◌, ◌∷◌, [], IfOk, IfErr, IfSome, length, take};
+ghost use Rattle.std.specs.Prelude.{◌≡◌, ◌+◌, ◌<◌, ◌≤◌, ◌++◌, ◌∷◌, [], IfOk, IfErr, IfSome, length, take};
 ghost use Rattle.sk_resp.specs.Spelling.{header, bulk, IsPart};
 ghost use Rattle.sk_resp.specs.Request.{bulks, IsWord, IsWordWithin, IsWanting};
 ghost use Rattle.sk_resp.specs.Reading.{seen, seen_at, IsOpen, IsOpenAt, Took, Fails, given};
@@ -9,26 +9,15 @@ ghost use Rattle.sk_resp.specs.Reading.{seen, seen_at, IsOpen, IsOpenAt, Took, F
 use super::number_line::{count_number, line_number, number_front};
 use super::state::{Stage, State};
 use crate::{Memory, WireFault, Word, Words};
+use sk_base::limits::{LONGEST_COMMAND, LONGEST_LENGTH_LINE, LONGEST_WORD, MOST_WORDS};
 use std::alloc::Global;
 use std::mem;
-
-/// The most words of a command.
-const MOST_WORDS: usize = 65_536;
-
-/// The most bytes of a word.
-const LONGEST_WORD: usize = 1_048_576;
-
-/// The most bytes of all words of a command.
-const LONGEST_COMMAND: usize = 16_777_216;
-
-/// The most bytes of a line behind `*` or `$`, its CR among them.
-const LONGEST_LINE: usize = 32;
 
 impl State {
     // Begins an array of that many words.
     fn open_array(&mut self, alloc: Global, count: usize)
         requires some { 0 < count }
-        requires few { count ≤ 2 ^ 16 }
+        requires few { count ≤ MOST_WORDS }
         ensures is_open { IsOpen self.new }
         ensures seen { seen self.new ≡ header count }
     {
@@ -55,7 +44,7 @@ impl State {
             self.open_array(alloc, n);
             return Ok(None);
         }
-        if self.line.len() >= LONGEST_LINE {
+        if self.line.len() >= LONGEST_LENGTH_LINE {
             return Err(WireFault::MultiLength);
         }
         self.line.push(byte)?;
@@ -98,7 +87,7 @@ impl State {
             self.stage = Stage::Body;
             return Ok(None);
         }
-        if self.line.len() >= LONGEST_LINE {
+        if self.line.len() >= LONGEST_LENGTH_LINE {
             return Err(WireFault::BulkLength);
         }
         self.line.push(byte)?;
@@ -143,7 +132,7 @@ impl State {
     // Adds a whole word, and gives the command where that was its last.
     fn add_word(&mut self, alloc: Global, word: Word) -> Result<Option<Words>, WireFault>
         requires wanting { IsWanting self.old.count self.old.words.items self.old.total }
-        requires fits { IsWord word × (self.old.total + Prelude.length word ≤ 2 ^ 24) }
+        requires fits { IsWord word × (self.old.total + Prelude.length word ≤ LONGEST_COMMAND) }
         ensures ok { IfOk result (λ found. Took ((header self.old.count ++ bulks self.old.words.items) ++ bulk word) (given found) self.new) }
         ensures fault { IfErr result (λ e. e ≡ WireFault.Memory) }
     {

@@ -7,11 +7,9 @@ ghost use Rattle.sk_resp.specs.Reading.{Took, Fails, given};
 use super::number_line::line_text;
 use super::state::{Stage, State};
 use crate::{Memory, WireFault, Word, Words};
+use sk_base::limits::LONGEST_INLINE;
 use std::alloc::Global;
 use std::mem;
-
-/// The most bytes of an inline line, its LF aside.
-const LONGEST_INLINE: usize = 65_536;
 
 // Words are cut here.
 fn is_cut(byte: u8) -> bool

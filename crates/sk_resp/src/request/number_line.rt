@@ -5,6 +5,7 @@ ghost use Rattle.sk_resp.specs.Spelling.{cr, lf, line, minus};
 ghost use Rattle.sk_resp.specs.Request.{IsCountLine, IsSkipped};
 
 use crate::number::{canonical, negative};
+use sk_base::limits::MOST_WORDS;
 
 /// The text of a line, which a CR ends.
 pub fn line_text(line: &[u8]) -> Option<&[u8]>
@@ -45,11 +46,11 @@ fn negative_line(line: &[u8]) -> Option<i64>
 /// The number in the line behind `*`, where it may stand there, and 0 for an integer below zero.
 pub fn count_number(line: &[u8]) -> Option<usize>
     ensures { MatchOption result (IsCountLine line.now → ⊥)
-        (λ n. (n ≤ 2 ^ 16) × (0 < n → line.now ≡ decimal n ++ cr ∷ []) × (n ≡ 0 → (z : ℤ) × IsSkipped z × (line.now ≡ signed_decimal z ++ cr ∷ []))) }
+        (λ n. (n ≤ MOST_WORDS) × (0 < n → line.now ≡ decimal n ++ cr ∷ []) × (n ≡ 0 → (z : ℤ) × IsSkipped z × (line.now ≡ signed_decimal z ++ cr ∷ []))) }
 {
     match line_number(line) {
         Some(n) => {
-            if n > 1 << 16 {
+            if n > MOST_WORDS {
                 return None;
             }
             Some(n)

@@ -5,8 +5,8 @@ use Rattle.sk_batch.proofs.edits.add_members.Given as goal
 
 abbrev pub invariant-loop-new : goal.invariant-loop-new
 invariant-loop-new l = record {
-  put : put_all (into_iter_items l.new-iterator) l.members.list.stands ≡ put_all l.fn.news.items l.initial.members.list.stands;
-  stood : l.members.list.stood ≡ l.initial.members.list.stood;
-  ordered : is_ordered l.members.list.stands ≡ true;
+  put : put_all (into_iter_items l.new-iterator) l.members.list.current ≡ put_all l.fn.news.items l.initial.members.list.current;
+  saved : l.members.list.saved ≡ l.initial.members.list.saved;
+  ordered : is_ordered l.members.list.current ≡ true;
   room : into_iter_len l.new-iterator ≤ l.members.room;
 }

@@ -6,12 +6,12 @@ use Rattle.sk_batch.proofs.faults.check_batch.Goals as goal
 
 pub returns-then-at-len : goal.returns-then-at-len
 returns-then-at-len c = λ members kept.
-    sym (batch_rules c.args.bid.now (of_lists (seen_of c.args.batches.now.list.stands) members) _ false (found_nowhere c.args.batches.now.list.stands c.args.bid.now c.find-at.result c.find-at.ensures.is (omega (arith, c.if-at-len.true, c.len.ensures.is))) refl)
+    sym (batch_rules c.args.bid.now (of_lists (seen_of c.args.batches.now.list.current) members) _ false (found_nowhere c.args.batches.now.list.current c.args.bid.now c.find-at.result c.find-at.ensures.is (omega (arith, c.if-at-len.true, c.len.ensures.is))) refl)
 
 pub returns-then-is_settled : goal.returns-then-is_settled
 returns-then-is_settled c = λ members kept.
-    sym (batch_rules c.args.bid.now (of_lists (seen_of c.args.batches.now.list.stands) members) true true (found_there c.args.batches.now.list.stands c.args.bid.now c.find-at.result c.find-at.ensures.is (omega (arith, c.if-at-len.false, c.len.ensures.is, c.find-at.ensures.within))) (sym (c.is_settled.ensures members c.args.bid.now kept c.find-at.ensures.is) ∙ c.if-is_settled.true))
+    sym (batch_rules c.args.bid.now (of_lists (seen_of c.args.batches.now.list.current) members) true true (found_there c.args.batches.now.list.current c.args.bid.now c.find-at.result c.find-at.ensures.is (omega (arith, c.if-at-len.false, c.len.ensures.is, c.find-at.ensures.within))) (sym (c.is_settled.ensures members c.args.bid.now kept c.find-at.ensures.is) ∙ c.if-is_settled.true))
 
 pub returns-else-is_settled : goal.returns-else-is_settled
 returns-else-is_settled c = λ members kept.
-    sym (batch_rules c.args.bid.now (of_lists (seen_of c.args.batches.now.list.stands) members) false true (found_there c.args.batches.now.list.stands c.args.bid.now c.find-at.result c.find-at.ensures.is (omega (arith, c.if-at-len.false, c.len.ensures.is, c.find-at.ensures.within))) (sym (c.is_settled.ensures members c.args.bid.now kept c.find-at.ensures.is) ∙ c.if-is_settled.false))
+    sym (batch_rules c.args.bid.now (of_lists (seen_of c.args.batches.now.list.current) members) false true (found_there c.args.batches.now.list.current c.args.bid.now c.find-at.result c.find-at.ensures.is (omega (arith, c.if-at-len.false, c.len.ensures.is, c.find-at.ensures.within))) (sym (c.is_settled.ensures members c.args.bid.now kept c.find-at.ensures.is) ∙ c.if-is_settled.false))

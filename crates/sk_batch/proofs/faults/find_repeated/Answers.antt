@@ -8,7 +8,7 @@ use Rattle.sk_batch.proofs.faults.find_repeated.Goals as goal
 pub loop-jid-preserved : goal.loop-jid-preserved
 loop-jid-preserved c =
     let all = c.args.jids.now in
-    let members = c.args.members.now.list.stands in
+    let members = c.args.members.now.list.current in
     let key = c.bytes-bytes.result in
     let next : c.loop-jid.jid-index + 1 ≡ suc c.loop-jid.jid-index = omega arith in
     let same : c.jid-item.result ≡ key.now = sym c.bytes-bytes.ensures in

@@ -1,5 +1,5 @@
-use Rattle.sk_batch.proofs.Order.{rises_behind}
+use Rattle.sk_batch.proofs.Order.{partitioned_behind}
 use Rattle.sk_batch.proofs.members.place_for.Goals as goal
 
-pub first_where-requires : goal.first_where-requires
-first_where-requires c = rises_behind c.args.new.now c.args.members.now.list.stands c.requires
+pub partition_point-requires : goal.partition_point-requires
+partition_point-requires c = partitioned_behind c.args.new.now c.args.members.now.list.current c.requires

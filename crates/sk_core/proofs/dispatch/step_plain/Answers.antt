@@ -1,6 +1,6 @@
 use Rattle.std.proofs.Common.{◌≡◌, ◌∙◌, ap, ap₂, false, inl, inr, not, refl, subst, sym}
 use Rattle.sk_value.specs.Action.{action_of}
-use Rattle.sk_model.specs.Outcome.{Comes}
+use Rattle.sk_model.specs.Outcome.{Realizes}
 use Rattle.sk_model.specs.Seats.{releases}
 use Rattle.sk_model.specs.Step.{plain_outcome, starves}
 use Rattle.sk_model.specs.World.{phase_of}
@@ -18,7 +18,7 @@ returns-in-Ok-clause-served c =
     let same = ap₂ (sent_by mid seat (phase_of mid seat)) c.is_read-reads.ensures c.action_of-action.ensures in (
       plain_outcome w seat c.args.now c.args.command,
       inl refl,
-      plain_comes w mid new seat c.args.now c.args.command c.in-Ok.reply c.pass.ensures.world (subst (λ o. Comes mid o c.in-Ok.reply new) same c.in-Ok.ensures.ran.0),
+      plain_comes w mid new seat c.args.now c.args.command c.in-Ok.reply c.pass.ensures.world (subst (λ o. Realizes mid o c.in-Ok.reply new) same c.in-Ok.ensures.ran.0),
     )
 
 pub returns-in-Ok-clause-ready : goal.returns-in-Ok-clause-ready

@@ -12,8 +12,8 @@ returns-clause-ok c =
     let w = world c.args.store.now in
     let bid = c.args.bid.now in
     let jids : c.jobs.inside.jids.items ≡ jids_of c.args.jobs = c.jobs.invariant.0 ∙ ap jids_of c.jobs.view_is in
-    let batches = ap (λ s. s.stands) c.in_ok-add_jobs.ensures.ok ∙ ap (λ js. joined bid js w.batches) jids in
+    let batches = ap (λ s. s.current) c.in_ok-add_jobs.ensures.ok ∙ ap (λ js. joined bid js w.batches) jids in
     record {
       reply_is = c.counted.ensures ∙ ap counted (c.len-count.ensures ∙ c.jobs.inside.payloads.ok.0 ∙ ap length c.jobs.view_is);
-      new_is = c.in_ok-push_jobs.ensures.ok ∙ ap (λ ts. perform (with_batched c.add_jobs.new.batches.stands w) (push_jobs ts)) c.jobs.view_is ∙ ap (λ b. perform (with_batched b w) (push_jobs c.args.jobs)) batches;
+      new_is = c.in_ok-push_jobs.ensures.ok ∙ ap (λ ts. perform (with_batched c.add_jobs.new.batches.current w) (push_jobs ts)) c.jobs.view_is ∙ ap (λ b. perform (with_batched b w) (push_jobs c.args.jobs)) batches;
     }

@@ -3,8 +3,8 @@ use Rattle.sk_value.specs.Answer.{texts}
 use Rattle.sk_batch.specs.Events.{made, made_fires}
 use Rattle.sk_model.specs.Batches.{jids_of, push_jobs}
 use Rattle.sk_model.specs.Change.{perform}
-use Rattle.sk_model.specs.Told.{fired_texts}
-use Rattle.sk_model.proofs.Coming.{if_ok}
+use Rattle.sk_model.specs.Notify.{fired_texts}
+use Rattle.sk_model.proofs.Tools.Outcomes.{if_ok}
 use Rattle.sk_store.specs.Stored.{world}
 use Rattle.sk_jobs.proofs.Batching.{make_is}
 use Rattle.sk_jobs.proofs.Calling.{with_batched}
@@ -17,22 +17,22 @@ returns-clause-ok c =
     let w = world c.args.store.now in
     let jids : c.jobs.inside.jids.items ≡ jids_of c.args.jobs = c.jobs.invariant.0 ∙ ap jids_of c.jobs.view_is in
     let fires : c.in_ok-firings.firings.items ≡ made_fires batch (jids_of c.args.jobs) = c.in_ok-firings.ensures.fires ∙ ap (made_fires batch) jids in
-    let batches = ap (λ s. s.stands) c.in_ok-firings.ensures.ok ∙ ap (λ js. made batch js w.batches) jids in
-    let pushed = c.in_ok-push_jobs.ensures.ok ∙ ap (λ ts. perform (with_batched c.make_batch.new.batches.stands w) (push_jobs ts)) c.jobs.view_is in
+    let batches = ap (λ s. s.current) c.in_ok-firings.ensures.ok ∙ ap (λ js. made batch js w.batches) jids in
+    let pushed = c.in_ok-push_jobs.ensures.ok ∙ ap (λ ts. perform (with_batched c.make_batch.new.batches.current w) (push_jobs ts)) c.jobs.view_is in
     if_ok _ _ c.as_reply.result
     (λ reply e. record {
       reply_is = e ∙ ap texts (c.in_ok-fired.ensures.texts ∙ ap fired_texts fires);
-      new_is = make_is w (world c.push_jobs.new.store) (world c.call_all.new.store) c.make_batch.new.batches.stands batch c.args.jobs c.in_ok-firings.firings.items fires batches pushed c.in_ok-fired.ensures.ok;
+      new_is = make_is w (world c.push_jobs.new.store) (world c.push_callbacks.new.store) c.make_batch.new.batches.current batch c.args.jobs c.in_ok-firings.firings.items fires batches pushed c.in_ok-fired.ensures.ok;
     })
     c.as_reply.ensures
 
-pub call_all-requires : goal.call_all-requires
-call_all-requires c =
+pub push_callbacks-requires : goal.push_callbacks-requires
+push_callbacks-requires c =
     let batch = c.args.batch in
     let w = world c.args.store.now in
     let mid = world c.push_jobs.new.store in
     let jids : c.jobs.inside.jids.items ≡ jids_of c.args.jobs = c.jobs.invariant.0 ∙ ap jids_of c.jobs.view_is in
-    let few : length c.make_batch.new.batches.stands.batches ≤ 2 ^ 60 = omega (arith, c.len-batches.ensures.is, c.len-batches.ensures.few) in
-    let inner = ap (λ u. u.tally.inner) c.in_ok-push_jobs.ensures.ok ∙ jobs_inner (with_batched c.make_batch.new.batches.stands w) c.jobs.inside.payloads.items in
-    made_fits mid.tally w.tally.inner w.batches c.make_batch.new.batches.stands batch (jids_of c.args.jobs) c.in_ok-firings.firings.items c.requires.clear c.requires.covered inner
-    (c.in_ok-firings.ensures.fires ∙ ap (made_fires batch) jids) (ap (λ t. t.stands) c.in_ok-firings.ensures.ok ∙ ap (λ js. made batch js w.batches) jids) c.push_count-pushes.ensures.outside few
+    let few : length c.make_batch.new.batches.current.batches ≤ 2 ^ 60 = omega (arith, c.len-batches.ensures.is, c.len-batches.ensures.few) in
+    let inner = ap (λ u. u.tally.inner) c.in_ok-push_jobs.ensures.ok ∙ jobs_inner (with_batched c.make_batch.new.batches.current w) c.jobs.inside.payloads.items in
+    made_fits mid.tally w.tally.inner w.batches c.make_batch.new.batches.current batch (jids_of c.args.jobs) c.in_ok-firings.firings.items c.requires.clear c.requires.covered inner
+    (c.in_ok-firings.ensures.fires ∙ ap (made_fires batch) jids) (ap (λ t. t.current) c.in_ok-firings.ensures.ok ∙ ap (λ js. made batch js w.batches) jids) c.push_count-pushes.ensures.outside few

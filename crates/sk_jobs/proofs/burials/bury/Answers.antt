@@ -4,12 +4,12 @@ use Rattle.sk_seats.proofs.Seating.{has_works, stage_stays}
 use Rattle.sk_seats.specs.Works.{is_buried_as}
 use Rattle.sk_seats.specs.declared.work.Stage.TheVariants.{Put}
 use Rattle.sk_model.specs.Jobs.{reports}
-use Rattle.sk_model.specs.Outcome.{Comes}
+use Rattle.sk_model.specs.Outcome.{Realizes}
 use Rattle.sk_model.specs.Workers.{bury, bury_text}
 use Rattle.sk_model.specs.World.{phase_of}
 use Rattle.sk_store.proofs.Steps.{seated_ready, seats_stay, undone_again, whole}
 use Rattle.sk_store.specs.Stored.{world}
-use Rattle.sk_jobs.specs.Sending.{buries_text}
+use Rattle.sk_jobs.specs.Routing.{buries_text}
 use Rattle.sk_jobs.proofs.Turning.{buried_turned, staged_is, starved, with_phases, within_still}
 use Rattle.sk_jobs.proofs.Working.{found_at, found_is}
 use Rattle.sk_jobs.proofs.burials.bury.Goals as goal
@@ -44,7 +44,7 @@ returns c =
     let next = staged_is old.seats closed.seats c.stage.new.self seat c.in-Ok.at (is_buried_as payload) Put same found c.stage.ensures in
     let after = world (record closed { seats = c.stage.new.self }) in
     let comes = buried_turned v (world closed) after seat phase payload reply alike ran.0 (ap (λ p. with_phases p (world closed)) next) in (
-      subst (λ text. Comes v (bury v seat phase text) reply after) c.in_ok-payload.ensures
-          (subst (λ o. Comes v o reply after) (sym (found_is phase (is_buried_as payload) c.in-Ok.at (λ ident. reports (bury_text v seat phase payload)) found)) comes),
+      subst (λ text. Realizes v (bury v seat phase text) reply after) c.in_ok-payload.ensures
+          (subst (λ o. Realizes v o reply after) (sym (found_is phase (is_buried_as payload) c.in-Ok.at (λ ident. reports (bury_text v seat phase payload)) found)) comes),
       seated_ready closed c.stage.new.self ran.1,
     )

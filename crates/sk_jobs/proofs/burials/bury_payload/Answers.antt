@@ -4,10 +4,10 @@ use Rattle.sk_cmd.specs.declared.argument.Scored.TheVariants.{Dead}
 use Rattle.sk_model.specs.Change.{changed}
 use Rattle.sk_model.specs.Jobs.{buried_by, moment_score}
 use Rattle.sk_model.specs.Sets.{put_back}
-use Rattle.sk_model.proofs.Coming.{if_ok}
+use Rattle.sk_model.proofs.Tools.Outcomes.{if_ok}
 use Rattle.sk_places.specs.Rows.{row_of}
 use Rattle.sk_store.specs.Stored.{world}
-use Rattle.sk_jobs.specs.Sending.{dead_rows}
+use Rattle.sk_jobs.specs.Routing.{dead_rows}
 use Rattle.sk_jobs.proofs.Burying.{buried_after}
 use Rattle.sk_jobs.proofs.Covering.{put_quiet, quiet_covered}
 use Rattle.sk_jobs.proofs.burials.bury_payload.Goals as goal
@@ -21,7 +21,7 @@ returns-clause-ok c =
     let put = put_back v Dead (moment_score v, payload) ∷ [] in
     let mid = c.in_ok-put_back.ensures.ok ∙ ap (λ s. changed v (put_back v Dead (s, payload))) score in
     let sent = buried_after v (world c.put_back.new.store) (world c.bury_put.new.store) put payload c.in_ok-report.report mid (c.in_ok-report.ensures.ok payload c.in_ok-member.ensures) in
-    if_ok _ _ c.told.result (λ reply tells. tells v (world c.bury_put.new.store) (buried_by v payload put) sent) c.told.ensures
+    if_ok _ _ c.into_reply.result (λ reply tells. tells v (world c.bury_put.new.store) (buried_by v payload put) sent) c.into_reply.ensures
 
 pub bury_put-requires-clause-covered : goal.bury_put-requires-clause-covered
 bury_put-requires-clause-covered c =

@@ -1,9 +1,9 @@
 use Rattle.std.proofs.Common.{◌∙◌, ap}
 use Rattle.sk_model.specs.Jobs.{put_dead}
-use Rattle.sk_model.proofs.Coming.{if_ok}
+use Rattle.sk_model.proofs.Tools.Outcomes.{if_ok}
 use Rattle.sk_places.specs.Rows.{rows_at}
 use Rattle.sk_store.specs.Stored.{world}
-use Rattle.sk_jobs.specs.Calls.{member_of}
+use Rattle.sk_jobs.specs.Callbacks.{member_of}
 use Rattle.sk_jobs.proofs.Burying.{buried_after}
 use Rattle.sk_jobs.proofs.Calling.{on_ok}
 use Rattle.sk_jobs.proofs.Fronts.{text_of_row}

@@ -1,7 +1,7 @@
 use Rattle.std.proofs.Common.{◌≡◌, ◌-◌, ◌∙◌, List, ap, arith, length, max, take}
 use Rattle.sk_places.specs.declared.row.Row.{Row}
 use Rattle.sk_store.specs.Stored.{world}
-use Rattle.sk_jobs.specs.Sending.{dead_rows}
+use Rattle.sk_jobs.specs.Routing.{dead_rows}
 use Rattle.sk_jobs.proofs.Fronts.{surplus_is}
 use Rattle.sk_jobs.proofs.dead.surplus_count.Goals as goal
 

@@ -2,7 +2,7 @@ use Rattle.std.proofs.Common.{◌≡◌, ◌≤◌, ◌-◌, ◌++◌, ◌∙◌
 use Rattle.sk_model.specs.Change.{perform}
 use Rattle.sk_store.proofs.Steps.{joined}
 use Rattle.sk_store.specs.Stored.{world}
-use Rattle.sk_jobs.specs.Sending.{dead_rows, texts_of, trims}
+use Rattle.sk_jobs.specs.Routing.{dead_rows, texts_of, trims}
 use Rattle.sk_jobs.proofs.Fronts.{one_trimmed}
 use Rattle.sk_jobs.proofs.dead.trim_front.Goals as goal
 

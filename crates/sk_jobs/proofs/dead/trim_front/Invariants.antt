@@ -1,7 +1,7 @@
 use Rattle.std.proofs.Common.{◌≡◌, ◌≤◌, ◌++◌, [], length, take}
 use Rattle.sk_model.specs.Change.{perform}
 use Rattle.sk_store.specs.Stored.{InStep, world}
-use Rattle.sk_jobs.specs.Sending.{Takes, dead_rows, texts_of, trims}
+use Rattle.sk_jobs.specs.Routing.{Takes, dead_rows, texts_of, trims}
 use Rattle.sk_jobs.proofs.dead.trim_front.Given as goal
 
 abbrev pub decreases-loop-left : goal.decreases-loop-left

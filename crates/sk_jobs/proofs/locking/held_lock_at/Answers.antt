@@ -1,6 +1,6 @@
 use Rattle.std.proofs.Common.{◌∙◌, ap, sym}
 use Rattle.sk_seats.specs.Works.{is_held_as}
-use Rattle.sk_model.proofs.Coming.{if_ok}
+use Rattle.sk_model.proofs.Tools.Outcomes.{if_ok}
 use Rattle.sk_model.specs.Unique.{unlocks}
 use Rattle.sk_model.specs.World.{phase_of}
 use Rattle.sk_store.specs.Stored.{world}

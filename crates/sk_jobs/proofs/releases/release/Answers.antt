@@ -10,7 +10,7 @@ use Rattle.sk_seats.specs.declared.phase.Phase.TheVariants.{Joined}
 use Rattle.sk_seats.specs.Phases.{phase_in, works_of}
 use Rattle.sk_seats.specs.Works.{is_done_as}
 use Rattle.sk_model.specs.Workers.{release_of}
-use Rattle.sk_model.proofs.Coming.{refusal_comes}
+use Rattle.sk_model.proofs.Tools.Outcomes.{refusal_comes}
 use Rattle.sk_store.specs.Stored.{world}
 use Rattle.sk_jobs.proofs.Working.{none_released, release_comes, still_some}
 use Rattle.sk_jobs.proofs.releases.release.Goals as goal
@@ -27,13 +27,13 @@ returns-in_default-find_done-clause-done c =
 pub returns-clause-done : goal.returns-clause-done
 returns-clause-done c =
     let s = c.args.store.now in
-    let p = s.places.stands in
+    let p = s.places.current in
     let text = c.args.text.now in
     let works = c.in-Joined.works in
     let list = Private c.args.ident in
     let joined : phase_in s.seats c.args.seat ≡ Joined c.args.ident works = cc (c.requires.joined.1, c.get.ensures.is, c.in-Joined.is) in
     let found : position (is_done_as text) works ≡ Some c.in-Some.at = sym (c.find_done.ensures.is ∙ ap (λ t. position (is_done_as t) works) c.bytes.ensures) ∙ c.in-Some.is in
     let was = c.is_some-was.ensures ∙ still_some _ pair_of c.find.result _ c.find.ensures ∙ ap (λ t. is_some (row_of t (rows_at list p.rows))) c.bytes-2.ensures in
-    let gone = ap (λ s. s.stands) c.take_copy.ensures ∙ ap (λ s. without_row Left (row_at list text) s.stands) c.end_job.ensures in
+    let gone = ap (λ s. s.current) c.take_copy.ensures ∙ ap (λ s. without_row Left (row_at list text) s.current) c.end_job.ensures in
     let next = c.release.ensures (is_done_as text) (ap (λ phase. position (is_done_as text) (works_of phase)) joined ∙ found) in
-    rw c.one_if.ensures (release_comes (world s) c.is_some-was.result p c.take_copy.new.self.stands s.seats c.release.new.self c.args.seat c.args.ident text works c.get-2.result.now c.in-Some.at joined found (c.get-2.ensures (is_done_as text) found) was gone next)
+    rw c.one_if.ensures (release_comes (world s) c.is_some-was.result p c.take_copy.new.self.current s.seats c.release.new.self c.args.seat c.args.ident text works c.get-2.result.now c.in-Some.at joined found (c.get-2.ensures (is_done_as text) found) was gone next)

@@ -9,7 +9,7 @@ use Rattle.sk_store.specs.Stored.{world}
 use Rattle.sk_jobs.specs.Rescuing.{IsFront, own_rows}
 use Rattle.sk_jobs.proofs.Beating.{beats_of, rescue_beats}
 use Rattle.sk_jobs.proofs.Rescuing.{front_of, left_after, left_aside, many_sent, none_more, none_of_all, none_passed, passed_on, room}
-use Rattle.sk_jobs.proofs.SentOn.{IsLeft, all_sent, none_sent}
+use Rattle.sk_jobs.proofs.Routing.{IsLeft, all_sent, none_sent}
 use Rattle.sk_jobs.proofs.rescues.rescue_all.Goals as goal
 
 pub loop-after-init : goal.loop-after-init

@@ -1,9 +1,9 @@
 use Rattle.std.proofs.Common.{◌+◌, ◌-◌, length}
 use Rattle.sk_model.specs.Rescue.{left_rows, rescue_row}
 use Rattle.sk_store.specs.Stored.{InStep, world}
-use Rattle.sk_jobs.specs.Calls.{AreCovered}
+use Rattle.sk_jobs.specs.Callbacks.{AreCovered}
 use Rattle.sk_jobs.specs.Rescuing.{IsPassed}
-use Rattle.sk_jobs.proofs.SentOn.{IsLeft}
+use Rattle.sk_jobs.proofs.Routing.{IsLeft}
 use Rattle.sk_jobs.proofs.rescues.rescue_all.Given as goal
 
 -- so many rows at most are still to be sent

@@ -2,7 +2,7 @@ use Rattle.std.proofs.Common.{◌≡◌, ◌∙◌, ap, sym, true, refl}
 use Rattle.std.specs.Prelude.{Some}
 use Rattle.sk_payload.specs.Head.{head as head_of}
 use Rattle.sk_cmd.specs.declared.argument.Side.TheVariants.{Right}
-use Rattle.sk_model.proofs.Coming.{if_ok}
+use Rattle.sk_model.proofs.Tools.Outcomes.{if_ok}
 use Rattle.sk_model.specs.Change.{Recovers, changed}
 use Rattle.sk_model.specs.Rescue.{is_poison}
 use Rattle.sk_model.specs.World.{World}
@@ -11,7 +11,7 @@ use Rattle.sk_store.specs.Stored.{world}
 use Rattle.sk_jobs.proofs.Calling.{on_ok}
 use Rattle.sk_jobs.proofs.Fronts.{front_named, front_text}
 use Rattle.sk_jobs.proofs.Rescuing.{noted_sent, poisoned}
-use Rattle.sk_jobs.proofs.SentOn.{carried_left}
+use Rattle.sk_jobs.proofs.Routing.{carried_left}
 use Rattle.sk_jobs.proofs.rescues.rescue_first.Goals as goal
 
 pub returns-then-recoveries-ge-MOST_RECOVERIES-clause-ok : goal.returns-then-recoveries-ge-MOST_RECOVERIES-clause-ok
@@ -25,7 +25,7 @@ returns-then-recoveries-ge-MOST_RECOVERIES-clause-ok c =
     let text : c.in-Some.payload.now ≡ row.text = front_text c.args.list.now row more old.rows (c.in-Some.field-0-0, c.in-Some.payload.now) front c.in-Some.ensures in
     let named : head_of row.text ≡ Some h = ap head_of (sym text) ∙ sym c.in-Some-head.ensures.value in
     let found : row_of c.in_ok-payload.payload (rows_at c.args.list.now old.rows) ≡ Some row = front_named c.in_ok-payload.payload row more (rows_at c.args.list.now old.rows) front (c.in_ok-payload.ensures ∙ text) in
-    let leases = ap (λ l. l.stands) c.in_ok-recoveries.ensures.ok in
+    let leases = ap (λ l. l.current) c.in_ok-recoveries.ensures.ok in
     let noted : mid ≡ changed old (Recovers h.jid) = ap (λ l. record old { leases = l }) leases in
     let poison : is_poison mid h.jid ≡ true = poisoned mid h.jid old.moment c.in_ok-recoveries.recoveries old.leases refl leases c.in_ok-recoveries.ensures.count c.if-recoveries-ge-MOST_RECOVERIES.true in
     noted_sent old mid new report row h (head_of row.text) named noted poison (ok row found h named)) c.bury_poison.ensures.ok
@@ -38,4 +38,4 @@ returns-then-recoveries-ge-MOST_RECOVERIES-clause-left c =
     left row (front_named c.in_ok-payload.payload row more (rows_at c.args.list.now old.rows) front (c.in_ok-payload.ensures ∙ text))) c.bury_poison.ensures.left
 
 pub returns-clause-left : goal.returns-clause-left
-returns-clause-left c = λ row more front. carried_left (record c.args.store.now { leases = c.recovered.new.self }) c.send_on.new.store row c.in_ok-queue.queue Right (c.in_ok-send_on.ensures.ok row more front)
+returns-clause-left c = λ row more front. carried_left (record c.args.store.now { leases = c.recovered.new.self }) c.promote_to.new.store row c.in_ok-queue.queue Right (c.in_ok-promote_to.ensures.ok row more front)

@@ -5,7 +5,7 @@ use Rattle.sk_model.specs.Rescue.{rescue_row}
 use Rattle.sk_store.proofs.Steps.{joined}
 use Rattle.sk_store.specs.Stored.{world}
 use Rattle.sk_jobs.specs.Rescuing.{own_rows}
-use Rattle.sk_jobs.proofs.SentOn.{IsOne, all_sent, none_of, one_of, own_aside, row_sent}
+use Rattle.sk_jobs.proofs.Routing.{IsOne, all_sent, none_of, one_of, own_aside, row_sent}
 use Rattle.sk_jobs.proofs.rescues.rescue_list.Goals as goal
 
 pub rescue_first-requires-clause-alive : goal.rescue_first-requires-clause-alive

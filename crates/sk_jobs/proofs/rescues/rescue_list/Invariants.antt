@@ -4,10 +4,10 @@ use Rattle.sk_places.specs.declared.row.Place.TheVariants.{Private}
 use Rattle.sk_places.specs.declared.row.Row.{Row}
 use Rattle.sk_model.specs.Rescue.{rescue_row}
 use Rattle.sk_store.specs.Stored.{InStep, world}
-use Rattle.sk_jobs.specs.Calls.{AreCovered}
+use Rattle.sk_jobs.specs.Callbacks.{AreCovered}
 use Rattle.sk_jobs.specs.Rescuing.{own_rows}
-use Rattle.sk_jobs.specs.Sending.{IsAside, rows_in}
-use Rattle.sk_jobs.proofs.SentOn.{IsLeft}
+use Rattle.sk_jobs.specs.Routing.{IsAside, rows_in}
+use Rattle.sk_jobs.proofs.Routing.{IsLeft}
 use Rattle.sk_jobs.proofs.rescues.rescue_list.Given as goal
 
 abbrev pub decreases-loop-left : goal.decreases-loop-left

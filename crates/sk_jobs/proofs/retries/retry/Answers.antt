@@ -7,7 +7,7 @@ use Rattle.sk_model.specs.Seats.{where_some}
 use Rattle.sk_model.specs.World.{phase_of}
 use Rattle.sk_seats.specs.Works.{is_retried_as}
 use Rattle.sk_seats.specs.declared.work.Stage.TheVariants.{Put}
-use Rattle.sk_model.proofs.Coming.{refusal_comes}
+use Rattle.sk_model.proofs.Tools.Outcomes.{refusal_comes}
 use Rattle.sk_store.proofs.Steps.{ready_after, seated_ready}
 use Rattle.sk_store.specs.Stored.{world}
 use Rattle.sk_jobs.proofs.Turning.{staged_is, within_still}

@@ -1,7 +1,7 @@
 use Rattle.std.proofs.Common.{◌≡◌, ◌+◌, ◌<◌, ◌∙◌, ◌∷◌, [], ap, arith, length, refl, sym}
 use Rattle.sk_resp.specs.Spelling.{Bytes}
 use Rattle.sk_model.specs.Room.{bytes_of}
-use Rattle.sk_model.proofs.Fitting.{room_left}
+use Rattle.sk_model.proofs.Tools.Room.{room_left}
 use Rattle.sk_store.specs.Stored.{world}
 use Rattle.sk_jobs.proofs.UniquePushes.{size_is}
 use Rattle.sk_jobs.proofs.room.is_too_much.Goals as goal

@@ -2,7 +2,7 @@ use Rattle.std.proofs.Common.{[], ◌∷◌, ap, refl, subst, sym}
 use Rattle.sk_resp.specs.declared.reply.Reply.TheVariants as reply
 use Rattle.sk_resp.specs.declared.say.Say.TheVariants as say
 use Rattle.sk_model.specs.Change.{Turns}
-use Rattle.sk_model.specs.Outcome.{Comes, Outcome}
+use Rattle.sk_model.specs.Outcome.{Realizes, Outcome}
 use Rattle.sk_model.specs.World.{phase_of}
 use Rattle.sk_seats.specs.Phases.{staging}
 use Rattle.sk_seats.specs.Works.{is_held_as}
@@ -20,5 +20,5 @@ returns-clause-done c =
     let phase = phase_of w c.args.seat in
     let found = found_at c.get.result.now phase (is_held_as text) c.in-Ok.at c.get.ensures.is c.in-Ok.ensures.found in
     let drops : Outcome = record { reply = reply.Say say.Ok; changes = Turns c.args.seat (staging (is_held_as text) (Settled Discarded) phase) ∷ [] } in
-    subst (λ o. Comes w o (reply.Say say.Ok) (with_phases c.stage.new.self w)) (sym (found_is phase (is_held_as text) c.in-Ok.at (λ ident. drops) found))
+    subst (λ o. Realizes w o (reply.Say say.Ok) (with_phases c.stage.new.self w)) (sym (found_is phase (is_held_as text) c.in-Ok.at (λ ident. drops) found))
     (record { reply_is = refl; new_is = ap (λ p. with_phases p w) (c.stage.ensures (is_held_as text) found.is) })

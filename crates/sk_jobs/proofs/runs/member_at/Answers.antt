@@ -1,9 +1,9 @@
 use Rattle.std.proofs.Common.{◌∙◌, ap, sym}
 use Rattle.sk_seats.specs.Works.{is_held_as}
-use Rattle.sk_model.proofs.Coming.{if_ok}
+use Rattle.sk_model.proofs.Tools.Outcomes.{if_ok}
 use Rattle.sk_model.specs.World.{phase_of}
 use Rattle.sk_store.specs.Stored.{world}
-use Rattle.sk_jobs.specs.Calls.{member_of}
+use Rattle.sk_jobs.specs.Callbacks.{member_of}
 use Rattle.sk_jobs.proofs.Working.{found_in, held_text}
 use Rattle.sk_jobs.proofs.runs.member_at.Goals as goal
 

@@ -3,7 +3,7 @@ use Rattle.sk_resp.specs.declared.reply.Reply.TheVariants as reply
 use Rattle.sk_resp.specs.declared.say.Say.TheVariants as say
 use Rattle.sk_payload.specs.declared.head.Until.TheVariants as until
 use Rattle.sk_model.specs.Change.{perform}
-use Rattle.sk_model.specs.Outcome.{Comes, Outcome}
+use Rattle.sk_model.specs.Outcome.{Realizes, Outcome}
 use Rattle.sk_model.specs.Unique.{unlocks}
 use Rattle.sk_model.specs.World.{phase_of}
 use Rattle.sk_seats.specs.Works.{is_held_as}
@@ -18,7 +18,7 @@ returns c =
     let phase = phase_of v c.args.seat in
     let found = found_at c.get.result.now phase (is_held_as text) c.in-Ok.at c.get.ensures.is c.in-Ok.ensures.found in
     let starts : Outcome = record { reply = reply.Say say.Ok; changes = unlocks until.Start text } in
-    let done : Comes v starts (reply.Say say.Ok) (world c.let_go.new.store) = record { reply_is = refl; new_is = c.let_go.ensures.world ∙ ap (perform v) c.in_ok-lock.ensures } in (
-      subst (λ o. Comes v o (reply.Say say.Ok) (world c.let_go.new.store)) (sym (found_is phase (is_held_as text) c.in-Ok.at (λ ident. starts) found)) done,
+    let done : Realizes v starts (reply.Say say.Ok) (world c.let_go.new.store) = record { reply_is = refl; new_is = c.let_go.ensures.world ∙ ap (perform v) c.in_ok-lock.ensures } in (
+      subst (λ o. Realizes v o (reply.Say say.Ok) (world c.let_go.new.store)) (sym (found_is phase (is_held_as text) c.in-Ok.at (λ ident. starts) found)) done,
       c.let_go.ensures.ready,
     )

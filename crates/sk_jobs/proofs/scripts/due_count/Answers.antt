@@ -4,7 +4,7 @@ use Rattle.std.specs.Ordering.{int_cmp, is_le}
 use Rattle.sk_base.specs.Score.{last_moment}
 use Rattle.sk_places.specs.declared.row.Row.{Row}
 use Rattle.sk_store.specs.Stored.{world}
-use Rattle.sk_jobs.specs.Sending.{set_rows}
+use Rattle.sk_jobs.specs.Routing.{set_rows}
 use Rattle.sk_jobs.proofs.Fronts.{due_is}
 use Rattle.sk_jobs.proofs.scripts.due_count.Goals as goal
 

@@ -1,8 +1,8 @@
 use Rattle.std.proofs.Common.{◌∙◌, subst, sym}
-use Rattle.sk_model.specs.Outcome.{Comes}
+use Rattle.sk_model.specs.Outcome.{Realizes}
 use Rattle.sk_model.specs.World.{phase_of}
-use Rattle.sk_model.proofs.Coming.{on_err}
-use Rattle.sk_store.specs.Stored.{Runs, world}
+use Rattle.sk_model.proofs.Tools.Outcomes.{on_err}
+use Rattle.sk_store.specs.Stored.{Executes, world}
 use Rattle.sk_jobs.proofs.Working.{fetch_is, fetch_releases, put_is, release_is}
 use Rattle.sk_jobs.proofs.workers.work.Goals as goal
 
@@ -12,7 +12,7 @@ returns-in-Some-clause-ran c =
     let w = world s in
     let joined = sym c.get.ensures.is ∙ c.in-Joined.is in
     let way = c.in-Some.ensures in
-    subst (λ o. Runs s o c.fetch.result c.fetch.new.store) (sym (fetch_is w c.args.seat (phase_of w c.args.seat) c.in-Some.ident c.in-Joined.ident c.in-Some.queue c.in-Joined.field-1 c.args.action joined way.0 way.1)) c.fetch.ensures
+    subst (λ o. Executes s o c.fetch.result c.fetch.new.store) (sym (fetch_is w c.args.seat (phase_of w c.args.seat) c.in-Some.ident c.in-Joined.ident c.in-Some.queue c.in-Joined.field-1 c.args.action joined way.0 way.1)) c.fetch.ensures
 
 pub returns-in-Some-clause-release : goal.returns-in-Some-clause-release
 returns-in-Some-clause-release c =
@@ -23,8 +23,8 @@ returns-in-Some-released_by-clause-ran c =
     let w = world c.args.store.now in
     let joined = sym c.get.ensures.is ∙ c.in-Joined.is in
     let row = c.in-Some-released_by.ensures in (
-      subst (λ o. Comes w o c.release.result (world c.release.new.store))
-          (sym (release_is w c.args.seat (phase_of w c.args.seat) c.in-Some-released_by.ident c.in-Joined.ident c.in-Edit.key c.in-Some-released_by.text c.in-Joined.field-1 c.in-Edit.edit c.args.action joined c.in-Edit.is row.0 row.1)) c.release.ensures.done,
+      subst (λ o. Realizes w o c.release.result (world c.release.new.store))
+          (sym (release_is w c.args.seat (phase_of w c.args.seat) c.in-Some-released_by.ident c.in-Joined.ident c.in-WriteOp.key c.in-Some-released_by.text c.in-Joined.field-1 c.in-WriteOp.edit c.args.action joined c.in-WriteOp.is row.0 row.1)) c.release.ensures.done,
       c.release.ensures.ready,
     )
 
@@ -33,5 +33,5 @@ returns-in-Some-only-clause-ran c =
     let s = c.args.store.now in
     let w = world s in
     let joined = sym c.get.ensures.is ∙ c.in-Joined.is in
-    subst (λ o. Runs s o c.retry.result c.retry.new.store)
-    (sym (put_is w c.args.seat (phase_of w c.args.seat) c.in-Joined.ident c.in-Edit.key c.in-Joined.field-1 c.in-Zadd.pairs c.in-Some-only.pair c.in-Edit.edit c.args.action joined c.in-Edit.is c.in-Zadd.is (sym c.only.ensures ∙ c.in-Some-only.is))) c.retry.ensures
+    subst (λ o. Executes s o c.retry.result c.retry.new.store)
+    (sym (put_is w c.args.seat (phase_of w c.args.seat) c.in-Joined.ident c.in-WriteOp.key c.in-Joined.field-1 c.in-Zadd.pairs c.in-Some-only.pair c.in-WriteOp.edit c.args.action joined c.in-WriteOp.is c.in-Zadd.is (sym c.only.ensures ∙ c.in-Some-only.is))) c.retry.ensures

@@ -7,5 +7,5 @@ abbrev pub invariant-loop-name : goal.invariant-loop-name
 invariant-loop-name l = record {
   rest : without_all (drop l.name-index l.name-items) l.entries.entries ≡ without_all l.name-items l.initial.entries.entries;
   fewer : length l.entries.entries ≤ length l.initial.entries.entries;
-  indexed : IsIndexed l.entries.entries l.dues;
+  indexed : IsIndexed l.entries.entries l.expiries;
 }

@@ -4,8 +4,8 @@ use Rattle.sk_value.specs.Keys.{purged}
 use Rattle.sk_keys.specs.Index.{IsIndexed}
 use Rattle.sk_keys.proofs.keys.purge.Given as goal
 
-abbrev pub invariant-loop-dues : goal.invariant-loop-dues
-invariant-loop-dues l = (purged l.now l.entries.entries ≡ purged l.now l.initial.entries.entries) × IsIndexed l.entries.entries l.dues
+abbrev pub invariant-loop-expiries : goal.invariant-loop-expiries
+invariant-loop-expiries l = (purged l.now l.entries.entries ≡ purged l.now l.initial.entries.entries) × IsIndexed l.entries.entries l.expiries
 
-abbrev pub decreases-loop-dues : goal.decreases-loop-dues
-decreases-loop-dues l = btree_set_len l.dues
+abbrev pub decreases-loop-expiries : goal.decreases-loop-expiries
+decreases-loop-expiries l = btree_set_len l.expiries

@@ -9,4 +9,4 @@ pub loop-at-preserved : goal.loop-at-preserved
 loop-at-preserved c =
     let name = c.in_ok-copy_name.field-0 in
     ap (map wire) c.in_ok-push.ensures.items ∙ map-append wire c.loop-at.replies.items _ ∙ ap (λ bulks. bulks ++ bulk name ∷ []) c.loop-at.invariant
-    ∙ sym (one_more_name c.args.places.now.stands.names c.loop-at.at name c.in_ok-copy_name.ensures)
+    ∙ sym (one_more_name c.args.places.now.current.names c.loop-at.at name c.in_ok-copy_name.ensures)

@@ -4,4 +4,4 @@ use Rattle.sk_resp.specs.Spelling.{bulk}
 use Rattle.sk_keyspace.proofs.looks.copies.Given as goal
 
 abbrev pub invariant-loop-at : goal.invariant-loop-at
-invariant-loop-at l = map wire l.replies.items ≡ map bulk (take l.at l.places.stands.names)
+invariant-loop-at l = map wire l.replies.items ≡ map bulk (take l.at l.places.current.names)

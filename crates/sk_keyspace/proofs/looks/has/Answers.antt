@@ -15,14 +15,14 @@ pub returns-in-Queue : goal.returns-in-Queue
 returns-in-Queue c =
     let s = c.args.store.now in
     let is = (ap class_of (sym c.bytes.ensures) ∙ sym c.class_of.ensures ∙ c.in-Queue.is) in
-    ap (nat_lt 0) c.len.ensures.is ∙ sym (there_if_any value.List (λ row. row.text) (rows_at (Queue c.queue_of.result) s.places.stands.rows))
+    ap (nat_lt 0) c.len.ensures.is ∙ sym (there_if_any value.List (λ row. row.text) (rows_at (Queue c.queue_of.result) s.places.current.rows))
     ∙ ap is_some (sym (held_queue (world s) c.args.key c.queue_of.result is c.queue_of.ensures))
 
 pub returns-in-Private : goal.returns-in-Private
 returns-in-Private c =
     let s = c.args.store.now in
     let is = (ap class_of (sym c.bytes.ensures) ∙ sym c.class_of.ensures ∙ c.in-Private.is) in
-    ap (nat_lt 0) c.len-in-Private.ensures.is ∙ sym (there_if_any value.List (λ row. row.text) (rows_at (Private c.ident_of.result) s.places.stands.rows))
+    ap (nat_lt 0) c.len-in-Private.ensures.is ∙ sym (there_if_any value.List (λ row. row.text) (rows_at (Private c.ident_of.result) s.places.current.rows))
     ∙ ap is_some (sym (held_private (world s) c.args.key c.ident_of.result is c.ident_of.ensures))
 
 pub returns-in_ok-idents-in-Processes : goal.returns-in_ok-idents-in-Processes
@@ -32,16 +32,16 @@ returns-in_ok-idents-in-Processes c =
     let list = c.in_ok-idents-in-Processes.field-0 in
     let count : vec_len list ≡ length list.items = search rules in
     ap not (c.is_empty.ensures ∙ ap (λ n. n == 0) count) ∙ ap (λ (xs : List Bytes). not (length xs == 0)) c.in_ok-idents-in-Processes.ensures.idents
-    ∙ sym (some_if_any value.Set (idents s.moment s.leases.stands)) ∙ ap is_some (sym (held_processes (world s) c.args.key is))
+    ∙ sym (some_if_any value.Set (idents s.moment s.leases.current)) ∙ ap is_some (sym (held_processes (world s) c.args.key is))
 
 pub returns-in-Jobs : goal.returns-in-Jobs
 returns-in-Jobs c =
     let s = c.args.store.now in
     let is = (ap class_of (sym c.bytes.ensures) ∙ sym c.class_of.ensures ∙ c.in-Jobs.is) in
-    ap (nat_lt 0) c.len-in-Jobs.ensures.is ∙ sym (there_if_any value.Sorted pair_of (rows_at (Set c.in-Jobs.set) s.places.stands.rows)) ∙ ap is_some (sym (held_jobs (world s) c.args.key c.in-Jobs.set is))
+    ap (nat_lt 0) c.len-in-Jobs.ensures.is ∙ sym (there_if_any value.Sorted pair_of (rows_at (Set c.in-Jobs.set) s.places.current.rows)) ∙ ap is_some (sym (held_jobs (world s) c.args.key c.in-Jobs.set is))
 
 pub returns-in-Counter : goal.returns-in-Counter
 returns-in-Counter c =
     let s = c.args.store.now in
     let is = (ap class_of (sym c.bytes.ensures) ∙ sym c.class_of.ensures ∙ c.in-Counter.is) in
-    c.is_some.ensures ∙ ap is_some c.count_of.ensures ∙ sym (some_count (count_in s.counters.stands (counter_of c.args.key))) ∙ ap is_some (sym (held_counter (world s) c.args.key is))
+    c.is_some.ensures ∙ ap is_some c.count_of.ensures ∙ sym (some_count (count_in s.counters.current (counter_of c.args.key))) ∙ ap is_some (sym (held_counter (world s) c.args.key is))

@@ -10,7 +10,7 @@ use Rattle.sk_keyspace.proofs.looks.range.Goals as goal
 
 pub returns : goal.returns
 returns c =
-    let rows = c.args.places.now.stands.rows in
+    let rows = c.args.places.now.current.rows in
     let all : List Bytes = texts_at c.args.place.now rows in
     let a : to_z w64 (of_z w64 c.args.first) ≡ c.args.first = search rules in
     let b : to_z w64 (of_z w64 c.args.last) ≡ c.args.last = search rules in

@@ -1,11 +1,11 @@
 use Rattle.std.proofs.Common.{List, filter, subst, sym}
 use Rattle.sk_resp.specs.declared.reply.Reply.{Reply}
 use Rattle.sk_resp.specs.WordOrder.{is_member}
-use Rattle.sk_value.specs.declared.edit.Edit.TheVariants as edit
+use Rattle.sk_value.specs.declared.write_op.WriteOp.TheVariants as edit
 use Rattle.sk_places.specs.declared.row.Place.TheVariants.{Set}
 use Rattle.sk_places.specs.declared.row.Row.{Row}
 use Rattle.sk_places.specs.Rows.{rows_at}
-use Rattle.sk_model.specs.Outcome.{Comes}
+use Rattle.sk_model.specs.Outcome.{Realizes}
 use Rattle.sk_model.specs.Sets.{edit_jobs}
 use Rattle.sk_store.specs.Stored.{world}
 use Rattle.sk_keyspace.proofs.Editing.{gone_comes}
@@ -15,6 +15,6 @@ pub returns-clause-done : goal.returns-clause-done
 returns-clause-done c =
     let s = c.args.store.now in
     let new = c.remove_members.new.self in
-    let rows : List Row = rows_at (Set c.args.set) s.places.stands.rows in
-    subst (λ (r : Reply). Comes (world s) (edit_jobs (world s) c.args.set (edit.Zrem c.args.members.now)) r (world (record s { places = new }))) (sym c.counted.ensures)
+    let rows : List Row = rows_at (Set c.args.set) s.places.current.rows in
+    subst (λ (r : Reply). Realizes (world s) (edit_jobs (world s) c.args.set (edit.Zrem c.args.members.now)) r (world (record s { places = new }))) (sym c.counted.ensures)
     (gone_comes s (filter (λ row. is_member row.text c.args.members.now) rows) c.remove_members.result new c.remove_members.ensures.count c.remove_members.ensures.rest)

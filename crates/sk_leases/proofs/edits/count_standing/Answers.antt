@@ -11,4 +11,4 @@ pub returns : goal.returns
 returns c =
     let name = c.args.name.now in
     let now = c.args.now in
-    c.count.ensures.is ∙ count_same (is_at (lease_order name (Standing now))) (λ p. names name p && stands_at now p) (standing_is name now) c.args.entries.now.list.stands
+    c.count.ensures.is ∙ count_same (is_at (lease_order name (Standing now))) (λ p. names name p && stands_at now p) (standing_is name now) c.args.entries.now.list.current

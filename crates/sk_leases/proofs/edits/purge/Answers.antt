@@ -9,19 +9,19 @@ loop-name-smaller c = c.in-Some.ensures.shorter
 
 pub loop-name-preserved : goal.loop-name-preserved
 loop-name-preserved c =
-    let rest = subst (λ (name : Bytes). TakesOver name c.args.now c.loop-name.entries.list.stands c.take_over.new.entries.list.stands) c.bytes.ensures c.take_over.ensures.rest in
+    let rest = subst (λ (name : Bytes). TakesOver name c.args.now c.loop-name.entries.list.current c.take_over.new.entries.list.current) c.bytes.ensures c.take_over.ensures.rest in
     record {
       closed = c.take_over.ensures.closed;
       standing = rest.standing ∙ c.loop-name.invariant.standing;
-      covered = covers_taken c.in-Some.name c.args.now c.loop-name.dues c.next_due.new.dues c.loop-name.entries.list.stands c.take_over.new.entries.list.stands c.loop-name.invariant.covered rest c.in-Some.ensures.taken;
+      covered = covers_taken c.in-Some.name c.args.now c.loop-name.expiries c.next_expired.new.expiries c.loop-name.entries.list.current c.take_over.new.entries.list.current c.loop-name.invariant.covered rest c.in-Some.ensures.taken;
     }
 
 pub returns-clause-list : goal.returns-clause-list
 returns-clause-list c =
-    let ps = c.loop-name.entries.list.stands in
-    let covered = covers_more c.loop-name.dues c.next_due.new.dues ps (c.in_default.ensures.same refl) c.loop-name.invariant.covered in
-    steps_are c.loop-name.entries.list c.args.entries.now.list _ (sym (standing_clear c.args.now c.next_due.new.dues ps (c.in_default.ensures.clear refl) covered) ∙ c.loop-name.invariant.standing)
+    let ps = c.loop-name.entries.list.current in
+    let covered = covers_more c.loop-name.expiries c.next_expired.new.expiries ps (c.in_default.ensures.same refl) c.loop-name.invariant.covered in
+    steps_are c.loop-name.entries.list c.args.entries.now.list _ (sym (standing_clear c.args.now c.next_expired.new.expiries ps (c.in_default.ensures.clear refl) covered) ∙ c.loop-name.invariant.standing)
     (c.loop-name.invariant.closed ∙ sym c.requires.closed)
 
 pub returns-clause-covered : goal.returns-clause-covered
-returns-clause-covered c = covers_more c.loop-name.dues c.next_due.new.dues c.loop-name.entries.list.stands (c.in_default.ensures.same refl) c.loop-name.invariant.covered
+returns-clause-covered c = covers_more c.loop-name.expiries c.next_expired.new.expiries c.loop-name.entries.list.current (c.in_default.ensures.same refl) c.loop-name.invariant.covered

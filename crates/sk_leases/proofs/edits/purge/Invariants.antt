@@ -6,10 +6,10 @@ use Rattle.sk_leases.proofs.edits.purge.Given as goal
 
 abbrev pub invariant-loop-name : goal.invariant-loop-name
 invariant-loop-name l = record {
-  closed : l.entries.list.stood ≡ None;
-  standing : standing l.now l.entries.list.stands ≡ standing l.now l.initial.entries.list.stands;
-  covered : covers l.dues l.entries.list.stands ≡ true;
+  closed : l.entries.list.saved ≡ None;
+  standing : standing l.now l.entries.list.current ≡ standing l.now l.initial.entries.list.current;
+  covered : covers l.expiries l.entries.list.current ≡ true;
 }
 
 abbrev pub decreases-loop-name : goal.decreases-loop-name
-decreases-loop-name l = btree_set_len l.dues
+decreases-loop-name l = btree_set_len l.expiries

@@ -1,11 +1,11 @@
-use Rattle.std.proofs.Common.{◌≡◌, ◌++◌, ℕ, Ok, refl, subst, sym, ap, ◌∙◌, arith}
+use Rattle.std.proofs.Common.{◌≡◌, ◌++◌, ℕ, Ok, false, refl, subst, sym, ap, ◌∙◌, arith}
 use Rattle.sk_base.specs.Outside.{Gives}
 use Rattle.sk_resp.specs.Reply.{wire}
 use Rattle.sk_resp.specs.ReplyStream.{IsReplyPart, IsReplyText, RepliesHeard}
-use Rattle.sk_link.specs.Line.{IsStuck}
+use Rattle.sk_link.specs.Fault.{IsCause, IsNoReply, IsStuck}
 use Rattle.sk_link.specs.Wire.{unread_of}
 use Rattle.sk_link.proofs.Lines.{part_alone}
-use Rattle.sk_link.proofs.Unread.{nothing_part, stuck_unread, ended_unread, reply_leaves, nothing_read, some_gives, none_gives}
+use Rattle.sk_link.proofs.Unread.{nothing_part, reply_leaves, nothing_read, some_gives, none_gives}
 use Rattle.sk_link.proofs.receiving.receive.Goals as goal
 
 pub loop-found-init : goal.loop-found-init
@@ -22,8 +22,7 @@ loop-found-init g c =
     }
 
 pub stopped-requires : goal.stopped-requires
-stopped-requires g c = λ real.
-    stuck_unread c.take_reply.new.buffer.items (g.S.Source.left c.loop-found.source) (subst (λ t. IsStuck t) (sym c.in-Err.ensures.err) (c.in-Err.ensures.fault real))
+stopped-requires g c = λ real. subst (λ t. IsStuck t) (sym (c.deref.ensures.value ∙ c.in-Err.ensures.err)) (c.in-Err.ensures.fault real)
 
 pub returns-in-Some-clause-ok : goal.returns-in-Some-clause-ok
 returns-in-Some-clause-ok g c =
@@ -35,12 +34,24 @@ returns-in-Some-clause-ok g c =
 pub returns-in-Some-clause-text : goal.returns-in-Some-clause-text
 returns-in-Some-clause-text g c = some_gives _ c.in-Some.reply (λ reply. IsReplyText (wire reply)) c.in-Ok.ensures.text c.in-Some.is
 
-pub unreadable-requires : goal.unreadable-requires
-unreadable-requires g c =
+pub returns-in-Err-clause-cause : goal.returns-in-Err-clause-cause
+returns-in-Err-clause-cause g c =
+    let before = g.S.Source.read_faults c.args.source.now in
+    let now = g.S.Source.read_faults c.loop-found.source in
+    let left = g.S.Source.left c.loop-found.source in
+    subst (λ t. IsCause before now false (unread_of t left) c.stopped.result) c.deref.ensures.value (c.stopped.ensures before now left)
+
+pub returns-then-more-eq0-clause-cause : goal.returns-then-more-eq0-clause-cause
+returns-then-more-eq0-clause-cause g c =
     let read = c.in-Ok-read_more.ensures in
-    let now = c.read_more.new.buffer.items in
+    let buffer = c.read_more.new.buffer.items in
+    let before = g.S.Source.read_faults c.args.source.now in
+    let now = g.S.Source.read_faults c.read_more.new.source in
+    let left = g.S.Source.left c.read_more.new.source in
     let none = none_gives c.in-Ok.found ((c.take_reply.new.feeder.rest ≡ c.loop-found.buffer.items) × (c.take_reply.new.buffer.items ≡ c.loop-found.buffer.items)) c.in-Ok.ensures.more c.in-None.is in
-    let same : now ≡ c.take_reply.new.buffer.items = nothing_read c.take_reply.new.buffer.items now c.in-Ok-read_more.more c.if-more-eq0.true read.more read.kept in
+    let same : buffer ≡ c.take_reply.new.buffer.items = nothing_read c.take_reply.new.buffer.items buffer c.in-Ok-read_more.more c.if-more-eq0.true read.more read.kept in
     let part = subst (λ t. IsReplyPart t) (none.0 ∙ sym none.1 ∙ sym same) c.in-Ok.ensures.part in
-    ended_unread now (g.S.Source.left c.read_more.new.source) (part_alone c.no_reply_begins_another.ensures now part)
-    (c.read_more.ensures.end (c.in-Ok-read_more.is ∙ ap (λ (n : ℕ). Ok n) c.if-more-eq0.true))
+    let value = c.deref-then-more-eq0.ensures.value in
+    let no_reply = subst (λ t. IsNoReply t) (sym value) (part_alone c.no_reply_begins_another.ensures buffer part) in
+    let end = c.read_more.ensures.end (c.in-Ok-read_more.is ∙ ap (λ (n : ℕ). Ok n) c.if-more-eq0.true) in
+    subst (λ t. IsCause before now false (unread_of t left) c.unreadable.result) value (c.unreadable.ensures.ended no_reply before now left end)

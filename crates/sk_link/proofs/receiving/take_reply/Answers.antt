@@ -2,7 +2,7 @@ use Rattle.std.proofs.Common.{◌≡◌, ◌≤◌, ◌-◌, ◌++◌, ℕ, leng
 use Rattle.sk_resp.specs.Reply.{wire}
 use Rattle.sk_resp.specs.ReplyStream.{IsReplyText}
 use Rattle.sk_resp.specs.declared.reply.Reply.{Reply}
-use Rattle.sk_link.specs.Line.{IsStuck}
+use Rattle.sk_link.specs.Fault.{IsStuck}
 use Rattle.sk_link.proofs.Unread.{whole_buffer, reply_off, some_gives}
 use Rattle.sk_link.proofs.receiving.take_reply.Goals as goal
 

@@ -1,4 +1,4 @@
-use Rattle.sk_model.proofs.Acking.{acked}
+use Rattle.sk_model.proofs.Theorems.Acknowledged.{acked}
 use Rattle.sk_model.proofs.acked.replies_acknowledge_pushes.Goals as goal
 
 pub returns : goal.returns

@@ -1,4 +1,4 @@
-use Rattle.sk_model.proofs.Firing.{callbacks_follow}
+use Rattle.sk_model.proofs.Theorems.Callbacks.{callbacks_follow}
 use Rattle.sk_model.proofs.laws.callbacks_follow.Goals as goal
 
 pub returns : goal.returns

@@ -1,4 +1,4 @@
-use Rattle.sk_model.proofs.Firing.{complete_once}
+use Rattle.sk_model.proofs.Theorems.Callbacks.{complete_once}
 use Rattle.sk_model.proofs.laws.complete_fires_once.Goals as goal
 
 pub returns : goal.returns

@@ -1,4 +1,4 @@
-use Rattle.sk_model.proofs.Firing.{death_once}
+use Rattle.sk_model.proofs.Theorems.Callbacks.{death_once}
 use Rattle.sk_model.proofs.laws.death_fires_once.Goals as goal
 
 pub returns : goal.returns

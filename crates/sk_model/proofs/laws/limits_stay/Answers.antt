@@ -1,4 +1,4 @@
-use Rattle.sk_model.proofs.Starving.{limits_stay}
+use Rattle.sk_model.proofs.Theorems.Starving.{limits_stay}
 use Rattle.sk_model.proofs.laws.limits_stay.Goals as goal
 
 pub returns : goal.returns

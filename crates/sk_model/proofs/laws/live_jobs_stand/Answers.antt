@@ -1,4 +1,4 @@
-use Rattle.sk_model.proofs.Runs.{conserve}
+use Rattle.sk_model.proofs.Theorems.LiveJobs.{conserve}
 use Rattle.sk_model.proofs.laws.live_jobs_stand.Goals as goal
 
 pub returns : goal.returns

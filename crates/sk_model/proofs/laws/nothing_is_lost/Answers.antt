@@ -1,4 +1,4 @@
-use Rattle.sk_model.proofs.Runs.{copies_kept}
+use Rattle.sk_model.proofs.Theorems.LiveJobs.{copies_kept}
 use Rattle.sk_model.proofs.laws.nothing_is_lost.Goals as goal
 
 pub returns : goal.returns

@@ -1,4 +1,4 @@
-use Rattle.sk_model.proofs.Leaders.{one_leader}
+use Rattle.sk_model.proofs.Theorems.Leaders.{one_leader}
 use Rattle.sk_model.proofs.laws.one_process_leads.Goals as goal
 
 pub returns : goal.returns

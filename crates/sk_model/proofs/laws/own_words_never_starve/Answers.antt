@@ -1,4 +1,4 @@
-use Rattle.sk_model.proofs.Starving.{own_words_never_starve}
+use Rattle.sk_model.proofs.Theorems.Starving.{own_words_never_starve}
 use Rattle.sk_model.proofs.laws.own_words_never_starve.Goals as goal
 
 pub returns : goal.returns

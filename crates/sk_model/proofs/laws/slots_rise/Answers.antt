@@ -1,4 +1,4 @@
-use Rattle.sk_model.proofs.Leaders.{slots_rise}
+use Rattle.sk_model.proofs.Theorems.Leaders.{slots_rise}
 use Rattle.sk_model.proofs.laws.slots_rise.Goals as goal
 
 pub returns : goal.returns

@@ -1,4 +1,4 @@
-use Rattle.sk_model.proofs.Firing.{batch_once}
+use Rattle.sk_model.proofs.Theorems.Callbacks.{batch_once}
 use Rattle.sk_model.proofs.laws.success_fires_once.Goals as goal
 
 pub returns : goal.returns

@@ -1,4 +1,4 @@
-use Rattle.sk_model.proofs.Runs.{balance}
+use Rattle.sk_model.proofs.Theorems.LiveJobs.{balance}
 use Rattle.sk_model.proofs.laws.tally_balances.Goals as goal
 
 pub returns : goal.returns

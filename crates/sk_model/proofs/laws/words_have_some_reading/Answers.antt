@@ -1,4 +1,4 @@
-use Rattle.sk_model.proofs.Readings.{some_reading}
+use Rattle.sk_model.proofs.Theorems.Readings.{some_reading}
 use Rattle.sk_model.proofs.laws.words_have_some_reading.Goals as goal
 
 pub returns : goal.returns

@@ -1,8 +1,9 @@
-use Rattle.sk_places.proofs.Segments.{text_none, text_there}
+use Rattle.std.proofs.Common.{arith}
+use Rattle.sk_places.proofs.Finds.{found_text, no_text}
 use Rattle.sk_places.proofs.find.find_text.Goals as goal
 
-pub returns-then-at-end : goal.returns-then-at-end
-returns-then-at-end c = text_there c.args.place.now c.args.text.now c.args.rows.now.stands c.segment-first.result.0 c.segment-first.result.1 c.position_of-at.result c.segment-first.ensures.is c.position_of-at.ensures.is c.if-at-end.true
+pub returns-then-at-len-clause-is : goal.returns-then-at-len-clause-is
+returns-then-at-len-clause-is c = found_text c.args.place.now c.args.rows.now.current c.len_at-len.ensures.order c.args.text.now c.position_of-at.result c.position_of-at.ensures (omega (arith, c.if-at-len.true, c.len_at-len.ensures.is))
 
-pub returns-else-at-end : goal.returns-else-at-end
-returns-else-at-end c = text_none c.args.place.now c.args.text.now c.args.rows.now.stands c.segment-first.result.0 c.segment-first.result.1 c.position_of-at.result c.segment-first.ensures.is c.position_of-at.ensures.is c.if-at-end.false
+pub returns-else-at-len-clause-is : goal.returns-else-at-len-clause-is
+returns-else-at-len-clause-is c = no_text c.args.place.now c.args.rows.now.current c.len_at-len.ensures.order c.args.text.now c.position_of-at.result c.position_of-at.ensures (omega (arith, c.if-at-len.false, c.len_at-len.ensures.is))

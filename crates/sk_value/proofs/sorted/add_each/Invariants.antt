@@ -6,6 +6,6 @@ use Rattle.sk_value.proofs.sorted.add_each.Given as goal
 -- whatever is left to add comes on top of what was added
 abbrev pub invariant-loop-score : goal.invariant-loop-score
 invariant-loop-score l = record {
-  added : all_added (into_iter_items l.score-iterator) l.set.stands ≡ all_added l.fn.pairs.items l.initial.set.stands;
-  step : l.set.stood ≡ l.initial.set.stood;
+  added : all_added (into_iter_items l.score-iterator) l.set.current ≡ all_added l.fn.pairs.items l.initial.set.current;
+  step : l.set.saved ≡ l.initial.set.saved;
 }

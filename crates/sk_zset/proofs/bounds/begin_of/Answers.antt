@@ -1,5 +1,5 @@
-use Rattle.sk_zset.proofs.Rising.{rises_below}
+use Rattle.sk_zset.proofs.Rising.{partitioned_below}
 use Rattle.sk_zset.proofs.bounds.begin_of.Goals as goal
 
-pub first_where-requires : goal.first_where-requires
-first_where-requires c = rises_below c.args.low c.args.pairs.now.list.stands c.requires
+pub partition_point-requires : goal.partition_point-requires
+partition_point-requires c = partitioned_below c.args.low c.args.pairs.now.list.current c.requires

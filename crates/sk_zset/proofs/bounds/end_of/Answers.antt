@@ -1,5 +1,5 @@
-use Rattle.sk_zset.proofs.Rising.{rises_above}
+use Rattle.sk_zset.proofs.Rising.{partitioned_above}
 use Rattle.sk_zset.proofs.bounds.end_of.Goals as goal
 
-pub first_where-requires : goal.first_where-requires
-first_where-requires c = rises_above c.args.high c.args.pairs.now.list.stands c.requires
+pub partition_point-requires : goal.partition_point-requires
+partition_point-requires c = partitioned_above c.args.high c.args.pairs.now.list.current c.requires

@@ -13,6 +13,6 @@ returns c = record {
   within = search rules;
   bounds = refl;
   done = refl;
-  spot = refl;
+  state = refl;
   fields = all_empty c.new.result c.new.ensures;
 }

@@ -20,7 +20,7 @@ invariant_of-self-2 g c =
     let after = ap (λ t. t.outside) c.tally.ensures.is in
     let more : old.world.tally.outside ≤ new.world.tally.outside = grew _ _ _ _ _ _ c.step-reply.ensures in
     let asked = asks old new (g.B.Book.log c.prepare.new.self) c.args.seat c.args.now c.args.words.now c.args.command c.step-reply.result c.args.share.now.amount c.add.new.share.amount _ c.self.invariant c.step-reply.ensures c.in-Ok.ensures.ok c.note.ensures (λ i. after i - before i) c.add.ensures.total c.add.ensures.amount in
-    asked_consistent old new c.args.seat c.args.now c.args.words.now c.args.command c.step-reply.result _ _ c.self.invariant c.requires.read asked (omega (arith, more, before, after, c.add.ensures.total, c.self.invariant.counted))
+    asked_consistent g.B.Book.wants_words old new c.args.seat c.args.now c.args.words.now c.args.command c.step-reply.result _ _ c.self.invariant c.requires.read (g.met.B.Book.untold c.self.inside.book) asked (omega (arith, more, before, after, c.add.ensures.total, c.self.invariant.counted))
 
 pub returns-clause-asks : goal.returns-clause-asks
 returns-clause-asks g c =

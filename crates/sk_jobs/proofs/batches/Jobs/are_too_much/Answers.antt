@@ -1,6 +1,6 @@
 use Rattle.std.proofs.Common.{◌≡◌, ◌∙◌, ap, length, sym}
 use Rattle.sk_model.specs.Room.{bytes_of}
-use Rattle.sk_model.proofs.Fitting.{room_left}
+use Rattle.sk_model.proofs.Tools.Room.{room_left}
 use Rattle.sk_store.specs.Stored.{world}
 use Rattle.sk_jobs.proofs.Batching.{too_much_is}
 use Rattle.sk_jobs.proofs.batches.Jobs.are_too_much.Goals as goal

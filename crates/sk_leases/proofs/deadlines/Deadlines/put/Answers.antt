@@ -1,17 +1,17 @@
 use Rattle.std.proofs.Common.{◌≡◌, ◌∙◌, sym, subst, true}
 use Rattle.sk_resp.specs.Spelling.{Bytes}
-use Rattle.sk_leases.specs.Index.{is_due_in}
+use Rattle.sk_leases.specs.Index.{is_expiry_in}
 use Rattle.sk_leases.proofs.Kept.{both_more, covers_more, covers_put, passed_more}
 use Rattle.sk_leases.proofs.deadlines.Deadlines.put.Goals as goal
 
-pub invariant_of-self-in_err-add_due : goal.invariant_of-self-in_err-add_due
-invariant_of-self-in_err-add_due c = rw (c.reserve.ensures.list) (both_more c.self.inside.dues c.add_due.new.dues c.self.inside.entries.list c.add_due.ensures.more c.self.invariant)
+pub invariant_of-self-in_err-add_expiry : goal.invariant_of-self-in_err-add_expiry
+invariant_of-self-in_err-add_expiry c = rw (c.reserve.ensures.list) (both_more c.self.inside.expiries c.add_expiry.new.expiries c.self.inside.entries.list c.add_expiry.ensures.more c.self.invariant)
 
 pub invariant_of-self-2 : goal.invariant_of-self-2
 invariant_of-self-2 c =
-    let has : is_due_in c.add_due.new.dues (c.in_ok-lease.lease, c.args.deadline) ≡ true = subst (λ (name : Bytes). is_due_in c.add_due.new.dues (name, c.args.deadline) ≡ true) (c.in_ok-word.ensures ∙ sym c.in_ok-lease.ensures) c.in_ok-add_due.ensures.added in
-    let more = c.add_due.ensures.more in
+    let has : is_expiry_in c.add_expiry.new.expiries (c.in_ok-lease.lease, c.args.deadline) ≡ true = subst (λ (name : Bytes). is_expiry_in c.add_expiry.new.expiries (name, c.args.deadline) ≡ true) (c.in_ok-word.ensures ∙ sym c.in_ok-lease.ensures) c.in_ok-add_expiry.ensures.added in
+    let more = c.add_expiry.ensures.more in
     rw (c.put.ensures.list, c.reserve.ensures.list) (record {
-      stands = covers_put c.add_due.new.dues (c.in_ok-lease.lease, c.args.deadline) c.self.inside.entries.list.stands (covers_more c.self.inside.dues c.add_due.new.dues c.self.inside.entries.list.stands more c.self.invariant.stands) has;
-      stood = passed_more c.self.inside.dues c.add_due.new.dues c.self.inside.entries.list.stood more c.self.invariant.stood;
+      current = covers_put c.add_expiry.new.expiries (c.in_ok-lease.lease, c.args.deadline) c.self.inside.entries.list.current (covers_more c.self.inside.expiries c.add_expiry.new.expiries c.self.inside.entries.list.current more c.self.invariant.current) has;
+      saved = passed_more c.self.inside.expiries c.add_expiry.new.expiries c.self.inside.entries.list.saved more c.self.invariant.saved;
     })

@@ -1,16 +1,20 @@
-use Rattle.std.proofs.Common.{◌<◌, ap, length, subst, sym}
-use Rattle.sk_undo.specs.Steps.{edited}
-use Rattle.sk_places.specs.Entries.{as_row, rows_in}
-use Rattle.sk_places.proofs.Entries.{map_remove}
-use Rattle.sk_places.proofs.Sound.{sound_taken}
+use Rattle.std.proofs.Common.{Some, ap, length, slice_get, subst, sym, ◌≡◌, ◌+◌, ◌<◌, ◌≤◌, ◌∙◌}
+use Rattle.std.specs.List.{remove}
+use Rattle.sk_undo.specs.Versions.{edited}
+use Rattle.sk_payload.specs.Head.{jid_of}
+use Rattle.sk_places.specs.Ends.{ended_of}
+use Rattle.sk_places.specs.Index.{without_job}
+use Rattle.sk_places.specs.RowLists.{listed, rows_in, start_of}
+use Rattle.sk_places.specs.Rows.{rows_at}
+use Rattle.sk_places.proofs.Sound.{removed_sound, row_there, text_enough}
 use Rattle.sk_places.proofs.rows.Rows.drop_out.Goals as goal
+
+pub lowered-self-inside-requires-clause-enough : goal.lowered-self-inside-requires-clause-enough
+lowered-self-inside-requires-clause-enough c = subst (λ t. length t ≤ c.self.inside.size.bytes) (sym c.text.ensures) (text_enough c.self.inside.lists c.self.inside.size c.self.inside.size_then c.self.inside.index.list c.self.invariant (start_of c.args.place.now (rows_in c.self.inside.lists).current + c.args.at) (listed c.args.place.now (c.get.result.0, c.get.result.1.now)) (row_there c.self.inside.lists c.self.inside.size c.self.inside.size_then c.self.inside.index.list c.self.invariant c.args.place.now c.args.at (c.get.result.0, c.get.result.1.now) (subst (λ v. c.args.at < length (rows_at c.args.place.now v.current)) (sym c.self.view_is) c.requires) (subst (λ s. slice_get (rows_at c.args.place.now s.current) c.args.at ≡ Some (listed c.args.place.now (c.get.result.0, c.get.result.1.now))) c.reserve.ensures.rows c.get.ensures)))
 
 pub invariant_of-self-2 : goal.invariant_of-self-2
 invariant_of-self-2 c =
-    let within = subst (λ v. c.args.at < length v.stands) (sym c.self.view_is) c.requires in
-    let entry = rw c.reserve.ensures.list at c.get.ensures in
-    let kept = rw c.reserve.ensures.list at c.lowered-self-inside.ensures in
-    rw (c.drop_out.ensures.list, c.drop_job.ensures, c.reserve-2.ensures.list, c.reserve.ensures.list) (sound_taken c.self.inside.entries.list c.self.inside.bytes c.self.inside.bytes_then c.self.inside.index.list c.self.invariant c.args.at c.get.result.now c.lowered-self-inside.result within entry kept)
-
-pub returns-clause-ok : goal.returns-clause-ok
-returns-clause-ok c = rw (c.drop_out.ensures.list, c.reserve.ensures.list, ← c.self.view_is) (ap (λ l. edited l (rows_in c.self.inside.entries.list)) (map_remove as_row _ _))
+    let rows = c.drop_out.ensures.rows ∙ ap (λ s. edited (remove s.current (start_of c.args.place.now s.current + c.args.at)) s) c.reserve.ensures.rows in
+    let index = c.drop_job.ensures ∙ ap (λ s. edited (without_job (jid_of c.get.result.1.now) s.current) s) c.reserve-2.ensures.list in
+    let bytes = ap (λ t. c.lowered-self-inside.result.bytes + length t) (sym c.text.ensures) ∙ c.lowered-self-inside.ensures.bytes in
+    removed_sound c.self.inside.lists c.drop_out.new.self c.self.inside.size c.self.inside.size_then c.self.inside.index.list c.self.invariant c.drop_out.ensures.lists (start_of c.args.place.now (rows_in c.self.inside.lists).current + c.args.at) (listed c.args.place.now (c.get.result.0, c.get.result.1.now)) c.lowered-self-inside.result c.drop_job.new.index.list rows (row_there c.self.inside.lists c.self.inside.size c.self.inside.size_then c.self.inside.index.list c.self.invariant c.args.place.now c.args.at (c.get.result.0, c.get.result.1.now) (subst (λ v. c.args.at < length (rows_at c.args.place.now v.current)) (sym c.self.view_is) c.requires) (subst (λ s. slice_get (rows_at c.args.place.now s.current) c.args.at ≡ Some (listed c.args.place.now (c.get.result.0, c.get.result.1.now))) c.reserve.ensures.rows c.get.ensures)) c.lowered-self-inside.ensures.rows bytes index

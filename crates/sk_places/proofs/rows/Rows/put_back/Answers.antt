@@ -1,13 +1,18 @@
-use Rattle.std.proofs.Common.{◌+◌, ◌<◌, ◌^◌, ap, length, refl, subst, ◌∙◌}
-use Rattle.sk_places.specs.Entries.{as_row, rows_in}
-use Rattle.sk_places.proofs.Sound.{sound_put}
+use Rattle.std.proofs.Common.{ap, ap₂, length, subst, ◌+◌, ◌<◌, ◌^◌, ◌∙◌}
+use Rattle.sk_undo.specs.Versions.{edited}
+use Rattle.sk_places.specs.Entries.{as_row}
+use Rattle.sk_places.specs.Index.{with_job}
+use Rattle.sk_places.specs.Rows.{put_row}
+use Rattle.sk_places.proofs.Sound.{bytes_bound, put_sound}
 use Rattle.sk_places.proofs.rows.Rows.put_back.Goals as goal
+
+pub raised-self-inside-requires-clause-small : goal.raised-self-inside-requires-clause-small
+raised-self-inside-requires-clause-small c = bytes_bound c.self.inside.lists c.self.inside.size c.self.inside.size_then c.self.inside.index.list c.self.invariant
 
 pub invariant_of-self-2 : goal.invariant_of-self-2
 invariant_of-self-2 c =
     let short = subst (λ t. length t < 2 ^ 64) c.text.ensures c.raised-self-inside.ensures.short in
-    let bytes = c.raised-self-inside.ensures.is ∙ ap (λ t. c.self.inside.bytes + length t) c.text.ensures in
-    rw (c.put_in.ensures, c.add_job.ensures, c.reserve.ensures.list, c.reserve-2.ensures.list, c.in_ok-job.ensures) (sound_put (rows_in c.self.inside.entries.list) c.self.inside.bytes c.self.inside.bytes_then c.self.inside.index.list c.self.invariant c.args.end (as_row (c.args.spot, c.args.payload)) c.raised-self-inside.result short bytes)
-
-pub returns-clause-ok : goal.returns-clause-ok
-returns-clause-ok c = rw (c.put_in.ensures, c.reserve.ensures.list, ← c.self.view_is) refl
+    let bytes = c.raised-self-inside.ensures.bytes ∙ ap (λ t. c.self.inside.size.bytes + length t) c.text.ensures in
+    let rows = c.put.ensures.rows ∙ ap (λ s. edited (put_row c.args.end (as_row (c.args.row_key, c.args.payload)) s.current) s) c.prepare.ensures.rows in
+    let index = c.add_job.ensures ∙ ap₂ (λ j s. edited (with_job j s.current) s) c.in_ok-job.ensures c.reserve.ensures.list in
+    put_sound c.self.inside.lists c.put.new.self c.self.inside.size c.self.inside.size_then c.self.inside.index.list c.self.invariant c.put.ensures.lists c.args.end (as_row (c.args.row_key, c.args.payload)) c.raised-self-inside.result c.add_job.new.index.list rows c.raised-self-inside.ensures.rows c.raised-self-inside.ensures.few bytes short index

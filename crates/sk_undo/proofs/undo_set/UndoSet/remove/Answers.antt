@@ -1,14 +1,14 @@
 use Rattle.std.proofs.Common.{◌∙◌, ap}
 use Rattle.std.specs.BTreeMap.{is_at}
 use Rattle.std.specs.Map.{keys_of}
-use Rattle.sk_undo.specs.Steps.{edited, map_steps}
+use Rattle.sk_undo.specs.Versions.{edited, map_versions}
 use Rattle.sk_undo.proofs.Keys.{keys_lookup, keys_remove}
 use Rattle.sk_undo.proofs.undo_set.UndoSet.remove.Goals as goal
 
 pub returns-clause-answer : goal.returns-clause-answer
-returns-clause-answer g c = rw (← c.self.view_is) (c.remove.ensures.answer ∙ keys_lookup (is_at (g.Q.Query.order c.args.query.now)) c.self.inside.keys.list.stands)
+returns-clause-answer g c = rw (← c.self.view_is) (c.remove.ensures.answer ∙ keys_lookup (is_at (g.Q.Query.order c.args.query.now)) c.self.inside.keys.list.current)
 
 pub returns-clause-list : goal.returns-clause-list
 returns-clause-list g c =
-    let keys = keys_remove (is_at (g.Q.Query.order c.args.query.now)) c.self.inside.keys.list.stands in
-    rw (c.remove.ensures.list, ← c.self.view_is) (ap (λ l. edited l (map_steps keys_of c.self.inside.keys.list)) keys)
+    let keys = keys_remove (is_at (g.Q.Query.order c.args.query.now)) c.self.inside.keys.list.current in
+    rw (c.remove.ensures.list, ← c.self.view_is) (ap (λ l. edited l (map_versions keys_of c.self.inside.keys.list)) keys)

@@ -4,9 +4,9 @@ use Rattle.sk_zset.proofs.zset.ZSet.take_part.Given as goal
 
 abbrev pub invariant-loop-left : goal.invariant-loop-left
 invariant-loop-left l = record {
-  within : l.first + l.left ≤ length l.self.stands;
-  closed : l.self.stood ≡ None;
-  rest : without_ranks l.first l.left l.self.stands ≡ without_ranks l.first l.count l.initial.self.stands;
+  within : l.first + l.left ≤ length l.self.current;
+  closed : l.self.saved ≡ None;
+  rest : without_ranks l.first l.left l.self.current ≡ without_ranks l.first l.count l.initial.self.current;
 }
 
 abbrev pub decreases-loop-left : goal.decreases-loop-left

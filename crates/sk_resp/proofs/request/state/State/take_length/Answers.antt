@@ -28,7 +28,7 @@ returns-then-byte-eq10-clause-ok c = goes
     ∙ ap (λ b. ((header c.args.self.now.count ++ bulks c.args.self.now.words.items) ++ 36 ∷ c.args.self.now.line.items) ++ b ∷ []) (sym c.if-byte-eq10.true)))
     refl
 
-pub returns-then-len-ge-LONGEST_LINE-clause-fault : goal.returns-then-len-ge-LONGEST_LINE-clause-fault
-returns-then-len-ge-LONGEST_LINE-clause-fault c = λ fault.
+pub returns-then-len-ge-LONGEST_LENGTH_LINE-clause-fault : goal.returns-then-len-ge-LONGEST_LENGTH_LINE-clause-fault
+returns-then-len-ge-LONGEST_LENGTH_LINE-clause-fault c = λ fault.
     let s = c.args.self.now in
     fault-length_long s.count s.words.items s.total s.line.items c.args.byte c.requires.0 c.requires.1 (omega (arith, c.len.ensures, s.line.ok.0)) c.if-byte-eq10.false

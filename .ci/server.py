@@ -1,0 +1,260 @@
+#!/usr/bin/env python3
+"""Talks to `sidekiq serve` over real connections, and compares each reply.
+
+    server.py PROGRAM
+
+What no row can show: pipelines, large replies, cut commands, clients that leave or never read, 64 connections at a time, a port that is taken,
+and the summary, whose acknowledgements must be what the clients counted. Plain sockets and Python alone. Status 1 where anything differs.
+"""
+import re
+import socket
+import subprocess
+import sys
+import threading
+import time
+
+PROGRAM = sys.argv[1]
+HOST, SECONDS = '127.0.0.1', 60
+JOB = '{"jid":"%s","class":"Note","queue":"default","args":[%d]}'
+
+
+def free_port():
+    with socket.socket() as it:
+        it.bind((HOST, 0))
+        return it.getsockname()[1]
+
+
+def command(*words):
+    words = [it if isinstance(it, bytes) else str(it).encode() for it in words]
+    return b'*%d\r\n' % len(words) + b''.join(b'$%d\r\n%s\r\n' % (len(it), it) for it in words)
+
+
+def bulk(text):
+    return b'$%d\r\n%s\r\n' % (len(text), text)
+
+
+class Server:
+    """A server with this many loops, and what it printed at its end."""
+
+    def __init__(self, loops, *more):
+        self.port = free_port()
+        words = [PROGRAM, 'serve', '--port', str(self.port), '--loops', str(loops), *more]
+        self.process = subprocess.Popen(words, stdin=subprocess.DEVNULL, stdout=subprocess.PIPE, stderr=subprocess.PIPE)
+        self.wait()
+
+    def wait(self):
+        end = time.time() + SECONDS
+        while time.time() < end:
+            try:
+                return socket.create_connection((HOST, self.port), 1).close()
+            except OSError:
+                time.sleep(0.02)
+        raise SystemExit('server: it does not listen')
+
+    def client(self):
+        return Client(self.port)
+
+    def end(self):
+        """Shuts it down, and answers its status, its summary's two numbers, and its tally."""
+        with self.client() as it:
+            it.ask(b'+OK\r\n', 'SHUTDOWN')
+        out, _ = self.process.communicate(timeout=SECONDS)
+        summary = re.match(rb'sessions (\d+) acknowledged (\d+)\n', out)
+        tally = dict((name, int(number)) for name, number in re.findall(rb'(?m)^(\w+) (\d+)$', out))
+        return self.process.returncode, tuple(map(int, summary.groups())), tally
+
+
+class Client:
+    def __init__(self, port):
+        self.socket = socket.create_connection((HOST, port), SECONDS)
+        self.socket.settimeout(SECONDS)
+
+    def __enter__(self):
+        return self
+
+    def __exit__(self, *fault):
+        self.socket.close()
+
+    def send(self, data):
+        self.socket.sendall(data)
+
+    def send_much(self):
+        """Commands whose replies it doesn't read, until the server waits for it."""
+        self.socket.settimeout(1)
+        try:
+            self.send(command('ECHO', b'x' * 1_000_000) * 50)
+        except OSError:
+            pass
+
+    def take(self, count):
+        """So many bytes."""
+        found = bytearray()
+        while len(found) < count:
+            piece = self.socket.recv(min(count - len(found), 1 << 20))
+            if not piece:
+                break
+            found += piece
+        return bytes(found)
+
+    def expect(self, wanted):
+        found = self.take(len(wanted))
+        if found != wanted:
+            raise AssertionError('%r in place of %r' % (found[:200], wanted[:200]))
+
+    def ask(self, wanted, *words):
+        self.send(command(*words))
+        self.expect(wanted)
+
+    def is_over(self):
+        return self.socket.recv(1) == b''
+
+
+def pipeline(server):
+    with server.client() as it:
+        it.send(b''.join(command('ECHO', n) for n in range(1000)))
+        it.expect(b''.join(bulk(b'%d' % n) for n in range(1000)))
+        it.send(b'PING\r\nECHO inline\r\n')
+        it.expect(b'+PONG\r\n$6\r\ninline\r\n')
+
+
+def large_reply(server):
+    words = [bytes([65 + n]) * 1_000_000 for n in range(10)]
+    with server.client() as it:
+        for n, word in enumerate(words, 1):
+            it.ask(b':%d\r\n' % n, 'RPUSH', 'large', word)
+        it.ask(b'*10\r\n' + b''.join(map(bulk, words)), 'LRANGE', 'large', 0, -1)
+        it.ask(b':1\r\n', 'DEL', 'large')
+
+
+def single_bytes(server):
+    with server.client() as it:
+        for at in command('ECHO', 'cut'):
+            it.send(bytes([at]))
+            time.sleep(0.001)
+        it.expect(bulk(b'cut'))
+
+
+def one_that_leaves(server):
+    """Inside a command, and with replies that it doesn't read."""
+    with server.client() as it:
+        it.send(b'*2\r\n$4\r\nECHO\r\n$5\r\nha')
+    with server.client() as it:
+        it.send_much()
+    with server.client() as it:
+        it.ask(b'+PONG\r\n', 'PING')
+
+
+def one_that_never_reads(server):
+    """Its own thread waits for it. The others go on."""
+    with server.client() as slow:
+        slow.send_much()
+        with server.client() as it:
+            for _ in range(100):
+                it.ask(b'+PONG\r\n', 'PING')
+    with server.client() as it:
+        it.ask(b'+PONG\r\n', 'PING')
+
+
+def ends(server):
+    """QUIT ends its connection, with what stands behind it, and a fault of the stream does, with its text."""
+    with server.client() as it:
+        it.send(command('QUIT') + command('SET', 'behind', 'quit'))
+        it.expect(b'+OK\r\n')
+        assert it.is_over()
+    with server.client() as it:
+        it.ask(b'$-1\r\n', 'GET', 'behind')
+        it.send(b'*1\r\n:4\r\n')
+        it.expect(b"-ERR Protocol error: expected '$', got ':'\r\n")
+        assert it.is_over()
+
+
+def own_words_of_a_pipe(server):
+    with server.client() as it:
+        for word in (('SK.AS', 1), ('SK.NOW', 1), ('SK.CUT', 1)):
+            it.send(command(*word))
+            assert it.take(5) == b'-ERR ', word
+            while it.take(1) != b'\n':
+                pass
+
+
+def a_worker_that_dies(server):
+    """A job that its worker held stands in the private list once the connection is gone, and nobody else fetched it."""
+    job = JOB % ('died', 1)
+    with server.client() as it:
+        it.ask(b':1\r\n', 'LPUSH', 'queue:dying', job)
+    with server.client() as worker:
+        worker.ask(b'+OK\r\n', 'SK.BEAT', 'w1')
+        worker.ask(b'+OK\r\n', 'SK.JOIN', 'w1')
+        worker.ask(bulk(job.encode()), 'LMOVE', 'queue:dying', 'sq:w1', 'RIGHT', 'LEFT')
+        worker.ask(b'+OK\r\n', 'SK.START', job)
+    with server.client() as it:
+        it.ask(b'*1\r\n' + bulk(job.encode()), 'LRANGE', 'sq:w1', 0, -1)
+        it.ask(b'$-1\r\n', 'LMOVE', 'queue:dying', 'queue:other', 'RIGHT', 'LEFT')
+    return 1
+
+
+def many_at_once(server, clients=60, pushes=50):
+    """So many connections at a time, each with its own jobs; every one of them is acknowledged once, and stands."""
+    failures, gate = [], threading.Barrier(clients)
+
+    def work(number):
+        try:
+            with server.client() as it:
+                gate.wait(SECONDS)
+                for n in range(pushes):
+                    job = JOB % ('%d-%d' % (number, n), n)
+                    it.send(command('LPUSH', 'queue:many', job))
+                    reply = it.take(1)
+                    while not reply.endswith(b'\n'):
+                        reply += it.take(1)
+                    assert reply.startswith(b':'), reply
+        except Exception as fault:
+            failures.append(fault)
+    threads = [threading.Thread(target=work, args=(number,)) for number in range(clients)]
+    [it.start() for it in threads]
+    [it.join() for it in threads]
+    assert not failures, failures[0]
+    with server.client() as it:
+        it.ask(b':%d\r\n' % (clients * pushes), 'LLEN', 'queue:many')
+    return clients * pushes
+
+
+def taken_port(server):
+    ran = subprocess.run([PROGRAM, 'serve', '--port', str(server.port)], stdin=subprocess.DEVNULL, capture_output=True, timeout=SECONDS)
+    assert ran.returncode == 6 and ran.stdout == b'', (ran.returncode, ran.stdout)
+    assert b'port' in ran.stderr, ran.stderr
+
+
+TESTS = [pipeline, large_reply, single_bytes, one_that_leaves, one_that_never_reads, ends, own_words_of_a_pipe, a_worker_that_dies, many_at_once, taken_port]
+
+
+def main():
+    try:
+        free_port()
+    except OSError as fault:
+        print('server: passed over, since there is no loopback here: %s' % fault)
+        return 0
+    server, pushed, failed = Server(64), 0, []
+    for test in TESTS:
+        try:
+            pushed += test(server) or 0
+        except (AssertionError, OSError) as fault:
+            failed.append(test.__name__)
+            print('server: %s: %s' % (test.__name__, fault))
+    status, (_, acknowledged), tally = server.end()
+    if not failed and (status, acknowledged, tally.get(b'outside')) != (0, pushed, pushed):
+        failed.append('summary')
+        print('server: status %d, acknowledged %d, outside %s, where %d were pushed' % (status, acknowledged, tally.get(b'outside'), pushed))
+    bound = Server(1, '--sessions', '2')            # (it waited for the server by a connection: that was the first of two)
+    with bound.client() as it:
+        it.ask(b'+PONG\r\n', 'PING')
+    out, _ = bound.process.communicate(timeout=SECONDS)
+    if not out.startswith(b'sessions 2 acknowledged 0\n'):
+        failed.append('sessions')
+        print('server: --sessions 2: %r' % out[:80])
+    print('server: %s' % ('FAILED: ' + ', '.join(failed) if failed else '%d tests, %d rows pushed and acknowledged' % (len(TESTS) + 2, pushed)))
+    return int(bool(failed))
+
+
+if __name__ == '__main__':
+    sys.exit(main())

@@ -1,0 +1,5 @@
+pub mod Dialogues
+pub mod Endings
+pub mod PushRuns
+pub mod StatusRuns
+pub mod ServeRuns

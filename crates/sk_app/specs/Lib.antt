@@ -1,0 +1,9 @@
+pub mod Failures
+pub mod Ending
+pub mod Jobs
+pub mod Dialogue
+pub mod Pushing
+pub mod Paging
+pub mod Classes
+pub mod Serving
+pub mod Programs

@@ -1,0 +1,16 @@
+-- Which program the words of a command line name.
+use Rattle.std.specs.Prelude.{List, [], ◌∷◌, Option, Some, None, codes, cond}
+use Rattle.std.specs.Str.{bytes_eq}
+use Rattle.sk_resp.specs.Spelling.{Bytes}
+use Rattle.sk_app.specs.declared.program.Program.{Program}
+use Rattle.sk_app.specs.declared.program.Program.TheVariants.{Serve, Push, Status}
+
+abbrev pub named : Bytes → Option Program
+named name = cond (bytes_eq name (codes "serve")) (Some Serve)
+    (cond (bytes_eq name (codes "push")) (Some Push)
+    (cond (bytes_eq name (codes "status")) (Some Status) None))
+
+-- the first word names it
+abbrev pub program_of : List Bytes → Option Program
+program_of [] = None
+program_of (name ∷ words) = named name

@@ -1,0 +1,20 @@
+//! The programs: what each does with the words of its command line, over any door, clock and dice, and with which status it ends.
+#![tactic(auto)]
+
+mod ending;
+mod failure;
+mod job;
+mod jobs;
+mod program;
+mod push;
+mod serve;
+mod status;
+mod top;
+
+pub use failure::Failure;
+pub use jobs::{Fail, Flip, Note};
+pub use program::Program;
+pub use push::run_push;
+pub use serve::run_serve;
+pub use status::run_status;
+pub use top::run;

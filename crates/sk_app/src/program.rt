@@ -1,0 +1,40 @@
+// Which program the first word of a command line names.
+ghost use Rattle.std.specs.Prelude.{◌≡◌, map, string_bytes};
+ghost use Rattle.sk_app.specs.Programs.{named, program_of};
+
+/// A program beside `pipe`, which `sk_pipe` knows.
+#[derive(Clone, Copy, Debug, PartialEq, Eq)]
+pub enum Program {
+    /// A server.
+    Serve,
+    /// One job is pushed.
+    Push,
+    /// The page of a server is written.
+    Status,
+}
+
+// The program with this name.
+fn named(name: &str) -> Option<Program>
+    ensures { result ≡ named name.now }
+{
+    if name == "serve" {
+        return Some(Program::Serve);
+    }
+    if name == "push" {
+        return Some(Program::Push);
+    }
+    if name == "status" {
+        return Some(Program::Status);
+    }
+    None
+}
+
+/// The program that the first word names; none where it is another word, or there is none.
+pub fn program_of(words: &[String]) -> Option<Program>
+    ensures { result ≡ program_of (map string_bytes words.now) }
+{
+    match words {
+        [name, ..] => named(name.as_str()),
+        [] => None,
+    }
+}

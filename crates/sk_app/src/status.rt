@@ -1,0 +1,103 @@
+// The program `status`: its words are read, a connection is made, the store is asked for its page, the connection is left to the door, and the page is
+// written.
+ghost use Rattle.std.specs.Prelude.{◌≡◌, ◌⊎◌, Err, IfOk, Result, map, string_bytes};
+ghost use Rattle.sk_base.specs.Outside.{Rose};
+ghost use Rattle.sk_link.specs.Fault.{IsCause};
+ghost use Rattle.sk_resp.specs.Spelling.{Bytes};
+ghost use Rattle.sk_app.specs.Dialogue.{Carried, Dialogue, Gave};
+ghost use Rattle.sk_app.specs.Ending.{Concludes};
+ghost use Rattle.sk_app.specs.Paging.{Asks, StatusRun, page_of, status_words};
+ghost use Rattle.sk_app.specs.declared.failure.Failure.{Failure};
+ghost use Rattle.sk_app.specs.declared.failure.Failure.TheVariants.{Line, Memory};
+
+use crate::Failure;
+use crate::ending::conclude;
+use sk_base::Sink;
+use sk_edge::Door;
+use sk_line::{Address, read_status};
+use sk_link::{Link, WireLink, words_of};
+use sk_resp::{Reply, Word, Words};
+use std::alloc::{AllocError, Global};
+
+// `SK.STATUS`
+fn status_words(alloc: Global) -> Result<Words, AllocError>
+    ensures { IfOk result (λ words. words ≡ status_words) }
+{
+    Ok(Words::new(words_of(alloc, &[b"SK.STATUS"])?))
+}
+
+// The page that a reply is.
+fn page_of(reply: Reply) -> Result<Word, Failure>
+    ensures { result ≡ page_of reply }
+{
+    match reply {
+        Reply::Bulk(page) => Ok(page),
+        other => Err(Failure::Refused(other)),
+    }
+}
+
+// Asks for the page over the link.
+fn ask_over<L: Link>(alloc: Global, link: &mut L) -> Result<Word, Failure>
+    ensures told { (result ≡ Err Memory) ⊎ Asks (L.carried link.old link.new)
+        (IsCause (L.faults link.old) (L.faults link.new) (L.has_ended link.old) (L.unread link.new)) result }
+    ensures never { result ≡ Err Line → ⊥ }
+{
+    let words = status_words(alloc)?;
+    match link.call(alloc, &words) {
+        Ok(reply) => page_of(reply),
+        Err(fault) => Err(Failure::Link(fault)),
+    }
+}
+
+// Asks for the page over a connection of its own.
+fn ask<N: Door>(alloc: Global, net: &mut N, address: &Address) -> Result<Word, Failure>
+    ensures told { Dialogue (record { dialled = N.dialled net.old; kept = N.kept net.old; faults = N.door_faults net.old })
+        (record { dialled = N.dialled net.new; kept = N.kept net.new; faults = N.door_faults net.new })
+        (λ a b outcome. Asks (Carried (record { taken = N.Conn.taken; left = N.Conn.left; reads = N.Conn.read_faults; writes = N.Conn.write_faults }) a b)
+        (Gave (record { taken = N.Conn.taken; left = N.Conn.left; reads = N.Conn.read_faults; writes = N.Conn.write_faults }) a b) outcome) result }
+    ensures never { result ≡ Err Line → ⊥ }
+{
+    let conn = net.connect(address.host.text(), address.port)?;
+    let mut link = WireLink::new(alloc, conn);
+    let outcome = ask_over(alloc, &mut link);
+    net.leave(link.into_conn());
+    outcome
+}
+
+// What `status` comes to.
+fn outcome_by<N: Door>(alloc: Global, words: &[String], net: &mut N) -> Result<Word, Failure>
+    ensures told { StatusRun (map string_bytes words.now) (net.new ≡ net.old)
+        (Dialogue (record { dialled = N.dialled net.old; kept = N.kept net.old; faults = N.door_faults net.old })
+        (record { dialled = N.dialled net.new; kept = N.kept net.new; faults = N.door_faults net.new })
+        (λ a b outcome. Asks (Carried (record { taken = N.Conn.taken; left = N.Conn.left; reads = N.Conn.read_faults; writes = N.Conn.write_faults }) a b)
+        (Gave (record { taken = N.Conn.taken; left = N.Conn.left; reads = N.Conn.read_faults; writes = N.Conn.write_faults }) a b) outcome)) result }
+    ensures untouched { result ≡ Err Line → net.new ≡ net.old }
+{
+    let line = read_status(alloc, words)?;
+    ask(alloc, net, &line.address)
+}
+
+/// Writes the page of the store that the words, which begin with `status`, name. Answers the status: 0, or what [`Failure::status`] says, or 4 where the
+/// sink failed.
+pub fn run_status<K: Sink, N: Door>(
+    alloc: Global,
+    words: &[String],
+    sink: &mut K,
+    net: &mut N,
+) -> u8
+    ensures told { (outcome : Result Bytes Failure) × Concludes outcome result (K.taken sink.old) (K.taken sink.new)
+        × StatusRun (map string_bytes words.now) (net.new ≡ net.old)
+        (Dialogue (record { dialled = N.dialled net.old; kept = N.kept net.old; faults = N.door_faults net.old })
+        (record { dialled = N.dialled net.new; kept = N.kept net.new; faults = N.door_faults net.new })
+        (λ a b outcome. Asks (Carried (record { taken = N.Conn.taken; left = N.Conn.left; reads = N.Conn.read_faults; writes = N.Conn.write_faults }) a b)
+        (Gave (record { taken = N.Conn.taken; left = N.Conn.left; reads = N.Conn.read_faults; writes = N.Conn.write_faults }) a b) outcome)) outcome }
+
+    // With status 4 the sink's count of faults rose.
+    ensures sink_cause { result ≡ 4 → Rose (K.write_faults sink.old) (K.write_faults sink.new) }
+
+    // With status 2 nothing was written, and no connection was made.
+    ensures untouched { result ≡ 2 → (sink.new ≡ sink.old) × (net.new ≡ net.old) }
+{
+    let outcome = outcome_by(alloc, words, net);
+    conclude(alloc, sink, outcome)
+}

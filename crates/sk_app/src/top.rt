@@ -1,0 +1,99 @@
+// The top call: what the words of a command line ask for. The first of them names the program.
+ghost use Rattle.std.specs.Prelude.{◌≡◌, ◌⊎◌, [], ◌∷◌, None, Result, Some, map, string_bytes};
+ghost use Rattle.sk_base.specs.Outside.{Rose};
+ghost use Rattle.sk_base.specs.Yields.{Yields, YieldsAll};
+ghost use Rattle.sk_resp.specs.Spelling.{Bytes};
+ghost use Rattle.sk_pipe.specs.Run.{Completes, IsPipeLine, IsPiped, shipped, status_of};
+ghost use Rattle.sk_pipe.specs.declared.pipe_end.PipeEnd.{PipeEnd};
+ghost use Rattle.sk_serve.specs.Server.{HasFailed};
+ghost use Rattle.sk_app.specs.Dialogue.{Carried, Caused, Dialogue, Gave};
+ghost use Rattle.sk_app.specs.Ending.{Concludes};
+ghost use Rattle.sk_app.specs.Paging.{Asks, StatusRun};
+ghost use Rattle.sk_app.specs.Programs.{program_of};
+ghost use Rattle.sk_app.specs.Pushing.{PushRun, Pushes};
+ghost use Rattle.sk_app.specs.Serving.{ServeRun};
+ghost use Rattle.sk_app.specs.declared.failure.Failure.{Failure};
+ghost use Rattle.sk_app.specs.declared.program.Program.TheVariants.{Push, Serve, Status};
+
+use crate::program::{Program, program_of};
+use crate::{run_push, run_serve, run_status};
+use sk_base::{Clock, Dice, Sink, Source};
+use sk_edge::Door;
+use sk_pipe::run as run_pipe;
+use std::alloc::Global;
+use std::sync::Wait;
+use std::thread::Threads;
+
+/// Does what the words of a command line ask for, which are those behind the program's name, and answers the exit status. The first word names the
+/// program:
+///
+/// - `pipe`, alone: commands from the source, and their replies to the sink ([`sk_pipe::run`]).
+/// - `serve ..`: a server ([`run_serve`]).
+/// - `push ..`: one job is pushed to a server ([`run_push`]).
+/// - `status ..`: the page of a server ([`run_status`]).
+///
+/// Status 0: all was done. 1: the input of `pipe` has a fault or ends inside a command. 2: the words are no command line; nothing was read, written or
+/// opened. 3, 4: the source, the sink failed. 5: there was no memory. 6: a connection failed or was unreadable, or seats were used up. 7: the store
+/// answered an error. 9: 2^40 bytes were read.
+pub fn run<R: Threads + Wait + Sync, S: Source, K: Sink, N: Door, C: Clock + Send, D: Dice>(
+    rt: &R,
+    alloc: Global,
+    words: &[String],
+    source: &mut S,
+    sink: &mut K,
+    net: &mut N,
+    clock: &mut C,
+    dice: &mut D,
+) -> u8
+where
+    N::Ear: Send,
+    // The word `pipe` pipes the source to the sink, and the status tells how that ended.
+    ensures piped { IsPipeLine (map string_bytes words.now) → (end : PipeEnd) × (result ≡ status_of end)
+        × IsPiped shipped S.left S.read_faults K.taken K.write_faults source.old source.new sink.old sink.new end }
+
+    // Input that is commands end to end is done to its end, or to a QUIT or SHUTDOWN, where neither count of faults rises.
+    ensures completes { IsPipeLine (map string_bytes words.now)
+        → Completes (S.left source.old) (Rose (S.read_faults source.old) (S.read_faults source.new) ⊎ Rose (K.write_faults sink.old) (K.write_faults sink.new)) result }
+
+    // A server.
+    ensures served { program_of (map string_bytes words.now) ≡ Some Serve → (outcome : Result Bytes Failure)
+        × Concludes outcome result (K.taken sink.old) (K.taken sink.new) × ServeRun (map string_bytes words.now) (net.new ≡ net.old)
+        (λ loops. HasFailed N.door_faults N.gathered N.Ear.ear_faults loops net.old net.new) outcome }
+
+    // A push.
+    ensures pushed { program_of (map string_bytes words.now) ≡ Some Push → (outcome : Result Bytes Failure)
+        × Concludes outcome result (K.taken sink.old) (K.taken sink.new)
+        × PushRun (map string_bytes words.now) (net.new ≡ net.old)
+        (λ now_ first second. Yields (C.moments clock.old) now_ (C.moments clock.new) × YieldsAll (D.words dice.old) (first ∷ second ∷ []) (D.words dice.new))
+        (λ job outcome. Dialogue (record { dialled = N.dialled net.old; kept = N.kept net.old; faults = N.door_faults net.old })
+        (record { dialled = N.dialled net.new; kept = N.kept net.new; faults = N.door_faults net.new })
+        (λ a b outcome. Pushes (Carried (record { taken = N.Conn.taken; left = N.Conn.left; reads = N.Conn.read_faults; writes = N.Conn.write_faults }) a b)
+        (Caused (record { taken = N.Conn.taken; left = N.Conn.left; reads = N.Conn.read_faults; writes = N.Conn.write_faults }) a b) job outcome)
+        outcome) outcome }
+
+    // A page.
+    ensures paged { program_of (map string_bytes words.now) ≡ Some Status → (outcome : Result Bytes Failure)
+        × Concludes outcome result (K.taken sink.old) (K.taken sink.new)
+        × StatusRun (map string_bytes words.now) (net.new ≡ net.old)
+        (Dialogue (record { dialled = N.dialled net.old; kept = N.kept net.old; faults = N.door_faults net.old })
+        (record { dialled = N.dialled net.new; kept = N.kept net.new; faults = N.door_faults net.new })
+        (λ a b outcome. Asks (Carried (record { taken = N.Conn.taken; left = N.Conn.left; reads = N.Conn.read_faults; writes = N.Conn.write_faults }) a b)
+        (Gave (record { taken = N.Conn.taken; left = N.Conn.left; reads = N.Conn.read_faults; writes = N.Conn.write_faults }) a b) outcome)) outcome }
+
+    // Words that name no program are refused.
+    ensures unknown { (IsPipeLine (map string_bytes words.now) → ⊥) → program_of (map string_bytes words.now) ≡ None → result ≡ 2 }
+
+    // Where words are refused nothing is read, written or opened. `pipe` alone reads the source.
+    ensures refused { result ≡ 2 → (source.new ≡ source.old) × (sink.new ≡ sink.old) × (net.new ≡ net.old) }
+    ensures source_alone { (IsPipeLine (map string_bytes words.now) → ⊥) → source.new ≡ source.old }
+
+    // With status 4 the sink's count of faults rose. (For the pipe that is said above.)
+    ensures sink_cause { (IsPipeLine (map string_bytes words.now) → ⊥) → result ≡ 4 → Rose (K.write_faults sink.old) (K.write_faults sink.new) }
+{
+    match program_of(words) {
+        Some(Program::Serve) => run_serve(rt, alloc, words, sink, net, clock),
+        Some(Program::Push) => run_push(alloc, words, sink, net, clock, dice),
+        Some(Program::Status) => run_status(alloc, words, sink, net),
+        None => run_pipe(alloc, words, source, sink),
+    }
+}

@@ -1,0 +1,5 @@
+pub mod Deque
+pub mod DequeEdits
+pub mod DequeMoves
+pub mod DequesView
+pub mod UndoDeques

@@ -1,0 +1,56 @@
+-- The store may go to another thread, part by part: one search over the whole of it would be too long.
+use denote.RattleType.{RattleType}
+use denote.Param.Send.{IsSend, sendable}
+use Rattle.std.proofs.Crossing.{crosses}
+use Rattle.std.proofs.MapsCrossing.{crosses as crosses_maps}
+use Rattle.sk_undo.proofs.sequence.Sequence.TheLaws.TheKnot.{crosses as crosses_sequence}
+use Rattle.sk_undo.specs.contracts.undo_list.UndoList as UndoList
+use Rattle.sk_payload.specs.contracts.payload.Payload as Payload
+use Rattle.sk_payload.proofs.payload.Payload.TheSendSync.{the_send as payload_send}
+use Rattle.sk_deques.specs.contracts.undo_deques.UndoDeques as UndoDeques
+use Rattle.sk_leases.specs.contracts.leases.Leases as Leases
+use Rattle.sk_batch.specs.contracts.batches.Batches as Batches
+use Rattle.sk_batch.proofs.batch.Batch.TheSendSync.{the_send as batch_send}
+use Rattle.sk_counters.specs.contracts.counters.Counters as Counters
+use Rattle.sk_places.specs.contracts.places.Places as Places
+use Rattle.sk_seats.specs.contracts.seats.Seats as Seats
+use Rattle.sk_keys.specs.contracts.keys.Keys as Keys
+use Rattle.sk_store.specs.contracts.store.Store as Store
+use Rattle.sk_core.specs.contracts.store.Core as Core
+
+-- ## Lists and texts
+
+list_send_field : (K T : RattleType) → IsSend K → IsSend T → IsSend (UndoList.the_field K T).row
+list_send_field K T k t = search (sendable, crosses, crosses_sequence) depth 30 fits 3000
+
+deques_send_field : (K T : RattleType) → IsSend K → IsSend T → IsSend (UndoDeques.the_field K T).row
+deques_send_field K T k t = search (sendable, crosses) depth 40 fits 3000
+
+payload_send_field : IsSend Payload.the_field.row
+payload_send_field = search (sendable, crosses, payload_send) depth 30 fits 3000
+
+-- ## The parts of the store
+
+leases_send : IsSend Leases.the_field.row
+leases_send = search (sendable, crosses, crosses_maps, list_send_field) depth 40 fits 5000
+
+batches_send : IsSend Batches.the_field.row
+batches_send = search (sendable, crosses, crosses_maps, list_send_field, batch_send) depth 150 fits 20000
+
+counters_send : IsSend Counters.the_field.row
+counters_send = search (sendable, crosses, crosses_maps, list_send_field) depth 40 fits 5000
+
+places_send : IsSend Places.the_field.row
+places_send = search (sendable, crosses, list_send_field, deques_send_field, payload_send_field) depth 100 fits 8000
+
+seats_send : IsSend Seats.the_field.row
+seats_send = search (sendable, crosses, crosses_maps, payload_send_field) depth 100 fits 8000
+
+keys_send : IsSend Keys.the_field.row
+keys_send = search (sendable, crosses, crosses_maps, list_send_field) depth 40 fits 5000
+
+store_send : IsSend Store.the_field.row
+store_send = search (sendable, crosses, leases_send, batches_send, counters_send, places_send, seats_send, keys_send) depth 60 fits 5000
+
+pub core_send : IsSend Core.the_field.row
+core_send = search (sendable, crosses, store_send) depth 30 fits 3000

@@ -1,0 +1,5 @@
+pub mod Collected
+pub mod Doors
+pub mod Memory
+pub mod Draw
+pub mod Faults

@@ -1,0 +1,21 @@
+//! The edges of the outside: doors and ears over TCP and in memory, connections over TCP, the system's clock, and a dice over a generator.
+#![tactic(auto)]
+
+mod collector;
+mod door;
+mod mem_door;
+mod mem_ear;
+mod pcg_dice;
+mod real_clock;
+mod tcp_conn;
+mod tcp_door;
+mod tcp_ear;
+
+pub use door::{Door, DoorFault, Ear};
+pub use mem_door::MemDoor;
+pub use mem_ear::MemEar;
+pub use pcg_dice::PcgDice;
+pub use real_clock::RealClock;
+pub use tcp_conn::TcpConn;
+pub use tcp_door::TcpDoor;
+pub use tcp_ear::TcpEar;

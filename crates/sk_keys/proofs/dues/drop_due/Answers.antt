@@ -1,6 +1,0 @@
-use Rattle.std.proofs.Common.{arith}
-use Rattle.sk_keys.proofs.Index.{due_at}
-use Rattle.sk_keys.proofs.dues.drop_due.Goals as goal
-
-pub returns-in-Some : goal.returns-in-Some
-returns-in-Some c = λ moment other. grind (arith, c.remove.ensures.updates.0 (moment, other), due_at c.in-Some.deadline moment c.args.name other)

@@ -1,0 +1,5 @@
+pub mod Options
+pub mod Values
+pub mod Lines
+pub mod Push
+pub mod Work

@@ -1,0 +1,46 @@
+// Where the store is.
+ghost use Rattle.std.specs.Prelude.{◌≡◌, IfOk, codes};
+ghost use Rattle.clap.specs.Words.{app_of, found_of, rows_of};
+ghost use Rattle.sk_line.specs.Lines.{IsAddress, Reads, addressed};
+ghost use Rattle.sk_line.specs.Values.{Has, IsPort};
+
+use crate::LineFault;
+use crate::defaults::{HOST, PORT};
+use crate::option::with_default;
+use crate::value::{number_of, text_of};
+use clap::{ArgMatches, Command};
+use sk_resp::Text;
+use std::alloc::{AllocError, Global};
+
+/// Where the store is.
+#[derive(Debug, Drop)]
+pub struct Address {
+    /// A name or a number of a host.
+    pub host: Text,
+    /// A port of TCP, from 1 to 65,535.
+    pub port: u16,
+}
+
+/// The options `--host` and `--port`.
+pub fn addressed<'a>(alloc: Global, command: Command<'a>) -> Result<Command<'a>, AllocError>
+    ensures { IfOk result (λ c. app_of c ≡ addressed (app_of command.entry)) }
+{
+    let command = with_default(alloc, command, "host", HOST)?;
+    with_default(alloc, command, "port", PORT)
+}
+
+/// Their values.
+pub fn address_of(alloc: Global, matches: &ArgMatches<'_>) -> Result<Address, LineFault>
+    ensures { Reads (IsAddress (rows_of (found_of matches.now))) result }
+{
+    let port = port_of(matches)?;
+    let host = text_of(alloc, matches, "host")?;
+    Ok(Address { host, port })
+}
+
+/// The value of `--port`.
+pub fn port_of(matches: &ArgMatches<'_>) -> Result<u16, LineFault>
+    ensures { Reads (Has IsPort (rows_of (found_of matches.now)) (codes "port")) result }
+{
+    Ok(number_of(matches, "port", 1, 65_535)? as u16)
+}

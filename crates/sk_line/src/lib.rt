@@ -1,0 +1,25 @@
+//! Command lines: what the words of each subcommand ask for, by clap.
+#![tactic(auto)]
+
+mod address;
+mod cron_words;
+mod cut;
+mod defaults;
+mod fault;
+mod help;
+mod matches;
+mod option;
+mod push_line;
+mod queues;
+mod serve_line;
+mod status_line;
+mod value;
+mod work_line;
+
+pub use address::Address;
+pub use fault::LineFault;
+pub use help::help_of;
+pub use push_line::{PushLine, read_push};
+pub use serve_line::{ServeLine, read_serve};
+pub use status_line::{StatusLine, read_status};
+pub use work_line::{WorkLine, read_work};

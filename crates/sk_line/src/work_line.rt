@@ -1,0 +1,101 @@
+// The command line of `work`: `work [--host HOST] [--port PORT] [--ident NAME] [--queues NAME[:WEIGHT],..] [--strict] [--threads COUNT] [--turns COUNT]
+// [--offset MINUTES] [--prefetch COUNT] [CRON ..]`, where a CRON is one word: five fields of a cron text, a class and a queue.
+ghost use Rattle.std.specs.Prelude.{◌≡◌, ◌≤◌, IfOk, codes, map, string_bytes};
+ghost use Rattle.clap.specs.Words.{app_of, found_of, rows_of};
+ghost use Rattle.sk_line.specs.Lines.{Reads};
+ghost use Rattle.sk_line.specs.Values.{Has};
+ghost use Rattle.sk_line.specs.Work.{IsOffset, IsWork, IsWorkValues, work_app};
+
+use crate::address::{address_of, addressed};
+use crate::cron_words::loops_of;
+use crate::defaults::{IDENT, OFFSET, PREFETCH, QUEUE, THREADS, TURNS};
+use crate::matches::matches_of;
+use crate::option::{flag, positionals, with_default};
+use crate::queues::order_of;
+use crate::value::{name_of, number_of};
+use crate::{Address, LineFault};
+use clap::{ArgMatches, Command};
+use sk_base::limits::{LAST_OFFSET, MOST_PREFETCH, OFFSET_UTC};
+use sk_policy::QueueOrder;
+use sk_poller::Loop;
+use sk_resp::Text;
+use std::alloc::{AllocError, Global};
+
+/// What the words of `work` ask for.
+#[derive(Drop)]
+pub struct WorkLine {
+    /// The store that has the jobs.
+    pub address: Address,
+    /// The process, as its heartbeat names it: a name of at most 255 bytes.
+    pub ident: Text,
+    /// The queues, and in which order a turn asks them.
+    pub order: QueueOrder,
+    /// How many workers run, each in a thread of its own, from 1 to the number of teams.
+    pub threads: u32,
+    /// How many turns each worker takes; 0: as many as come until a fault.
+    pub turns: u32,
+    /// How many minutes the clock that crons go by is ahead of UTC, from -1,439 to 1,439.
+    pub offset: i32,
+    /// How many jobs a worker holds at most, from 1 to 16.
+    pub prefetch: u32,
+    /// The periodic jobs.
+    pub loops: Vec<Loop>,
+}
+
+/// The options of `work`.
+pub fn work_command<'a>(alloc: Global) -> Result<Command<'a>, AllocError>
+    ensures { IfOk result (λ c. app_of c ≡ work_app) }
+{
+    let command = addressed(alloc, Command::new(alloc, "work"))?;
+    let command = with_default(alloc, command, "ident", IDENT)?;
+    let command = with_default(alloc, command, "queues", QUEUE)?;
+    let command = flag(alloc, command, "strict")?;
+    let command = with_default(alloc, command, "threads", THREADS)?;
+    let command = with_default(alloc, command, "turns", TURNS)?;
+    let command = with_default(alloc, command, "offset", OFFSET)?;
+    let command = with_default(alloc, command, "prefetch", PREFETCH)?;
+    positionals(alloc, command, "CRON")
+}
+
+// How far the clock is ahead of UTC: the option is 0 for -1,439 minutes, and 1,439 for UTC.
+fn offset_of(matches: &ArgMatches<'_>) -> Result<i32, LineFault>
+    ensures { Reads (Has IsOffset (rows_of (found_of matches.now)) (codes "offset")) result }
+{
+    let minutes = number_of(matches, "offset", 0, LAST_OFFSET as u32)?;
+    Ok(minutes as i32 - OFFSET_UTC)
+}
+
+// The values, where there are so many teams.
+fn line_of(alloc: Global, matches: &ArgMatches<'_>, teams: u32) -> Result<WorkLine, LineFault>
+    ensures { Reads (IsWorkValues teams (rows_of (found_of matches.now))) result }
+{
+    let address = address_of(alloc, matches)?;
+    let ident = name_of(alloc, matches, "ident")?;
+    let order = order_of(alloc, matches)?;
+    let threads = number_of(matches, "threads", 1, teams)?;
+    let turns = number_of(matches, "turns", 0, u32::MAX)?;
+    let offset = offset_of(matches)?;
+    let prefetch = number_of(matches, "prefetch", 1, MOST_PREFETCH as u32)?;
+    let loops = loops_of(alloc, matches)?;
+    Ok(WorkLine {
+        address,
+        ident,
+        order,
+        threads,
+        turns,
+        offset,
+        prefetch,
+        loops,
+    })
+}
+
+/// What the words, which begin with `work`, ask for, where there are so many teams.
+///
+/// Errors: `Refused` exactly where they are no line of `work`.
+pub fn read_work(alloc: Global, words: &[String], teams: u32) -> Result<WorkLine, LineFault>
+    ensures { Reads (IsWork teams (map string_bytes words.now)) result }
+{
+    let command = work_command(alloc)?;
+    let matches = matches_of(command, words)?;
+    line_of(alloc, &matches, teams)
+}

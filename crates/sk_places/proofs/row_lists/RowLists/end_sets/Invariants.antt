@@ -1,0 +1,16 @@
+use Rattle.std.proofs.Common.{◌≡◌, ◌-◌, ◌≤◌, None, drop, map}
+use Rattle.sk_places.specs.Ends.{texts_of}
+use Rattle.sk_places.specs.Entries.{as_rows}
+use Rattle.sk_places.specs.LiveJobs.{all_ended}
+use Rattle.sk_places.specs.declared.ending.Ending.TheVariants.{Deleted}
+use Rattle.sk_places.proofs.row_lists.RowLists.end_sets.Given as goal
+
+abbrev pub invariant-loop-at : goal.invariant-loop-at
+invariant-loop-at l = record {
+  within : l.at ≤ l.len;
+  closed : l.jobs.saved ≡ None;
+  ends : all_ended Deleted (map (λ row. row.text) (drop l.at (as_rows l.self.sets.list.current))) l.jobs.current ≡ all_ended Deleted (texts_of (as_rows l.self.sets.list.current)) l.initial.jobs.current;
+}
+
+abbrev pub decreases-loop-at : goal.decreases-loop-at
+decreases-loop-at l = l.len - l.at

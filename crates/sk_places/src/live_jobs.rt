@@ -1,0 +1,194 @@
+// The jobs that are live, and the totals of what was pushed. Memory is taken before the first edit.
+ghost use Rattle.std.specs.Prelude.{◌≡◌, ◌<◌, ◌≤◌, Some, None, true, false, IfOk, IsSome, OnErr, OnOk, length, option_map};
+ghost use Rattle.std.specs.Option.{is_some};
+ghost use Rattle.sk_undo.specs.Balance.{most};
+ghost use Rattle.sk_undo.specs.Versions.{begun, closed, committed, edited, undone};
+ghost use Rattle.sk_payload.specs.Head.{jid_of};
+ghost use Rattle.sk_places.specs.LiveJobs.{ended, is_among, job_pushed, no_jobs, one_if, pushed, without_jid};
+ghost use Rattle.sk_places.specs.Totals.{accounted, count_end, last_push, pushes_in, IsCountable, last_outside};
+
+use crate::index::jid_of;
+use crate::{Ending, Memory, Origin, Totals};
+use sk_payload::Payload;
+use sk_resp::Word;
+use sk_undo::UndoSet;
+use sk_zset::ByBytes;
+use std::alloc::Global;
+use std::marker::Model;
+
+/// The jobs that are live, and how many rows were ever pushed and what became of them. Contracts see what stands now, and what stood at the begin of
+/// an open step.
+#[derive(Drop)]
+pub struct LiveJobs {
+    alloc: Global,
+    // The ids of the jobs that are live.
+    live: UndoSet<Word>,
+    totals: Totals,
+    // What the totals were at the begin of the open step.
+    totals_then: Totals,
+}
+
+impl Model for LiveJobs {
+    ghost use Rattle.sk_undo.specs.Versions.{Versions};
+    ghost use Rattle.sk_places.specs.LiveJobs.{Lived};
+
+    ghost Value = { Versions Lived };
+
+    ghost use Rattle.sk_places.specs.LiveJobs.{AreAccounted, jobs_in};
+
+    ghost view = { λ l. jobs_in l.live.list l.totals l.totals_then };
+
+    ghost invariant = { λ l. AreAccounted (jobs_in l.live.list l.totals l.totals_then) };
+}
+
+// The job ends, if it is live.
+fn end_job(live: &mut UndoSet<Word>, totals: &mut Totals, jid: &[u8], how: Ending)
+    requires room { 0 < live.old.room }
+    requires few { accounted totals.old 0 ≤ last_push }
+    ensures live { live.new.list ≡ edited (without_jid jid.now live.old.list.current) live.old.list }
+    ensures totals { totals.new ≡ count_end how (one_if (is_among jid.now live.old.list.current)) totals.old }
+{
+    if live.remove(&ByBytes { bytes: jid }) {
+        totals.count_end(how);
+    }
+}
+
+impl LiveJobs {
+    /// No job is live, and no row was pushed. Takes no memory.
+    pub fn new(alloc: Global) -> LiveJobs
+        ensures { result ≡ closed no_jobs }
+    {
+        LiveJobs {
+            alloc,
+            live: UndoSet::new(alloc),
+            totals: Totals::none(),
+            totals_then: Totals::none(),
+        }
+    }
+
+    /// How many jobs are live.
+    pub fn len(&self) -> usize
+        ensures is { result ≡ length self.now.current.live }
+        ensures small { result ≤ most }
+    {
+        self.live.len()
+    }
+
+    /// How many rows were ever pushed, and what became of them.
+    pub fn totals(&self) -> Totals
+        ensures { result ≡ self.now.current.totals }
+    {
+        self.totals
+    }
+
+    /// How many rows were ever pushed.
+    pub fn push_count(&self) -> u64
+        ensures is { result ≡ pushes_in self.now.current.totals }
+        ensures small { result ≤ last_push }
+        ensures outside { self.now.current.totals.outside ≤ last_outside }
+    {
+        self.totals.pushes()
+    }
+
+    // A row without a job is pushed.
+    fn push_bare(&mut self, from: Origin)
+        requires { IsCountable from self.old.current.totals }
+        ensures { self.new ≡ edited (job_pushed from false None self.old.current) self.old }
+    {
+        self.totals.count_push(from);
+        self.totals.bare += 1;
+    }
+
+    // A row of a fresh job is pushed.
+    fn push_fresh(&mut self, jid: &[u8], from: Origin) -> Result<(), Memory>
+        requires { IsCountable from self.old.current.totals }
+        ensures ok { OnOk result (self.new ≡ edited (job_pushed from true (Some jid.now) self.old.current) self.old) }
+        ensures err { OnErr result (self.new ≡ self.old) }
+    {
+        let job = Word::new(jid.to_vec(self.alloc)?);
+        self.live.reserve(1)?;
+        self.totals.count_push(from);
+        self.live.insert(job);
+        Ok(())
+    }
+
+    // A row of a job that isn't fresh is pushed.
+    fn push_again(&mut self, jid: &[u8], from: Origin) -> Result<(), Memory>
+        requires { IsCountable from self.old.current.totals }
+        ensures ok { OnOk result (self.new ≡ edited (job_pushed from false (Some jid.now) self.old.current) self.old) }
+        ensures err { OnErr result (self.new ≡ self.old) }
+    {
+        self.live.reserve(1)?;
+        self.totals.count_push(from);
+        self.totals.again += 1;
+        end_job(&mut self.live, &mut self.totals, jid, Ending::Muddled);
+        Ok(())
+    }
+
+    /// A row of this payload is pushed. Its job lives from now on where it is fresh, and else is muddled. Clients push no more than 2^62 rows, and
+    /// with the store's own there are no more than 2^63.
+    pub fn push(&mut self, payload: &Payload, from: Origin, fresh: bool) -> Result<(), Memory>
+        requires { IsCountable from self.old.current.totals }
+        ensures ok { OnOk result (self.new ≡ edited (pushed from (λ jid. fresh) payload.now self.old.current) self.old) }
+        ensures err { OnErr result (self.new ≡ self.old) }
+    {
+        match jid_of(payload) {
+            None => {
+                self.push_bare(from);
+                Ok(())
+            }
+            Some(jid) if fresh => self.push_fresh(jid, from),
+            Some(jid) => self.push_again(jid, from),
+        }
+    }
+
+    /// The job of this payload ends, if it is live. Takes no memory.
+    pub fn end(&mut self, payload: &Payload, how: Ending)
+        requires { self.old.saved ≡ None }
+        ensures { self.new ≡ edited (ended how payload.now self.old.current) self.old }
+    {
+        if let Some(jid) = jid_of(payload) {
+            if self.live.take(&ByBytes { bytes: jid }) {
+                self.totals.count_end(how);
+            }
+        }
+    }
+
+    /// The same in an open step.
+    pub fn end_in_step(&mut self, payload: &Payload, how: Ending) -> Result<(), Memory>
+        ensures ok { OnOk result (self.new ≡ edited (ended how payload.now self.old.current) self.old) }
+        ensures err { OnErr result (self.new ≡ self.old) }
+    {
+        if let Some(jid) = jid_of(payload) {
+            self.live.reserve(1)?;
+            end_job(&mut self.live, &mut self.totals, jid, how);
+        }
+        Ok(())
+    }
+
+    /// Opens a step. Takes no memory.
+    pub fn begin(&mut self)
+        requires { self.old.saved ≡ None }
+        ensures { self.new ≡ begun self.old }
+    {
+        self.live.begin();
+        self.totals_then = self.totals;
+    }
+
+    /// Closes the step, and what stood at its begin stands again. Takes no memory.
+    pub fn undo(&mut self)
+        requires { IsSome self.old.saved }
+        ensures { self.new ≡ undone self.old }
+    {
+        self.live.undo();
+        self.totals = self.totals_then;
+    }
+
+    /// Closes the step, and what stands now stays. Takes no memory.
+    pub fn commit(&mut self)
+        requires { IsSome self.old.saved }
+        ensures { self.new ≡ committed self.old }
+    {
+        self.live.commit();
+    }
+}

@@ -1,0 +1,89 @@
+// Which rows of a place are to go.
+ghost use Rattle.std.specs.Prelude.{◌≡◌};
+ghost use Rattle.sk_resp.specs.WordOrder.{is_member};
+ghost use Rattle.sk_places.specs.Entries.{as_row};
+ghost use Rattle.sk_places.specs.RowLists.{listed};
+ghost use Rattle.sk_places.specs.Rows.{is_at};
+ghost use Rattle.sk_places.specs.RowFilter.{selects};
+
+use crate::row::{Place, RowKey};
+use sk_base::Score;
+use sk_payload::Payload;
+use sk_resp::{Word, Words};
+use sk_undo::Predicate;
+
+/// Which of a place's rows are to go.
+#[derive(Drop)]
+pub enum RowFilter<'a> {
+    /// Those with one of these texts.
+    Members(&'a Words),
+    /// Those with this text and the score 0.
+    Copies(&'a Word),
+}
+
+fn is_member(text: &Word, members: &Words) -> bool
+    ensures { result ≡ is_member text.now members.now }
+{
+    for member in members.list() {
+        if text.cmp(member).is_eq() {
+            return true;
+        }
+    }
+    false
+}
+
+/// Whether the row is at the place and is wanted.
+pub fn selects(place: &Place, wanted: &RowFilter, entry: &(RowKey, Payload)) -> bool
+    ensures { result ≡ selects place.now wanted.now (as_row entry.now) }
+{
+    let here = place.compare(&entry.0.place).is_eq();
+    match wanted {
+        RowFilter::Members(members) => here && is_member(entry.1.text(), members),
+        RowFilter::Copies(text) => {
+            here && 0 == entry.0.score.micros() && text.bytes() == entry.1.text().bytes()
+        }
+    }
+}
+
+/// Passes the rows of a place that are wanted.
+#[derive(Drop)]
+pub struct Selection<'a, 'b> {
+    pub place: &'a Place,
+    pub wanted: &'a RowFilter<'b>,
+}
+
+impl<'a, 'b> Predicate<(RowKey, Payload)> for Selection<'a, 'b> {
+    ghost passes = { λ t e. selects t.place.now t.wanted.now (as_row e) };
+
+    fn test(&self, entry: &(RowKey, Payload)) -> bool {
+        selects(self.place, self.wanted, entry)
+    }
+}
+
+/// Whether an item of a place's deque is wanted.
+#[tactic(auto, using(crate::proofs::Parted::at_itself))]
+pub fn picks_item(place: &Place, wanted: &RowFilter, entry: &(Score, Payload)) -> bool
+    ensures { result ≡ selects place.now wanted.now (listed place.now entry.now) }
+{
+    match wanted {
+        RowFilter::Members(members) => is_member(entry.1.text(), members),
+        RowFilter::Copies(text) => {
+            0 == entry.0.micros() && text.bytes() == entry.1.text().bytes()
+        }
+    }
+}
+
+/// Passes the items of a place's deque that are wanted.
+#[derive(Drop)]
+pub struct PickedItem<'a, 'b> {
+    pub place: &'a Place,
+    pub wanted: &'a RowFilter<'b>,
+}
+
+impl<'a, 'b> Predicate<(Score, Payload)> for PickedItem<'a, 'b> {
+    ghost passes = { λ t e. selects t.place.now t.wanted.now (listed t.place.now e) };
+
+    fn test(&self, entry: &(Score, Payload)) -> bool {
+        picks_item(self.place, self.wanted, entry)
+    }
+}

@@ -1,0 +1,4 @@
+pub mod Seated
+pub mod Counting
+pub mod Loops
+pub mod Crossing

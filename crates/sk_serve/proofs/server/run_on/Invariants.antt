@@ -1,0 +1,6 @@
+use Rattle.std.specs.List.{AllZip}
+use Rattle.sk_serve.specs.Server.{Runs}
+use Rattle.sk_serve.proofs.server.run_on.Given as goal
+
+abbrev pub invariant-loop : goal.invariant-loop
+invariant-loop g l = (goal.iterator-loop g).can_next l.iterator' × (goal.iterator-loop g).is_finite l.iterator' × AllZip Runs l.fn.loops l.loops

@@ -1,0 +1,225 @@
+// One accept loop: it serves one connection after another, each on a seat of its own, and leaves each to its ear.
+ghost use Rattle.std.specs.Prelude.{◌≡◌, ◌≢◌, ◌≤◌, ◌*◌, ◌↔◌, IfOk, IfErr, IsTrue, Err, false, true};
+ghost use Rattle.sk_base.specs.Outside.{Rose};
+ghost use Rattle.sk_serve.specs.Server.{IsUsedUp, Runs, ServesOne, SumsUp};
+ghost use Rattle.sk_desk.specs.declared.hub.HubFault.TheVariants as hub_fault;
+
+use crate::gate::{Gate, GatedDesk};
+use crate::shared::Shared;
+use crate::{SessionEnd, session};
+use sk_base::{Clock, Duplex, Failed};
+use sk_desk::{HubFault, Pass};
+use sk_edge::Ear;
+use std::marker::Model;
+use std::sync::Wait;
+use std::sync::ledger::Ledger;
+
+/// How an accept loop ended.
+#[derive(Clone, Copy, Debug, PartialEq, Eq)]
+pub enum LoopEnd {
+    /// It served as many connections as it was to, or another loop had ended.
+    Done,
+    /// A session of it ended by SHUTDOWN.
+    Shutdown,
+    /// Its ear failed.
+    Failed,
+    /// Its pass had no number left for a connection that it accepted.
+    Spent,
+    /// There was no memory for a seat.
+    Memory,
+}
+
+/// An ear, a clock, and a pass with two parts for each of its numbers. Contracts see the pass, how many numbers it had at first, how many connections
+/// were served, whether a session ended by SHUTDOWN, how the loop ended, and its ear's count of faults. What its sessions acknowledged adds up to the
+/// pass's amount.
+#[derive(Drop)]
+pub struct AcceptLoop<E: Ear, K: Clock, L: Ledger> {
+    ear: E,
+    clock: K,
+    pass: Pass<L>,
+    numbers: u32,
+    served: u32,
+    shut: bool,
+    end: LoopEnd,
+}
+
+impl<E: Ear, K: Clock, L: Ledger> Model for AcceptLoop<E, K, L> {
+    ghost use Rattle.sk_serve.specs.Server.{LoopView, IsLoop};
+
+    ghost Value = { LoopView };
+
+    ghost view = { λ l. record { pass = l.pass; numbers = l.numbers; served = l.served; shut = l.shut; end = l.end; faults = E.ear_faults l.ear } };
+
+    ghost invariant = { λ l. IsLoop l.pass l.numbers l.served l.shut l.end };
+}
+
+// Serves one connection on a new seat.
+fn serve_one<R: Wait + Sync, C: Duplex, K: Clock, L: Ledger, G: Gate>(
+    shared: &Shared<'_, R, L, G>,
+    pass: &mut Pass<L>,
+    conn: &mut C,
+    clock: &mut K,
+) -> Result<SessionEnd, HubFault>
+    ensures parts { pass.new.parts ≡ pass.old.parts }
+    ensures served { IfOk result (ServesOne pass.old pass.new) }
+    ensures fault { IfErr result (λ fault. pass.new ≡ pass.old) }
+    ensures spent { result ≡ Err hub_fault.Spent → pass.old.count ≡ 0 }
+{
+    let desk = shared.hub.seat(shared.rt, pass)?;
+    let seat = desk.number();
+    let mut gated = GatedDesk::new(desk, shared.gate, seat);
+    let end = session(shared.alloc, &mut gated, conn, clock);
+    gated.into_desk().end(pass);
+    Ok(end)
+}
+
+// Wakes each other loop. It goes on with the others where that failed.
+#[tactic(auto, using(crate::proofs::Loops::rose_from, crate::proofs::Loops::rose_on))]
+fn wake<E: Ear>(ear: &mut E, others: usize) -> Result<(), Failed>
+    ensures later { E.ear_faults ear.old ≤ E.ear_faults ear.new }
+    ensures failed { IfErr result (λ e. Rose (E.ear_faults ear.old) (E.ear_faults ear.new)) }
+{
+    let mut woken = Ok(());
+    for _other in 0..others {
+        if ear.nudge().is_err() {
+            woken = Err(Failed);
+        }
+    }
+    woken
+}
+
+// How a loop ends where there was no seat.
+fn end_at(fault: HubFault) -> LoopEnd
+    ensures spent { result ≡ LoopEnd.Spent → fault ≡ hub_fault.Spent }
+    ensures failed { result ≢ LoopEnd.Failed }
+{
+    match fault {
+        HubFault::Spent => LoopEnd::Spent,
+        HubFault::Memory => LoopEnd::Memory,
+    }
+}
+
+impl<E: Ear, K: Clock, L: Ledger> AcceptLoop<E, K, L> {
+    pub fn new(ear: E, clock: K, pass: Pass<L>, numbers: u32) -> AcceptLoop<E, K, L>
+        requires { (pass.parts ≡ 2 * numbers) × (pass.count ≡ numbers) × (pass.amount ≡ 0) }
+        ensures numbers { result.numbers ≡ numbers }
+        ensures end { result.end ≡ LoopEnd.Done }
+        ensures faults { result.faults ≡ E.ear_faults ear }
+    {
+        AcceptLoop {
+            ear,
+            clock,
+            pass,
+            numbers,
+            served: 0,
+            shut: false,
+            end: LoopEnd::Done,
+        }
+    }
+
+    // The loop ends so, and wakes the others, which are to end.
+    fn stop<R: Wait + Sync, G: Gate>(&mut self, shared: &Shared<'_, R, L, G>, end: LoopEnd)
+        requires { end ≡ LoopEnd.Spent → self.old.pass.count ≡ 0 }
+        ensures numbers { self.new.numbers ≡ self.old.numbers }
+        ensures later { self.old.faults ≤ self.new.faults }
+        ensures failed { self.new.end ≡ LoopEnd.Failed → end ≢ LoopEnd.Failed → Rose self.old.faults self.new.faults }
+    {
+        self.end = end;
+        shared.stop();
+        if wake(&mut self.ear, shared.others).is_err() {
+            self.end = LoopEnd::Failed;
+        }
+    }
+
+    // Waits for the next connection and serves it. False where the loop has ended.
+    fn step<R: Wait + Sync, G: Gate>(&mut self, shared: &Shared<'_, R, L, G>) -> bool
+        ensures { Runs self.old self.new }
+    {
+        let Ok(mut conn) = self.ear.accept() else {
+            self.stop(shared, LoopEnd::Failed);
+            return false;
+        };
+        if shared.is_stopped() {
+            self.ear.leave(conn);
+            return false;
+        }
+        let served = serve_one(shared, &mut self.pass, &mut conn, &mut self.clock);
+        self.ear.leave(conn);
+        match served {
+            Ok(SessionEnd::Shutdown) => {
+                self.served += 1;
+                self.shut = true;
+                self.stop(shared, LoopEnd::Shutdown);
+                false
+            }
+            Ok(_) => {
+                self.served += 1;
+                true
+            }
+            Err(fault) => {
+                self.stop(shared, end_at(fault));
+                false
+            }
+        }
+    }
+
+    /// Serves connections until the loop ends.
+    pub fn run<R: Wait + Sync, G: Gate>(&mut self, shared: &Shared<'_, R, L, G>)
+        ensures { Runs self.old self.new }
+    {
+        for _ in shared.rt.forever() {
+            if shared.sessions != 0 && self.has_served(shared.sessions) {
+                return;
+            }
+            if !self.step(shared) {
+                return;
+            }
+        }
+    }
+
+    pub fn is_at(&self, end: LoopEnd) -> bool
+        ensures { IsTrue result ↔ self.now.end ≡ end }
+    {
+        self.end == end
+    }
+
+    // Its pass was used up.
+    #[tactic(auto, using(crate::proofs::Loops::used_up))]
+    pub fn is_spent(&self) -> bool
+        ensures { IsTrue result → IsUsedUp self.now.numbers }
+    {
+        self.end == LoopEnd::Spent
+    }
+
+    pub fn has_served(&self, sessions: u64) -> bool
+        ensures { IsTrue result ↔ self.now.served ≡ sessions }
+    {
+        u64::from(self.served) == sessions
+    }
+
+    // No session of it ended by SHUTDOWN.
+    pub fn is_open(&self) -> bool
+        ensures { IsTrue result ↔ self.now.shut ≡ false }
+    {
+        !self.shut
+    }
+
+    /// The ear, the pass, how many connections were served, and whether a session ended by SHUTDOWN.
+    pub fn into_parts(self) -> (E, Pass<L>, u32, bool)
+        ensures parts { result.1.parts ≡ 2 * self.numbers }
+        ensures sums { SumsUp result.2 result.1.amount result.3 }
+        ensures counts { (result.2 ≡ self.served) × (result.3 ≡ self.shut) }
+        ensures faults { E.ear_faults result.0 ≡ self.faults }
+    {
+        let AcceptLoop {
+            ear,
+            clock: _,
+            pass,
+            numbers: _,
+            served,
+            shut,
+            end: _,
+        } = self;
+        (ear, pass, served, shut)
+    }
+}

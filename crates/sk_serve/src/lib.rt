@@ -1,0 +1,16 @@
+//! Sessions over any desk and any connection, and servers of them over any door.
+#![tactic(auto)]
+
+mod accept_loop;
+mod driver;
+mod gate;
+mod serve_end;
+mod server;
+mod shared;
+mod sitting;
+
+pub use driver::session;
+pub use gate::{Gate, OpenGate};
+pub use serve_end::{ServeEnd, Served};
+pub use server::serve;
+pub use sk_talk::TalkEnd as SessionEnd;

@@ -1,0 +1,277 @@
+// A server: accept loops in threads over one store, each with an ear, a clock and a pass of its own. Once they have ended their passes are joined, the
+// ears go back to the door, and the store is closed.
+ghost use Rattle.std.specs.Prelude.{◌≡◌, ◌+◌, ◌-◌, ◌*◌, ◌/◌, ◌<◌, ◌≤◌, ◌^◌, ◌||◌, ℕ, IfOk, OnOk, Some, Err, true, false, length, map, reverse, vec_len, vec_capacity, All};
+ghost use Rattle.std.specs.List.{AllZip, Any};
+ghost use Rattle.sk_serve.specs.Ending.{IfServed};
+ghost use Rattle.sk_serve.specs.Server.{AddsUp, HasFailed, IsFresh, IsServed, IsSettled, IsUsedUp, Runs, SomeRose};
+
+use crate::accept_loop::{AcceptLoop, LoopEnd};
+use crate::gate::Gate;
+use crate::serve_end::{ServeEnd, ServeFault, Served};
+use crate::shared::Shared;
+use sk_base::Clock;
+use sk_base::limits::MOST_LOOPS_SERVED;
+use sk_desk::{Hub, NoBook, Pass};
+use sk_edge::{Door, DoorFault, Ear};
+use sk_model::Limits;
+use std::alloc::Global;
+use std::marker::Brand;
+use std::sync::Wait;
+use std::sync::ledger::{Blank, Ledger};
+use std::thread;
+use std::thread::Threads;
+
+/// How many parts the ledger of a server has.
+const PARTS: u64 = 1 << 34;
+
+// A loop for each ear, with as many seat numbers each. They stand the other way round.
+fn loops_for<E: Ear, K: Clock, L: Ledger>(
+    ears: &mut Vec<E>,
+    loops: &mut Vec<AcceptLoop<E, K, L>>,
+    clock: &K,
+    pass: &mut Pass<L>,
+    numbers: u32,
+)
+    requires some { 0 < numbers }
+    requires few { numbers * vec_len ears.old < pass.old.count }
+    requires room { (vec_len loops.old ≡ 0) × (vec_len ears.old ≤ vec_capacity loops.old) }
+    ensures len { vec_len loops.new ≡ vec_len ears.old }
+    ensures fresh { All (IsFresh numbers) loops.new.items }
+    ensures amount { pass.new.amount ≡ pass.old.amount }
+    ensures parts { pass.new.parts + 2 * (numbers * vec_len ears.old) ≡ pass.old.parts }
+    ensures faults { map (λ it. it.faults) loops.new.items ≡ reverse (map E.ear_faults ears.old.items) }
+    ensures ears { (vec_len ears.new ≡ 0) × (vec_capacity ears.new ≡ vec_capacity ears.old) }
+{
+    while let Some(ear) = ears.pop() {
+        let own = pass.split(numbers);
+        loops.push_reserved(AcceptLoop::new(ear, clock.twin(), own, numbers));
+    }
+}
+
+fn either(a: bool, b: bool) -> bool
+    ensures { result ≡ (a || b) }
+{
+    a || b
+}
+
+// Takes the ears and the passes back, and counts the sessions. The ears stand as they stood at first.
+fn gather<E: Ear, K: Clock, L: Ledger>(
+    mut loops: Vec<AcceptLoop<E, K, L>>,
+    ears: &mut Vec<E>,
+    pass: &mut Pass<L>,
+) -> (u64, bool)
+    requires few { vec_len loops ≤ MOST_LOOPS_SERVED }
+    requires room { (vec_len ears.old ≡ 0) × (vec_len loops ≤ vec_capacity ears.old) }
+    ensures parts { (n : ℕ) → All (λ it. it.numbers ≡ n) loops.items → pass.new.parts ≡ pass.old.parts + 2 * (n * vec_len loops) }
+    ensures sums { AddsUp result.0 pass.old.amount pass.new.amount result.1 }
+    ensures full { (n : ℕ) → All (λ it. it.served ≡ n) loops.items → result.0 ≡ n * vec_len loops }
+    ensures faults { map E.ear_faults ears.new.items ≡ reverse (map (λ it. it.faults) loops.items) }
+    ensures quiet { result.1 ≡ false → All (λ it. it.shut ≡ false) loops.items }
+{
+    let mut sessions: u64 = 0;
+    let mut shut = false;
+    while let Some(it) = loops.pop() {
+        let (ear, own, served, ended) = it.into_parts();
+        ears.push_reserved(ear);
+        sessions += u64::from(served);
+        shut = either(shut, ended);
+        pass.join(own);
+    }
+    (sessions, shut)
+}
+
+// The loops in so many threads. In one thread they run one after another, and no further thread is started.
+fn run_all<
+    R: Threads + Wait + Sync,
+    E: Ear + Send,
+    K: Clock + Send,
+    L: Ledger + Send + Sync,
+    G: Gate + Sync,
+>(shared: &Shared<'_, R, L, G>, threads: usize, loops: &mut [AcceptLoop<E, K, L>])
+    requires { 0 < threads }
+    ensures { AllZip Runs loops.old loops.new }
+{
+    shared.resume();
+    thread::for_each_mut(
+        shared.rt,
+        loops,
+        threads,
+        &|_: usize, it: &mut AcceptLoop<E, K, L>|
+            ensures { Runs it.old it.new }
+        { it.run(shared) },
+    );
+}
+
+fn some_failed<E: Ear, K: Clock, L: Ledger>(loops: &[AcceptLoop<E, K, L>]) -> bool
+    ensures { result ≡ true → Any (λ it. it.end ≡ LoopEnd.Failed) loops.now }
+{
+    loops.iter().any(|it| it.is_at(LoopEnd::Failed))
+}
+
+fn some_spent<E: Ear, K: Clock, L: Ledger>(loops: &[AcceptLoop<E, K, L>]) -> bool
+    ensures { result ≡ true → Any (λ it. IsUsedUp it.numbers) loops.now }
+{
+    loops.iter().any(|it| it.is_spent())
+}
+
+// The loops' gravest fault.
+fn fault_of<E: Ear, K: Clock, L: Ledger>(loops: &[AcceptLoop<E, K, L>]) -> Option<ServeFault>
+    ensures failed { result ≡ Some ServeFault.Failed → Any (λ it. it.end ≡ LoopEnd.Failed) loops.now }
+    ensures spent { result ≡ Some ServeFault.Spent → Any (λ it. IsUsedUp it.numbers) loops.now }
+{
+    if some_failed(loops) {
+        return Some(ServeFault::Failed);
+    }
+    if some_spent(loops) {
+        return Some(ServeFault::Spent);
+    }
+    if loops.iter().any(|it| it.is_at(LoopEnd::Memory)) {
+        return Some(ServeFault::Memory);
+    }
+    None
+}
+
+fn have_served<E: Ear, K: Clock, L: Ledger>(loops: &[AcceptLoop<E, K, L>], sessions: u64) -> bool
+    ensures { result ≡ true → All (λ it. it.served ≡ sessions) loops.now }
+{
+    loops.iter().all(|it| it.has_served(sessions))
+}
+
+fn are_open<E: Ear, K: Clock, L: Ledger>(loops: &[AcceptLoop<E, K, L>]) -> bool
+    ensures { All (λ it. it.shut ≡ false) loops.now → result ≡ true }
+{
+    loops.iter().all(|it| it.is_open())
+}
+
+// A session ended by SHUTDOWN, or there is a bound, and each loop served as many.
+fn is_settled<E: Ear, K: Clock, L: Ledger>(loops: &[AcceptLoop<E, K, L>], sessions: u64) -> bool
+    ensures { result ≡ true → IsSettled sessions loops.now }
+{
+    if sessions != 0 && have_served(loops, sessions) {
+        return true;
+    }
+    !are_open(loops)
+}
+
+// Runs the loops in threads, and then, as long as there is no cause to end, one after another.
+fn run_on<
+    R: Threads + Wait + Sync,
+    E: Ear + Send,
+    K: Clock + Send,
+    L: Ledger + Send + Sync,
+    G: Gate + Sync,
+>(
+    shared: &Shared<'_, R, L, G>,
+    threads: usize,
+    loops: &mut [AcceptLoop<E, K, L>],
+) -> Result<(), ServeFault>
+    requires { 0 < threads }
+    ensures ran { AllZip Runs loops.old loops.new }
+    ensures settled { OnOk result (IsSettled shared.now.sessions loops.new) }
+    ensures failed { result ≡ Err ServeFault.Failed → Any (λ it. it.end ≡ LoopEnd.Failed) loops.new }
+    ensures spent { result ≡ Err ServeFault.Spent → Any (λ it. IsUsedUp it.numbers) loops.new }
+{
+    run_all(shared, threads, loops);
+    for _ in shared.rt.forever() {
+        if let Some(fault) = fault_of(loops) {
+            return Err(fault);
+        }
+        if is_settled(loops, shared.sessions) {
+            return Ok(());
+        }
+        run_all(shared, 1, loops);
+    }
+    unreachable!()
+}
+
+// Serves over these ears, and has them back at the end. The ledger is that of `L`.
+fn serve_on<
+    L: Ledger + Send + Sync,
+    R: Threads + Wait + Sync,
+    E: Ear + Send,
+    K: Clock + Send,
+    G: Gate + Sync,
+>(
+    rt: &R,
+    alloc: Global,
+    blank: Blank,
+    ears: &mut Vec<E>,
+    sessions: u64,
+    limits: Limits,
+    clock: &K,
+    gate: &G,
+) -> Result<Served, ServeFault>
+    requires blank { (blank.name ≡ L.name) × (blank.parts ≡ L.parts) × (blank.parts ≡ 2 ^ 34) }
+    requires ears { (0 < vec_len ears.old) × (vec_len ears.old ≤ MOST_LOOPS_SERVED) }
+    ensures served { IfOk result (IsServed sessions (vec_len ears.old)) }
+    ensures failed { result ≡ Err ServeFault.Failed → SomeRose (map E.ear_faults ears.old.items) (map E.ear_faults ears.new.items) }
+    ensures spent { result ≡ Err ServeFault.Spent → IsUsedUp ((2 ^ 32 - 2) / vec_len ears.old) }
+{
+    let count = ears.len();
+    let Ok(mut loops) = Vec::with_capacity(alloc, count) else {
+        return Err(ServeFault::Memory);
+    };
+    let numbers = (u32::MAX - 1) / count as u32;
+    let (hub, mut pass) = Hub::<L, NoBook>::new(alloc, blank, limits, NoBook);
+    loops_for(ears, &mut loops, clock, &mut pass, numbers);
+    let ended = run_on(
+        &Shared::new(rt, alloc, &hub, gate, count - 1, sessions),
+        count,
+        loops.as_mut_slice(),
+    );
+    let (served, _) = gather(loops, ears, &mut pass);
+    if let Err(fault) = ended {
+        hub.abandon();
+        return Err(fault);
+    }
+    let (acknowledged, tally) = hub.close().finish(&mut pass);
+    Ok(Served {
+        sessions: served,
+        acknowledged,
+        tally,
+    })
+}
+
+/// Serves connections at the port, by so many accept loops, 1 to 64, each in a thread. Each serves one connection after another, on a new seat of one
+/// store with these limits, and ends after `sessions` connections, where that isn't 0, or once a session of any of them ended by SHUTDOWN. What the
+/// sessions' replies acknowledged is what the store counts as pushed from outside.
+pub fn serve<R: Threads + Wait + Sync, N: Door, K: Clock + Send, G: Gate + Sync>(
+    rt: &R,
+    alloc: Global,
+    door: &mut N,
+    port: u16,
+    loops: usize,
+    sessions: u64,
+    limits: Limits,
+    clock: &K,
+    gate: &G,
+) -> ServeEnd
+where
+    N::Ear: Send,
+    requires { (0 < loops) × (loops ≤ MOST_LOOPS_SERVED) }
+    ensures served { IfServed result (IsServed sessions loops) }
+    ensures failed { result ≡ ServeEnd.Failed → HasFailed N.door_faults N.gathered N.Ear.ear_faults loops door.old door.new }
+    ensures spent { result ≡ ServeEnd.Spent → IsUsedUp ((2 ^ 32 - 2) / loops) }
+    ensures later { N.door_faults door.old ≤ N.door_faults door.new }
+{
+    let mut ears = match door.listen(port, loops) {
+        Ok(ears) => ears,
+        Err(DoorFault::Failed) => return ServeEnd::Failed,
+        Err(DoorFault::Memory) => return ServeEnd::Memory,
+    };
+    let served = serve_on::<Brand, R, N::Ear, K, G>(
+        rt,
+        alloc,
+        Blank::new(PARTS),
+        &mut ears,
+        sessions,
+        limits,
+        clock,
+        gate,
+    );
+    door.gather(ears);
+    match served {
+        Ok(served) => ServeEnd::Served(served),
+        Err(fault) => ServeEnd::from(fault),
+    }
+}
