@@ -97,6 +97,9 @@ pub const LAST_COUNT: u64 = (1 << 63) - 1;
 /// The most jobs that one `SK.DUE` takes.
 pub const MOST_DUE: i64 = 1_000;
 
+/// The most due jobs that a poller takes of a set in one turn. The store does one command at a time, and so much of it holds nobody up.
+pub const DUE_A_TURN: u64 = 100;
+
 // ## Places of jobs
 
 /// The most rows in all places together, whatever limit a program sets: as many as the lists have that keep them.

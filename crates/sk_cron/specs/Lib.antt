@@ -1,6 +1,7 @@
 pub mod Civil
 pub mod CronText
 pub mod Fault
+pub mod Offset
 pub mod Read
 pub mod Reading
 pub mod Slot

@@ -1,8 +1,9 @@
 // The fields of a civil minute, and which minute it is at a moment.
-ghost use Rattle.std.specs.Prelude.{◌≡◌, ◌≤◌, ◌+ℤ◌, ◌*ℤ◌, negsuc, pos};
-ghost use Rattle.jiff.specs.Words.{IsBetween, civil_nanos};
+ghost use Rattle.std.specs.Prelude.{◌≡◌, ◌≤◌, ◌+ℤ◌, ◌*ℤ◌, pos};
+ghost use Rattle.jiff.specs.Words.{civil_nanos};
 ghost use Rattle.sk_base.specs.Score.{last_moment};
 ghost use Rattle.sk_cron.specs.Civil.{IsCivilAt};
+ghost use Rattle.sk_cron.specs.Offset.{IsOffset};
 
 use jiff::Timestamp;
 use jiff::civil::DateTime;
@@ -26,7 +27,7 @@ pub struct Civil {
 // What a clock shows that is so many minutes ahead of UTC.
 fn shown(moment: u64, offset: i32) -> DateTime
     requires moment { moment ≤ last_moment }
-    requires offset { IsBetween (negsuc 1438) (pos 1439) offset }
+    requires offset { IsOffset offset }
     ensures { civil_nanos result ≡ (pos moment +ℤ offset *ℤ pos 60_000) *ℤ pos 1_000_000 }
 {
     let at = Timestamp::from_millisecond(moment as i64).unwrap();
@@ -36,7 +37,7 @@ fn shown(moment: u64, offset: i32) -> DateTime
 /// The minute that such a clock shows.
 pub fn civil_at(moment: u64, offset: i32) -> Civil
     requires moment { moment ≤ last_moment }
-    requires offset { IsBetween (negsuc 1438) (pos 1439) offset }
+    requires offset { IsOffset offset }
     ensures { IsCivilAt moment offset result }
 {
     let shown = shown(moment, offset);

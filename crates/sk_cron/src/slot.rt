@@ -1,6 +1,6 @@
 // The latest slot of a periodic job: the start of a minute that matches.
-ghost use Rattle.std.specs.Prelude.{◌≡◌, ◌≤◌, ◌-◌, ◌%◌, min, negsuc, pos};
-ghost use Rattle.jiff.specs.Words.{IsBetween};
+ghost use Rattle.std.specs.Prelude.{◌≡◌, ◌≤◌, ◌-◌, ◌%◌, min};
+ghost use Rattle.sk_cron.specs.Offset.{IsOffset};
 ghost use Rattle.sk_base.specs.Score.{last_moment};
 ghost use Rattle.sk_cron.specs.Slot.{IsLastSlot};
 
@@ -15,7 +15,7 @@ impl Cron {
     // The latest slot of a moment that the calendar has.
     fn slot_before(&self, now: u64, offset: i32) -> Option<u64>
         requires early { now ≤ last_moment }
-        requires offset { IsBetween (negsuc 1438) (pos 1439) offset }
+        requires offset { IsOffset offset }
         ensures { IsLastSlot self.now offset now result }
     {
         let mut slot = now - now % MINUTE;
@@ -34,7 +34,7 @@ impl Cron {
     /// The latest start of a matching minute that is at most `now`, and at most ten minutes before it, as a clock shows it that is `offset` minutes
     /// ahead of UTC; None where there is none. Moments are milliseconds since 1970, and one past the year 9998 counts as its end. Takes no memory.
     pub fn last_slot(&self, now: u64, offset: i32) -> Option<u64>
-        requires { IsBetween (negsuc 1438) (pos 1439) offset }
+        requires { IsOffset offset }
         ensures { IsLastSlot self.now offset (min now last_moment) result }
     {
         self.slot_before(now.min(LAST_MOMENT), offset)

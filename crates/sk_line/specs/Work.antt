@@ -1,6 +1,6 @@
 -- The command line of `work`.
 use Rattle.std.specs.Prelude.{◌≡◌, ◌^◌, ◌-◌, ◌==◌, ◌&&◌, ℕ, ℤ, pos, Bool, true, false, List, [], length, take, get_or, map, unwrap_or, nat_lt, codes, ◌-ℤ◌, if◌then◌else◌}
-use Rattle.sk_base.specs.declared.limits.TheConstants.{LAST_OFFSET, LONGEST_NAME, MOST_PREFETCH, MOST_WEIGHT}
+use Rattle.sk_base.specs.declared.limits.TheConstants.{LAST_OFFSET, LONGEST_NAME, MOST_PREFETCH, MOST_WEIGHT, OFFSET_UTC}
 use Rattle.std.specs.Bool.{MatchBool}
 use Rattle.std.specs.List.{AllZip, join_by, list_all, slice_split}
 use Rattle.std.specs.Char.{is_ascii_digit}
@@ -100,11 +100,11 @@ words_in rows name = unwrap_or (all_of name rows) []
 
 -- ## The clock
 
--- minutes ahead of UTC, written with 1,439 more
-pub record IsOffset (text : Text) (value : ℤ) : Type 0 where
+-- minutes ahead of UTC, written with as many more as the greatest offset has
+pub record IsOffsetText (text : Text) (value : ℤ) : Type 0 where
   pub minutes : ℕ
   pub is : IsNumber 0 LAST_OFFSET text minutes
-  pub ahead : value ≡ pos minutes -ℤ pos 1439
+  pub ahead : value ≡ pos minutes -ℤ OFFSET_UTC
 
 -- ## The line
 
@@ -121,7 +121,7 @@ pub record IsWorkValues (teams : ℕ) (rows : List Row) (line : WorkLine) : Type
   pub order : IsOrderLine rows line.order
   pub threads : Has (IsNumber 1 teams) rows (codes "threads") line.threads
   pub turns : Has (IsNumber 0 (2 ^ 32 - 1)) rows (codes "turns") line.turns
-  pub offset : Has IsOffset rows (codes "offset") line.offset
+  pub offset : Has IsOffsetText rows (codes "offset") line.offset
   pub prefetch : Has (IsNumber 1 MOST_PREFETCH) rows (codes "prefetch") line.prefetch
   pub loops : AllZip IsLoop (words_in rows (codes "CRON")) line.loops.items
 

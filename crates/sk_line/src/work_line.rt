@@ -4,7 +4,7 @@ ghost use Rattle.std.specs.Prelude.{◌≡◌, ◌≤◌, IfOk, codes, map, stri
 ghost use Rattle.clap.specs.Words.{app_of, found_of, rows_of};
 ghost use Rattle.sk_line.specs.Lines.{Reads};
 ghost use Rattle.sk_line.specs.Values.{Has};
-ghost use Rattle.sk_line.specs.Work.{IsOffset, IsWork, IsWorkValues, work_app};
+ghost use Rattle.sk_line.specs.Work.{IsOffsetText, IsWork, IsWorkValues, work_app};
 
 use crate::address::{address_of, addressed};
 use crate::cron_words::loops_of;
@@ -59,7 +59,7 @@ pub fn work_command<'a>(alloc: Global) -> Result<Command<'a>, AllocError>
 
 // How far the clock is ahead of UTC: the option is 0 for -1,439 minutes, and 1,439 for UTC.
 fn offset_of(matches: &ArgMatches<'_>) -> Result<i32, LineFault>
-    ensures { Reads (Has IsOffset (rows_of (found_of matches.now)) (codes "offset")) result }
+    ensures { Reads (Has IsOffsetText (rows_of (found_of matches.now)) (codes "offset")) result }
 {
     let minutes = number_of(matches, "offset", 0, LAST_OFFSET as u32)?;
     Ok(minutes as i32 - OFFSET_UTC)

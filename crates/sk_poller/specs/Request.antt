@@ -1,6 +1,7 @@
 -- The words of a poller's requests.
 use Rattle.std.specs.Prelude.{ℕ, List, [], ◌∷◌, codes}
 use Rattle.std.specs.Fmt.{decimal}
+use Rattle.sk_base.specs.declared.limits.TheConstants.{DUE_A_TURN}
 use Rattle.sk_resp.specs.Spelling.{Bytes}
 use Rattle.sk_client.specs.Jid.{jid_of_words}
 use Rattle.sk_payload.specs.Draft.{draft_text}
@@ -11,9 +12,9 @@ use Rattle.sk_poller.specs.declared.poller.Loop.{Loop}
 abbrev pub beat_words : Bytes → List Bytes
 beat_words ident = codes "SK.BEAT" ∷ ident ∷ []
 
--- at most 100 due jobs of this set
+-- the due jobs of this set, at most so many
 abbrev pub due_words : Bytes → List Bytes
-due_words set = codes "SK.DUE" ∷ set ∷ codes "100" ∷ []
+due_words set = codes "SK.DUE" ∷ set ∷ decimal DUE_A_TURN ∷ []
 
 abbrev pub rescue_words : List Bytes
 rescue_words = codes "SK.RESCUE" ∷ []

@@ -1,7 +1,7 @@
 // The periodic jobs of a turn.
-ghost use Rattle.std.specs.Prelude.{◌≡◌, ◌≤◌, ◌<◌, ◌+◌, ◌^◌, [], ℕ, List, OnOk, IfOk, length, min, negsuc, pos, true};
+ghost use Rattle.std.specs.Prelude.{◌≡◌, ◌≤◌, ◌<◌, ◌+◌, ◌^◌, [], ℕ, List, OnOk, IfOk, length, min, true};
 ghost use Rattle.std.specs.List.{list_all};
-ghost use Rattle.jiff.specs.Words.{IsBetween};
+ghost use Rattle.sk_cron.specs.Offset.{IsOffset};
 ghost use Rattle.sk_base.specs.Yields.{YieldsAll};
 ghost use Rattle.sk_link.specs.Fault.{IsCause};
 ghost use Rattle.sk_link.specs.Walk.{GoesOn};
@@ -66,7 +66,7 @@ pub(crate) fn push_loops<L: Link, D: Dice>(
     n: PollReport,
 ) -> Result<PollReport, PollFault>
     requires named { list_all is_loop loops.now ≡ true }
-    requires offset { IsBetween (negsuc 1438) (pos 1439) offset }
+    requires offset { IsOffset offset }
     requires room { n.pushed + length loops.now < 2 ^ 64 }
     ensures { (w : Watch) → w.ident ≡ ident.now → w.offset ≡ offset → (events : List Event)
         × Parts (λ cs. L.carried link.old link.new cs) (λ ms. ms ≡ []) (λ ws. YieldsAll (D.words dice.old) ws (D.words dice.new)) events

@@ -1,7 +1,7 @@
 // A poller: the process, its periodic jobs, and how far its clock is ahead of UTC.
-ghost use Rattle.std.specs.Prelude.{◌≡◌, List, negsuc, pos, true};
+ghost use Rattle.std.specs.Prelude.{◌≡◌, List, true};
 ghost use Rattle.std.specs.List.{list_all};
-ghost use Rattle.jiff.specs.Words.{IsBetween};
+ghost use Rattle.sk_cron.specs.Offset.{IsOffset};
 ghost use Rattle.sk_poller.specs.Loop.{is_loop};
 
 use crate::turn::take_turn;
@@ -35,13 +35,13 @@ pub struct Poller {
     /// How many minutes the clock that crons go by is ahead of UTC.
     pub offset: i32,
     ghost named: { list_all is_loop loops.items ≡ true },
-    ghost in_range: { IsBetween (negsuc 1438) (pos 1439) offset },
+    ghost in_range: { IsOffset offset },
 }
 
 impl Poller {
-    ghost use Rattle.std.specs.Prelude.{◌≡◌, List, ℕ, negsuc, pos, true};
+    ghost use Rattle.std.specs.Prelude.{◌≡◌, List, ℕ, true};
     ghost use Rattle.std.specs.List.{list_all};
-    ghost use Rattle.jiff.specs.Words.{IsBetween};
+    ghost use Rattle.sk_cron.specs.Offset.{IsOffset};
     ghost use Rattle.sk_base.specs.Yields.{YieldsAll};
     ghost use Rattle.sk_link.specs.Fault.{IsCause};
     ghost use Rattle.sk_poller.specs.Event.{Event};
@@ -51,7 +51,7 @@ impl Poller {
     /// A poller of these periodic jobs. The offset is in minutes. Takes no memory.
     pub fn new(ident: Text, loops: Vec<Loop>, offset: i32) -> Poller
         requires named { list_all is_loop loops.items ≡ true }
-        requires offset { IsBetween (negsuc 1438) (pos 1439) offset }
+        requires offset { IsOffset offset }
         ensures ident { result.ident ≡ ident }
         ensures loops { result.loops.items ≡ loops.items }
         ensures offset { result.offset ≡ offset }

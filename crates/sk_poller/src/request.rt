@@ -8,6 +8,7 @@ ghost use Rattle.sk_poller.specs.Request.{beat_words, due_words, lead_words, res
 ghost use Rattle.sk_base.specs.declared.limits.TheConstants.{LONGEST_ID};
 
 use crate::{Loop, Memory};
+use sk_base::limits::DUE_A_TURN;
 use sk_link::words_of;
 use sk_payload::{Args, DraftFault, JobDraft, Payload, Retry};
 use sk_resp::{Text, Words};
@@ -26,11 +27,12 @@ pub(crate) fn beat_request(alloc: Global, ident: &Text) -> Result<Words, Memory>
     request(alloc, &[b"SK.BEAT", ident.text().as_bytes()])
 }
 
-/// `SK.DUE set 100`
+/// `SK.DUE set count`
 pub(crate) fn due_request(alloc: Global, set: &[u8]) -> Result<Words, Memory>
     ensures { IfOk result (λ words. words ≡ due_words set.now) }
 {
-    request(alloc, &[b"SK.DUE", set, b"100"])
+    let count = DUE_A_TURN.to_string(alloc)?;
+    request(alloc, &[b"SK.DUE", set, count.as_bytes()])
 }
 
 /// `SK.RESCUE`

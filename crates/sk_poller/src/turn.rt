@@ -1,7 +1,7 @@
 // The requests of a turn, one after another. Each function asks once and hands on to the next.
-ghost use Rattle.std.specs.Prelude.{◌≡◌, ◌≤◌, ◌+◌, ◌^◌, [], ℕ, List, negsuc, pos, true};
+ghost use Rattle.std.specs.Prelude.{◌≡◌, ◌≤◌, ◌+◌, ◌^◌, [], ℕ, List, true};
 ghost use Rattle.std.specs.List.{list_all};
-ghost use Rattle.jiff.specs.Words.{IsBetween};
+ghost use Rattle.sk_cron.specs.Offset.{IsOffset};
 ghost use Rattle.sk_base.specs.Yields.{YieldsAll};
 ghost use Rattle.sk_link.specs.Fault.{IsCause};
 ghost use Rattle.sk_poller.specs.Event.{Event};
@@ -29,7 +29,7 @@ fn lead<L: Link, D: Dice>(
     n: PollReport,
 ) -> Result<PollReport, PollFault>
     requires named { list_all is_loop loops.now ≡ true }
-    requires offset { IsBetween (negsuc 1438) (pos 1439) offset }
+    requires offset { IsOffset offset }
     requires none { n.pushed ≡ 0 }
     ensures { (w : Watch) → w.ident ≡ ident.now → w.loops ≡ loops.now → w.offset ≡ offset → (events : List Event)
         × Parts (λ cs. L.carried link.old link.new cs) (λ ms. ms ≡ []) (λ ws. YieldsAll (D.words dice.old) ws (D.words dice.new)) events
@@ -63,7 +63,7 @@ fn rescue<L: Link, D: Dice>(
     n: PollReport,
 ) -> Result<PollReport, PollFault>
     requires named { list_all is_loop loops.now ≡ true }
-    requires offset { IsBetween (negsuc 1438) (pos 1439) offset }
+    requires offset { IsOffset offset }
     requires few { n.buried ≤ 2 ^ 63 }
     requires none { (n.rescued ≡ 0) × (n.pushed ≡ 0) }
     ensures { (w : Watch) → w.ident ≡ ident.now → w.loops ≡ loops.now → w.offset ≡ offset → (events : List Event)
@@ -99,7 +99,7 @@ fn retries<L: Link, D: Dice>(
     n: PollReport,
 ) -> Result<PollReport, PollFault>
     requires named { list_all is_loop loops.now ≡ true }
-    requires offset { IsBetween (negsuc 1438) (pos 1439) offset }
+    requires offset { IsOffset offset }
     requires promoted { n.promoted ≤ 2 ^ 62 }
     requires buried { n.buried ≤ 2 ^ 62 }
     requires none { (n.rescued ≡ 0) × (n.pushed ≡ 0) }
@@ -136,7 +136,7 @@ fn scheduled<L: Link, D: Dice>(
     n: PollReport,
 ) -> Result<PollReport, PollFault>
     requires named { list_all is_loop loops.now ≡ true }
-    requires offset { IsBetween (negsuc 1438) (pos 1439) offset }
+    requires offset { IsOffset offset }
     requires none { n ≡ nothing }
     ensures { (w : Watch) → w.ident ≡ ident.now → w.loops ≡ loops.now → w.offset ≡ offset → (events : List Event)
         × Parts (λ cs. L.carried link.old link.new cs) (λ ms. ms ≡ []) (λ ws. YieldsAll (D.words dice.old) ws (D.words dice.new)) events
@@ -170,7 +170,7 @@ fn beat<L: Link, D: Dice>(
     now: u64,
 ) -> Result<PollReport, PollFault>
     requires named { list_all is_loop loops.now ≡ true }
-    requires offset { IsBetween (negsuc 1438) (pos 1439) offset }
+    requires offset { IsOffset offset }
     ensures { (w : Watch) → w.ident ≡ ident.now → w.loops ≡ loops.now → w.offset ≡ offset → (events : List Event)
         × Parts (λ cs. L.carried link.old link.new cs) (λ ms. ms ≡ []) (λ ws. YieldsAll (D.words dice.old) ws (D.words dice.new)) events
         × PollTranscript (IsCause (L.faults link.old) (L.faults link.new) (L.has_ended link.old) (L.unread link.new))
@@ -204,7 +204,7 @@ pub(crate) fn take_turn<L: Link, C: Clock, D: Dice>(
     offset: i32,
 ) -> Result<PollReport, PollFault>
     requires named { list_all is_loop loops.now ≡ true }
-    requires offset { IsBetween (negsuc 1438) (pos 1439) offset }
+    requires offset { IsOffset offset }
     ensures { (w : Watch) → w.ident ≡ ident.now → w.loops ≡ loops.now → w.offset ≡ offset → (events : List Event)
         × Parts (λ cs. L.carried link.old link.new cs) (λ ms. YieldsAll (C.moments clock.old) ms (C.moments clock.new))
         (λ ws. YieldsAll (D.words dice.old) ws (D.words dice.new)) events

@@ -1,6 +1,6 @@
 // When cron texts match: the latest slot of a moment at an offset, a line each.
-ghost use Rattle.std.specs.Prelude.{IfOk, negsuc, pos};
-ghost use Rattle.jiff.specs.Words.{IsBetween};
+ghost use Rattle.std.specs.Prelude.{IfOk};
+ghost use Rattle.sk_cron.specs.Offset.{IsOffset};
 
 use crate::text::{invalid, text_of};
 use sk_base::limits::OFFSET_UTC;
@@ -10,7 +10,7 @@ use std::io;
 
 // The offset, in minutes ahead of UTC.
 fn offset(word: &str) -> io::Result<i32>
-    ensures { IfOk result (λ minutes. IsBetween (negsuc 1438) (pos 1439) minutes) }
+    ensures { IfOk result (λ minutes. IsOffset minutes) }
 {
     match word.parse::<i32>() {
         Ok(minutes) if -OFFSET_UTC <= minutes && minutes <= OFFSET_UTC => Ok(minutes),
