@@ -1,7 +1,7 @@
 #!/usr/bin/env python3
 """The cycle of a job over connections: sidekiq's server beside a Redis 7, in one run.
 
-    cycles.py [--jobs N] [--seconds S]
+    cycles.py [--jobs N]
 
 Two cycles, over 1, 4 and 16 connections, each client waiting for each reply:
 
@@ -13,38 +13,12 @@ redis-server, and the program, which bin/sidekiq builds.
 """
 import argparse
 import multiprocessing
-import os
-import socket
 import subprocess
 import time
-from pathlib import Path
 
-TOP = Path(__file__).resolve().parent.parent
-HOST = '127.0.0.1'
+from client import PROGRAM, Client, job
+
 OURS, REDIS = 7422, 7423
-
-
-def command(*words):
-    return b'*%d\r\n' % len(words) + b''.join(b'$%d\r\n%s\r\n' % (len(it), it) for it in words)
-
-
-def job(number):
-    return b'{"args":[1],"class":"Note","created_at":1700000000000,"jid":"%024d","queue":"default","retry":true}' % number
-
-
-class Client:
-    def __init__(self, port):
-        self.socket = socket.create_connection((HOST, port))
-        self.socket.setsockopt(socket.IPPROTO_TCP, socket.TCP_NODELAY, 1)
-        self.file = self.socket.makefile('rb')
-
-    def ask(self, *words):
-        """The reply: a line, or the text of a bulk string."""
-        self.socket.sendall(command(*words))
-        line = self.file.readline()
-        if line[:1] != b'$' or line == b'$-1\r\n':
-            return line
-        return self.file.read(int(line[1:]) + 2)[:-2]
 
 
 def moves(client, seat, count):
@@ -65,8 +39,8 @@ def jobs(client, seat, count):
 
 def joined(port, seat):
     client = Client(port)
-    assert client.ask(b'SK.BEAT', b'w%d' % seat) == b'+OK\r\n'
-    assert client.ask(b'SK.JOIN', b'w%d' % seat) == b'+OK\r\n'
+    assert client.ask(b'SK.BEAT', b'w%d' % seat) == b'+OK'
+    assert client.ask(b'SK.JOIN', b'w%d' % seat) == b'+OK'
     return client
 
 
@@ -79,8 +53,7 @@ def work(cycle, port, seat, count, joins, gate):
 def fill(port, count):
     client = Client(port)
     client.ask(b'FLUSHALL')
-    for at in range(0, count, 1000):
-        client.ask(b'LPUSH', b'queue:default', *(job(n) for n in range(at, min(at + 1000, count))))
+    client.fill([job(number) for number in range(count)])
 
 
 def rate(cycle, port, clients, count, joins):
@@ -95,23 +68,13 @@ def rate(cycle, port, clients, count, joins):
     return clients * count / (time.perf_counter() - start)
 
 
-def listening(port):
-    while True:
-        try:
-            return socket.create_connection((HOST, port)).close()
-        except OSError:
-            time.sleep(0.05)
-
-
 def main():
     parser = argparse.ArgumentParser(description='The cycle of a job over connections, beside a Redis.')
     parser.add_argument('--jobs', type=int, default=20000, help='cycles of all clients together')
     given = parser.parse_args()
-    words = [os.environ.get('SIDEKIQ') or str(TOP / 'bin' / 'sidekiq'), 'serve', '--port', str(OURS), '--loops', '64']
-    servers = [subprocess.Popen(words, stdout=subprocess.DEVNULL, stderr=subprocess.DEVNULL),
+    servers = [subprocess.Popen([PROGRAM, 'serve', '--port', str(OURS), '--loops', '64'], stdout=subprocess.DEVNULL, stderr=subprocess.DEVNULL),
                subprocess.Popen(['redis-server', '--port', str(REDIS), '--save', '', '--appendonly', 'no'], stdout=subprocess.DEVNULL)]
     try:
-        listening(OURS), listening(REDIS)
         for clients in (1, 4, 16):
             count = given.jobs // clients
             # A plain seat may not take from a private list: ours joins, and tells what it does with the job between the move and the release.

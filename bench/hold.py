@@ -9,38 +9,18 @@ program alone, which bin/sidekiq builds.
 """
 import argparse
 import multiprocessing
-import os
 import re
-import socket
 import subprocess
 import sys
 import time
-from pathlib import Path
 
-TOP = Path(__file__).resolve().parent.parent
-HOST, PORT = '127.0.0.1', 7425
+from client import PROGRAM, Client
 
-
-def command(*words):
-    return b'*%d\r\n' % len(words) + b''.join(b'$%d\r\n%s\r\n' % (len(it), it) for it in words)
-
-
-class Client:
-    def __init__(self):
-        self.socket = socket.create_connection((HOST, PORT), 30)
-        self.socket.setsockopt(socket.IPPROTO_TCP, socket.TCP_NODELAY, 1)
-        self.file = self.socket.makefile('rb')
-
-    def ask(self, *words):
-        self.socket.sendall(command(*words))
-        line = self.file.readline()
-        if line[:1] == b'$' and line != b'$-1\r\n':
-            return self.file.read(int(line[1:]) + 2)[:-2]
-        return line[:-2]
+PORT = 7425
 
 
 def push(number, seconds, counts):
-    client, count, end = Client(), 0, time.time() + seconds
+    client, count, end = Client(PORT), 0, time.time() + seconds
     queue = b'queue:c%d' % number
     while time.time() < end:
         text = b'{"jid":"%d-%d","class":"Note","queue":"c%d","args":[%d]}' % (number, count, number, count)
@@ -58,14 +38,8 @@ def main():
     parser = argparse.ArgumentParser(description='64 connections held under load.')
     parser.add_argument('--seconds', type=float, default=60)
     given = parser.parse_args()
-    words = [os.environ.get('SIDEKIQ') or str(TOP / 'bin' / 'sidekiq'), 'serve', '--port', str(PORT), '--loops', '64']
-    server = subprocess.Popen(words, stdout=subprocess.PIPE, stderr=subprocess.DEVNULL)
-    while True:
-        try:
-            page = Client()
-            break
-        except OSError:
-            time.sleep(0.05)
+    server = subprocess.Popen([PROGRAM, 'serve', '--port', str(PORT), '--loops', '64'], stdout=subprocess.PIPE, stderr=subprocess.DEVNULL)
+    page = Client(PORT)
     counts = multiprocessing.Array('q', 63)
     workers = [multiprocessing.Process(target=push, args=(number, given.seconds, counts)) for number in range(63)]
     [it.start() for it in workers]
