@@ -1,5 +1,5 @@
 -- The first key of a text in a set has its least score there.
-use Rattle.std.proofs.Common.{◌≡◌, ◌+◌, ◌<◌, ℕ, ℤ, zero, suc, Bool, true, false, List, [], ◌∷◌, Option, Some, None, length, get_or, slice_get, subst, refl, sym, arith, ap, ap₂, ◌∙◌}
+use Rattle.std.proofs.Common.{◌≡◌, ◌<◌, ℕ, ℤ, zero, suc, Bool, true, false, List, [], ◌∷◌, Option, Some, None, length, get_or, slice_get, subst, refl, sym, arith, ap, ap₂, ◌∙◌}
 use Rattle.std.specs.BTreeMap.{is_at}
 use Rattle.std.specs.Ordering.{int_cmp, is_eq, is_le, is_lt, ordering_then}
 use Rattle.std.specs.declared.cmp.Ordering.{Ordering}
@@ -11,7 +11,7 @@ use Rattle.sk_undo.specs.Queries.{lt_le}
 use Rattle.sk_undo.specs.Sorted.{is_ordered, rank}
 use Rattle.sk_places.specs.LiveJobs.{one_if}
 use Rattle.sk_places.specs.declared.text_key.TextKey.{TextKey}
-use Rattle.sk_places.specs.TextIndex.{IsLeastScore, count_in, is_below}
+use Rattle.sk_places.specs.TextIndex.{IsLeastScore, count_in}
 use Rattle.sk_places.specs.TextKey.{key_cmp, key_in, key_total, text_order}
 use Rattle.sk_places.proofs.TextIndexed.{count_first, key_itself, same_place_of}
 

@@ -25,6 +25,7 @@ pub mod Sound
 pub mod Sweeping
 pub mod Sweeps
 pub mod LeastScores
+pub mod MembersFound
 pub mod TextFound
 pub mod TextIndexed
 pub mod Windows

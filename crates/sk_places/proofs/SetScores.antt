@@ -1,5 +1,5 @@
 -- The rows of a set within a range of scores, in the list of the sets.
-use Rattle.std.proofs.Common.{◌≡◌, ◌+◌, ◌-◌, ℕ, ℤ, max, Bool, true, not, List, drop, map, take, refl, sym, arith, ap, subst, ◌∙◌}
+use Rattle.std.proofs.Common.{◌≡◌, ◌+◌, ◌-◌, ℕ, ℤ, max, Bool, true, not, drop, map, take, refl, sym, arith, ap, subst, ◌∙◌}
 use Rattle.std.specs.List.{count_by, position_or_len}
 use Rattle.std.specs.Ordering.{is_lt}
 use Rattle.sk_base.specs.declared.bound.Bound.{Bound}

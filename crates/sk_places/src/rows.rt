@@ -1,6 +1,6 @@
 // The rows of all places, as one list in the order of places. Beside them are how many rows there are, how many bytes their texts have, the index of
 // the rows by their jobs, and that of the sets' rows by their texts.
-ghost use Rattle.std.specs.Prelude.{◌≡◌, ◌+◌, ◌^◌, ◌<◌, ◌≤◌, true, None, Some, [], IfOk, IsSome, OnErr, OnOk, drop, length, map, option_map, slice_get, take};
+ghost use Rattle.std.specs.Prelude.{◌≡◌, ◌+◌, ◌^◌, ◌<◌, ◌≤◌, true, None, Some, [], IfOk, IfSome, IsSome, OnErr, OnOk, drop, length, map, option_map, slice_get, take};
 ghost use Rattle.std.specs.List.{count_by, position_or_len, remove};
 ghost use Rattle.std.specs.Option.{is_some};
 ghost use Rattle.sk_undo.specs.Balance.{most};
@@ -18,6 +18,7 @@ ghost use Rattle.sk_places.specs.declared.row.Place.TheVariants.{Set};
 ghost use Rattle.sk_zset.specs.Bounds.{is_below};
 ghost use Rattle.sk_places.specs.Segments.{is_text};
 ghost use Rattle.sk_places.specs.RowFilter.{selects};
+ghost use Rattle.sk_resp.specs.WordOrder.{is_member};
 
 use crate::index::{add_job, drop_job, job_of, take_job};
 use crate::row::{Place, RowKey};
@@ -29,11 +30,14 @@ use sk_base::limits::MOST_ROWS;
 use sk_base::{Bound, Score};
 use sk_cmd::{Scored, Side};
 use sk_payload::Payload;
-use sk_resp::Word;
+use sk_resp::{Word, Words};
 use sk_undo::UndoMultiset;
 use sk_zset::ByBytes;
 use std::alloc::Global;
 use std::marker::Model;
+
+// As many rows are looked at one after another, or more, in the time of one look-up.
+const ROWS_A_LOOK_UP: usize = 64;
 
 /// How many rows there are, and how many bytes their texts have.
 #[derive(Clone, Copy, Drop)]
@@ -182,8 +186,43 @@ impl Rows {
         }
     }
 
-    /// The index at a place of the first row that is wanted, of those from the index `first` to the one before `end`; `end` where none is. Looks at
-    /// these rows one after another.
+    // The index in a set of the first row with one of the texts, or how many rows it has. Looks each text up.
+    fn position_of_members(&self, set: Scored, members: &Words) -> usize
+        ensures { result ≡ position_or_len (λ row. is_member row.text members.now) (rows_at (Set set) self.now.current) }
+    {
+        let mut first = self.len_at(&Place::Set(set));
+        for member in members.list() {
+            first = first.min(self.position_in_set(set, member.bytes()));
+        }
+        first
+    }
+
+    // What `position_wanted` answers, by look-ups: where few texts are wanted in a set, and none of them stands before the index `first`.
+    fn look_up_wanted(
+        &self,
+        place: &Place,
+        first: usize,
+        end: usize,
+        wanted: &RowFilter,
+    ) -> Option<usize>
+        requires order { first ≤ end }
+        requires within { end ≤ length (rows_at place.now self.now.current) }
+        ensures { IfSome result (λ at. (at ≡ first + position_or_len (selects place.now wanted.now) (drop first (take end (rows_at place.now self.now.current)))) × (at ≤ end)) }
+    {
+        match (place, wanted) {
+            (Place::Set(set), RowFilter::Members(members)) => {
+                if members.list().len() > (end - first) / ROWS_A_LOOK_UP {
+                    return None;
+                }
+                let at = self.position_of_members(*set, members).min(end);
+                if at < first { None } else { Some(at) }
+            }
+            _ => None,
+        }
+    }
+
+    /// The index at a place of the first row that is wanted, of those from the index `first` to the one before `end`; `end` where none is. Few texts
+    /// in a set are looked up, in logarithmic time each; else it looks at these rows one after another.
     pub fn position_wanted(
         &self,
         place: &Place,
@@ -196,7 +235,10 @@ impl Rows {
         ensures is { result ≡ first + position_or_len (selects place.now wanted.now) (drop first (take end (rows_at place.now self.now.current))) }
         ensures within { result ≤ end }
     {
-        self.lists.position_wanted(place, first, end, wanted)
+        match self.look_up_wanted(place, first, end, wanted) {
+            Some(at) => at,
+            None => self.lists.position_wanted(place, first, end, wanted),
+        }
     }
 
     /// Copies of the texts of a place's rows, from the index `start` to the one before `end`.
