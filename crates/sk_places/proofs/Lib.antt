@@ -24,5 +24,9 @@ pub mod Shifts
 pub mod Sound
 pub mod Sweeping
 pub mod Sweeps
+pub mod LeastScores
+pub mod MembersFound
+pub mod TextFound
+pub mod TextIndexed
 pub mod Windows
 pub mod Worked

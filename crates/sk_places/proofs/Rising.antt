@@ -11,6 +11,7 @@ use Rattle.sk_cmd.specs.declared.argument.Scored.{Scored}
 use Rattle.sk_cmd.specs.declared.argument.Scored.TheVariants.{Schedule, Retry, Dead}
 use Rattle.sk_zset.specs.Bounds.{is_above, is_below}
 use Rattle.sk_zset.specs.Pair.{pair_cmp}
+use Rattle.sk_zset.proofs.Order.{pair_total}
 use Rattle.std.specs.Ordering.{int_cmp, is_lt, is_le, nat_cmp, ordering_then}
 use Rattle.std.specs.List.{remove, position_or_len}
 use Rattle.sk_undo.specs.Partitioned.{all_pass, is_partitioned}
@@ -21,6 +22,7 @@ use Rattle.sk_places.specs.declared.row.Place.TheVariants.{Queue, Private, Set}
 use Rattle.sk_places.specs.declared.row.Row.{Row}
 use Rattle.sk_places.specs.Order.{is_beyond, is_first, is_ordered}
 use Rattle.sk_places.specs.Rows.{is_at, pair_of, place_cmp, put_row, row_cmp, rows_at, within_cmp, stands_before}
+use Rattle.sk_places.specs.TextIndex.{is_from}
 use Rattle.sk_places.proofs.Lists.{all_insert, all_remove, inserted_after}
 use Rattle.sk_places.specs.PlaceOrder.{place_total, same_place}
 use Rattle.sk_places.proofs.Order.{row_total, le_trans, le_lt, lt_le, le_back, lt_back, lt_is_le}
@@ -86,7 +88,7 @@ all_filter : (p t : Row → Bool) (rows : List Row) → all_pass p rows ≡ true
 all_filter p t [] h = refl
 all_filter p t (row ∷ rows) h = grind (arith, h, all_filter p t rows)
 
-ordered_filter : (t : Row → Bool) (rows : List Row) → is_ordered rows ≡ true → is_ordered (filter t rows) ≡ true
+pub ordered_filter : (t : Row → Bool) (rows : List Row) → is_ordered rows ≡ true → is_ordered (filter t rows) ≡ true
 ordered_filter t [] h = refl
 ordered_filter t (row ∷ rows) h = let f = all_filter (λ other. is_le (row_cmp row other)) t rows in grind (arith, h, f, ordered_filter t rows)
 
@@ -127,6 +129,21 @@ partitioned_reached_by low set rows h = rising_among (is_at (Set set)) (λ row. 
 
 pub partitioned_above_of : (high : Bound) (set : Scored) (rows : List Row) → is_ordered rows ≡ true → is_partitioned (λ row. is_above high row.score) (rows_at (Set set) rows) ≡ true
 partitioned_above_of high set rows h = rising_among (is_at (Set set)) (λ row. is_above high row.score) (λ p q a b l k. above_up high p.score q.score (scores_le set p q a b l) k) (rows_at (Set set) rows) (all_at (Set set) rows) (ordered_filter (is_at (Set set)) rows h)
+
+from_up : (score : ℤ) (text : Bytes) (set : Scored) (p q : Row) → is_at (Set set) p ≡ true → is_at (Set set) q ≡ true → is_le (row_cmp p q) ≡ true → is_from score text p ≡ true → is_from score text q ≡ true
+from_up score text set p q h k l n =
+    let a = sym (same_place (Set set) p.place (grind (arith, h))) in
+    let b = sym (same_place (Set set) q.place (grind (arith, k))) in
+    let c : is_le (pair_cmp (pair_of p) (pair_of q)) ≡ true = ap is_le (sym (set_cmp set p q a b)) ∙ l in
+    not_back (is_lt (pair_cmp (pair_of p) (score, text))) (is_lt (pair_cmp (pair_of q) (score, text))) n (le_lt pair_cmp pair_total (pair_of p) (pair_of q) (score, text) c)
+  where
+    not_back : (a b : Bool) → not a ≡ true → (b ≡ true → a ≡ true) → not b ≡ true
+    not_back a false n f = refl
+    not_back true true n f = n
+    not_back false true n f = absurd (cc (f refl))
+
+pub partitioned_from : (score : ℤ) (text : Bytes) (set : Scored) (rows : List Row) → is_ordered rows ≡ true → is_partitioned (is_from score text) (rows_at (Set set) rows) ≡ true
+partitioned_from score text set rows h = rising_among (is_at (Set set)) (is_from score text) (λ p q a b l k. from_up score text set p q a b l k) (rows_at (Set set) rows) (all_at (Set set) rows) (ordered_filter (is_at (Set set)) rows h)
 
 -- ## Edits
 

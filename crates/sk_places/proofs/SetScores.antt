@@ -1,8 +1,9 @@
 -- The rows of a set within a range of scores, in the list of the sets.
-use Rattle.std.proofs.Common.{◌≡◌, ◌+◌, ◌-◌, ℕ, max, Bool, true, not, List, drop, map, take, refl, sym, arith, ap, subst, ◌∙◌}
+use Rattle.std.proofs.Common.{◌≡◌, ◌+◌, ◌-◌, ℕ, ℤ, max, Bool, true, not, drop, map, take, refl, sym, arith, ap, subst, ◌∙◌}
 use Rattle.std.specs.List.{count_by, position_or_len}
 use Rattle.std.specs.Ordering.{is_lt}
 use Rattle.sk_base.specs.declared.bound.Bound.{Bound}
+use Rattle.sk_resp.specs.Spelling.{Bytes}
 use Rattle.sk_cmd.specs.declared.argument.Scored.{Scored}
 use Rattle.sk_undo.specs.Partitioned.{is_partitioned}
 use Rattle.sk_zset.specs.Bounds.{is_above, is_below}
@@ -15,7 +16,8 @@ use Rattle.sk_places.specs.Order.{is_ordered}
 use Rattle.sk_places.specs.Rows.{place_cmp, rows_at}
 use Rattle.sk_places.specs.Scores.{HasRange}
 use Rattle.sk_places.proofs.Entries.{position_map, partitioned_map}
-use Rattle.sk_places.proofs.Rising.{partitioned_above_of, partitioned_reached_by}
+use Rattle.sk_places.specs.TextIndex.{is_from}
+use Rattle.sk_places.proofs.Rising.{partitioned_above_of, partitioned_from, partitioned_reached_by}
 use Rattle.sk_places.proofs.SetRows.{set_inside, set_same}
 use Rattle.sk_places.proofs.Windows.{below_count, has_range}
 
@@ -28,6 +30,9 @@ module _ (l : RowLists) (s : Scored) (a : AreLists l) (ordered : is_ordered (as_
 
   pub above_rises : (high : Bound) → is_partitioned (λ x. is_above high (as_row x).score) (drop first (take end l.sets.list.current)) ≡ true
   above_rises high = partitioned_map as_row (λ row. is_above high row.score) (drop first (take end l.sets.list.current)) ∙ ap (is_partitioned (λ row. is_above high row.score)) inside ∙ partitioned_above_of high s (as_rows l.sets.list.current) ordered
+
+  pub from_partitioned : (score : ℤ) (text : Bytes) → is_partitioned (λ x. is_from score text (as_row x)) (drop first (take end l.sets.list.current)) ≡ true
+  from_partitioned score text = partitioned_map as_row (is_from score text) (drop first (take end l.sets.list.current)) ∙ ap (is_partitioned (is_from score text)) inside ∙ partitioned_from score text s (as_rows l.sets.list.current) ordered
 
   found : (t : Row → Bool) (p : ℕ) → p ≡ first + position_or_len (λ x. t (as_row x)) (drop first (take end l.sets.list.current)) → p - first ≡ position_or_len t (rows_at (Set s) (as_rows l.sets.list.current))
   found t p is =

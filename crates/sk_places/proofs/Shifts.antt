@@ -1,23 +1,23 @@
 -- A row that goes from one place to another, or within its own.
-use Rattle.std.proofs.Common.{◌≡◌, ◌+◌, ◌-◌, ◌<◌, ◌≤◌, nat_eq, ℕ, ℤ, zero, suc, Bool, true, false, List, [], ◌∷◌, ◌++◌, Option, Some, None, length, map, slice_get, refl, sym, arith, ap, ap₂, subst, ◌∙◌}
+use Rattle.std.proofs.Common.{◌≡◌, ◌+◌, ◌-◌, ◌<◌, ◌≤◌, nat_eq, ℕ, ℤ, zero, suc, Bool, true, false, List, [], ◌∷◌, Option, Some, None, length, option_map, slice_get, refl, sym, arith, ap, ap₂, subst, ◌∙◌}
 use Rattle.std.specs.Prelude.{slice_index_or}
 use Rattle.std.specs.BTreeMap.{is_at}
 use Rattle.std.specs.List.{insert, remove, position_or_len}
 use Rattle.std.specs.Map.{lookup}
 use Rattle.std.specs.Ordering.{is_lt}
 use borrow.Author.Tests.{eqb-true, eqb-false}
+use Rattle.sk_resp.specs.Spelling.{Bytes}
 use Rattle.sk_cmd.specs.declared.argument.Side.{Side}
-use Rattle.sk_cmd.specs.declared.argument.Side.TheVariants.{Left, Right}
-use Rattle.sk_deques.specs.DequeMoves.{IsMove, list_at, moved, with_item, with_moved, without_item}
+use Rattle.sk_deques.specs.DequeMoves.{IsMove, list_at, moved, with_moved, without_item}
 use Rattle.sk_deques.proofs.DequeMoving.{length_changed, some_at}
 use Rattle.sk_deques.proofs.DequeNumbers.{at_other, at_same}
-use Rattle.sk_undo.specs.Versions.{Versions, edited}
+use Rattle.sk_undo.specs.Versions.{edited}
 use Rattle.sk_places.specs.declared.row_lists.RowLists.{RowLists}
 use Rattle.sk_places.specs.declared.row.Place.{Place}
 use Rattle.sk_places.specs.declared.row.Row.{Row}
 use Rattle.sk_places.specs.declared.row.RowKey.{RowKey}
 use Rattle.sk_places.specs.Entries.{as_row, put_again, shifted}
-use Rattle.sk_places.specs.RowLists.{AreLists, HasSpace, Item, all_rows, is_list, listed, place_of, rows_in, start_of}
+use Rattle.sk_places.specs.RowLists.{AreLists, Item, all_rows, is_list, listed, place_of, rows_in, start_of}
 use Rattle.sk_places.specs.Order.{is_ordered}
 use Rattle.sk_places.specs.Rows.{place_cmp, put_row, rows_at}
 use Rattle.sk_places.proofs.Holding.{get_is, len_is, list_there, lists_edited, place_within}
@@ -36,6 +36,15 @@ start_get place rows at ordered h =
 pub shifted_to : (end : Side) (row_key : RowKey) (place : Place) (item : Item) (rows : List Row) (at : ℕ) → is_ordered rows ≡ true → at < length (rows_at place rows) → slice_get (rows_at place rows) at ≡ Some (listed place item)
     → put_row end (as_row (row_key, item.1)) (remove rows (start_of place rows + at)) ≡ shifted end (start_of place rows + at) row_key rows
 shifted_to end row_key place item rows at ordered h is = ap (λ o. put_again end row_key o (remove rows (start_of place rows + at))) (sym (sym (start_get place rows at ordered h) ∙ is))
+
+-- a copy of it does
+copied_there : (end : Side) (row_key : RowKey) (text : Bytes) (o : Option Row) (rows : List Row) → option_map (λ row. row.text) o ≡ Some text → put_row end (as_row (row_key, text)) rows ≡ put_again end row_key o rows
+copied_there end row_key text None rows h = cc h
+copied_there end row_key text (Some row) rows h = let e : row.text ≡ text = cc h in ap (λ t. put_row end (as_row (row_key, t)) rows) (sym e)
+
+pub copied_to : (end : Side) (row_key : RowKey) (place : Place) (text : Bytes) (rows : List Row) (at : ℕ) → is_ordered rows ≡ true → at < length (rows_at place rows) → option_map (λ row. row.text) (slice_get (rows_at place rows) at) ≡ Some text
+    → put_row end (as_row (row_key, text)) (remove rows (start_of place rows + at)) ≡ shifted end (start_of place rows + at) row_key rows
+copied_to end row_key place text rows at ordered h is = copied_there end row_key text (slice_get rows (start_of place rows + at)) (remove rows (start_of place rows + at)) (ap (option_map (λ row. row.text)) (sym (start_get place rows at ordered h)) ∙ is)
 
 -- ## Within deques
 

@@ -11,6 +11,8 @@ pub mod RowLists
 pub mod Rows
 pub mod Scores
 pub mod Segments
+pub mod TextIndex
+pub mod TextKey
 pub mod Totals
 pub mod RowFilter
 pub mod Whole

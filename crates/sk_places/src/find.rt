@@ -25,7 +25,7 @@ pub fn find_end(rows: &Rows, place: &Place, side: Side) -> Option<usize>
     }
 }
 
-/// The index at a place of the first row of a text. Looks at this place's rows one after another.
+/// The index at a place of the first row of a text. Logarithmic in a set; looks at the rows of a queue or a private list one after another.
 pub fn find_text(rows: &Rows, place: &Place, text: &[u8]) -> Option<usize>
     ensures is { MatchOption result (row_of text.now (rows_at place.now rows.now.current) ≡ None) (λ at. StandsAt Left (row_of text.now (rows_at place.now rows.now.current)) (start_of place.now rows.now.current + at) rows.now.current) }
     ensures within { IfSome result (λ at. at < length (rows_at place.now rows.now.current)) }

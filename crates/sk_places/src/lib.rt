@@ -16,6 +16,8 @@ mod row_filter;
 mod row_lists;
 mod rows;
 mod search;
+mod text_index;
+mod text_key;
 mod totals;
 
 pub use ending::Ending;

@@ -20,12 +20,13 @@ ghost use Rattle.sk_places.specs.Scores.{HasRange};
 ghost use Rattle.sk_places.specs.declared.row.Place.TheVariants.{Set};
 ghost use Rattle.sk_zset.specs.Bounds.{is_below};
 ghost use Rattle.sk_places.specs.Segments.{is_text};
+ghost use Rattle.sk_places.specs.TextIndex.{is_from};
 ghost use Rattle.sk_places.specs.RowFilter.{selects};
 
 use crate::copies::{Pairs, Texts};
 use crate::row::{Place, RowKey};
 use crate::row_filter::{PickedItem, RowFilter, Selection};
-use crate::search::{AboveOf, Behind, Beyond, Named, Passed, Reached, ReachedBy};
+use crate::search::{AboveOf, Behind, Beyond, FromPair, Named, Passed, Reached, ReachedBy};
 use crate::{Ending, LiveJobs, Memory};
 use sk_base::{Bound, Score};
 use sk_cmd::{Scored, Side};
@@ -418,16 +419,16 @@ fn place_behind(
     }
 }
 
-// Whether both are queues or private lists.
-fn are_lists(place: &Place, other: &Place) -> bool
+/// Whether both are queues or private lists.
+pub fn are_lists(place: &Place, other: &Place) -> bool
     ensures { result ≡ (is_list place.now && is_list other.now) }
 {
     place.is_list() && other.is_list()
 }
 
 impl RowLists {
-    // Moves a row of a queue or a private list to an end of another, or of its own. It isn't copied.
-    fn shift_listed(&mut self, from: &Place, at: usize, row_key: &RowKey, end: Side)
+    /// Moves a row of a queue or a private list to an end of another, or of its own. It isn't copied.
+    pub fn shift(&mut self, from: &Place, at: usize, row_key: &RowKey, end: Side)
         requires lists { AreLists self.old }
         requires ordered { is_ordered (rows_in self.old).current ≡ true }
         requires from { is_list from.now ≡ true }
@@ -449,50 +450,18 @@ impl RowLists {
         }
     }
 
-    // Moves a row by a copy of its payload.
-    fn shift_copied(
-        &mut self,
-        from: &Place,
-        at: usize,
-        row_key: RowKey,
-        end: Side,
-    ) -> Result<(), Memory>
+    /// Takes a row out, and puts this copy of it in at an end of another place, or of the same.
+    pub fn shift_copy(&mut self, from: &Place, at: usize, row_key: RowKey, copy: Payload, end: Side)
         requires lists { AreLists self.old }
         requires ordered { is_ordered (rows_in self.old).current ≡ true }
         requires within { at < length (rows_at from.now (rows_in self.old).current) }
+        requires copy { option_map (λ row. row.text) (slice_get (rows_at from.now (rows_in self.old).current) at) ≡ Some copy }
         requires ready { IsReady 2 row_key.place self.old }
         ensures lists { AreLists self.new }
-        ensures ok { OnOk result (rows_in self.new ≡ edited (shifted end (start_of from.now (rows_in self.old).current + at) row_key (rows_in self.old).current) (rows_in self.old)) }
-        ensures err { OnErr result (rows_in self.new ≡ rows_in self.old) }
+        ensures rows { rows_in self.new ≡ edited (shifted end (start_of from.now (rows_in self.old).current + at) row_key (rows_in self.old).current) (rows_in self.old) }
     {
-        let copy = self.get(from, at).1.copy()?;
         self.drop_out(from, at);
         self.put(row_key, copy, end);
-        Ok(())
-    }
-
-    /// Moves a row to an end of another place, or of the same. From a queue or a private list to another it isn't copied.
-    pub fn shift(
-        &mut self,
-        from: &Place,
-        at: usize,
-        row_key: RowKey,
-        end: Side,
-    ) -> Result<(), Memory>
-        requires lists { AreLists self.old }
-        requires ordered { is_ordered (rows_in self.old).current ≡ true }
-        requires within { at < length (rows_at from.now (rows_in self.old).current) }
-        ensures lists { AreLists self.new }
-        ensures ok { OnOk result (rows_in self.new ≡ edited (shifted end (start_of from.now (rows_in self.old).current + at) row_key (rows_in self.old).current) (rows_in self.old)) }
-        ensures err { OnErr result (rows_in self.new ≡ rows_in self.old) }
-    {
-        self.prepare(&row_key.place, 2)?;
-        if are_lists(from, &row_key.place) {
-            self.shift_listed(from, at, &row_key, end);
-            Ok(())
-        } else {
-            self.shift_copied(from, at, row_key, end)
-        }
     }
 }
 
@@ -551,8 +520,8 @@ impl RowLists {
 }
 
 impl RowLists {
-    // The index at a queue or a private list of the first row of a text, or how many rows it has.
-    fn text_listed(&self, place: &Place, text: &[u8]) -> usize
+    /// The index at a queue or a private list of the first row of a text, or how many rows it has. Looks at its rows one after another.
+    pub fn position_of(&self, place: &Place, text: &[u8]) -> usize
         requires lists { AreLists self.now }
         requires list { is_list place.now ≡ true }
         ensures { result ≡ position_or_len (is_text text.now) (rows_at place.now (rows_in self.now).current) }
@@ -566,30 +535,16 @@ impl RowLists {
         }
     }
 
-    // The same at a set.
-    fn text_in_set(&self, place: &Place, text: &[u8]) -> usize
+    /// The index in a set of the first row that doesn't stand before a score and a text, or how many rows it has. Logarithmic.
+    pub fn position_from(&self, set: Scored, score: Score, text: &[u8]) -> usize
         requires lists { AreLists self.now }
-        requires set { is_list place.now ≡ false }
         requires ordered { is_ordered (as_rows self.now.sets.list.current) ≡ true }
-        ensures { result ≡ position_or_len (is_text text.now) (rows_at place.now (rows_in self.now).current) }
+        ensures { result ≡ position_or_len (is_from score text.now) (rows_at (Set set) (rows_in self.now).current) }
     {
-        let first = begin_of(&self.sets, place);
-        let end = end_of(&self.sets, place);
-        let at = self.sets.position_in(first, end, &Named { text });
-        at - first
-    }
-
-    /// The index at a place of the first row of a text, or how many rows it has. Looks at its rows one after another.
-    pub fn position_of(&self, place: &Place, text: &[u8]) -> usize
-        requires lists { AreLists self.now }
-        requires ordered { is_ordered (rows_in self.now).current ≡ true }
-        ensures { result ≡ position_or_len (is_text text.now) (rows_at place.now (rows_in self.now).current) }
-    {
-        if place.is_list() {
-            self.text_listed(place, text)
-        } else {
-            self.text_in_set(place, text)
-        }
+        let place = Place::Set(set);
+        let first = begin_of(&self.sets, &place);
+        let end = end_of(&self.sets, &place);
+        self.sets.first_in(first, end, &FromPair { score, text }) - first
     }
 
     // The index at a queue or a private list of the first row that is wanted, of those from the index `first` to the one before `end`.

@@ -1,6 +1,6 @@
-// The rows of all places, as one list in the order of places. Beside them are how many rows there are, how many bytes their texts have, and the
-// index of the rows by their jobs.
-ghost use Rattle.std.specs.Prelude.{◌≡◌, ◌+◌, ◌^◌, ◌<◌, ◌≤◌, true, None, Some, [], IfOk, IsSome, OnErr, OnOk, drop, length, map, option_map, slice_get, take};
+// The rows of all places, as one list in the order of places. Beside them are how many rows there are, how many bytes their texts have, the index of
+// the rows by their jobs, and that of the sets' rows by their texts.
+ghost use Rattle.std.specs.Prelude.{◌≡◌, ◌+◌, ◌^◌, ◌<◌, ◌≤◌, true, None, Some, [], IfOk, IfSome, IsSome, OnErr, OnOk, drop, length, map, option_map, slice_get, take};
 ghost use Rattle.std.specs.List.{count_by, position_or_len, remove};
 ghost use Rattle.std.specs.Option.{is_some};
 ghost use Rattle.sk_undo.specs.Balance.{most};
@@ -10,7 +10,7 @@ ghost use Rattle.sk_places.specs.declared.ending.Ending.TheVariants.{Deleted};
 ghost use Rattle.sk_places.specs.Totals.{IsCountable};
 ghost use Rattle.sk_places.specs.Ends.{ended_of, texts_of};
 ghost use Rattle.sk_places.specs.Entries.{as_row, shifted};
-ghost use Rattle.sk_places.specs.RowLists.{listed, rows_in, start_of};
+ghost use Rattle.sk_places.specs.RowLists.{is_list, listed, rows_in, start_of};
 ghost use Rattle.sk_places.specs.Order.{bytes_of, is_ordered};
 ghost use Rattle.sk_places.specs.Rows.{is_private, next_ident, pair_of, put_row, rows_at, rows_of};
 ghost use Rattle.sk_places.specs.Scores.{HasRange};
@@ -18,21 +18,26 @@ ghost use Rattle.sk_places.specs.declared.row.Place.TheVariants.{Set};
 ghost use Rattle.sk_zset.specs.Bounds.{is_below};
 ghost use Rattle.sk_places.specs.Segments.{is_text};
 ghost use Rattle.sk_places.specs.RowFilter.{selects};
+ghost use Rattle.sk_resp.specs.WordOrder.{is_member};
 
 use crate::index::{add_job, drop_job, job_of, take_job};
 use crate::row::{Place, RowKey};
 use crate::row_filter::RowFilter;
-use crate::row_lists::RowLists;
+use crate::row_lists::{RowLists, are_lists};
+use crate::text_index::{TextIndex, add_key, drop_key, key_of, least_score, take_key};
 use crate::{Ending, LiveJobs, Memory, Origin};
 use sk_base::limits::MOST_ROWS;
 use sk_base::{Bound, Score};
 use sk_cmd::{Scored, Side};
 use sk_payload::Payload;
-use sk_resp::Word;
+use sk_resp::{Word, Words};
 use sk_undo::UndoMultiset;
 use sk_zset::ByBytes;
 use std::alloc::Global;
 use std::marker::Model;
+
+// As many rows are looked at one after another, or more, in the time of one look-up.
+const ROWS_A_LOOK_UP: usize = 64;
 
 /// How many rows there are, and how many bytes their texts have.
 #[derive(Clone, Copy, Drop)]
@@ -51,6 +56,7 @@ pub struct Rows {
     // At the begin of an open step.
     size_then: Size,
     index: UndoMultiset<Word>,
+    text_index: TextIndex,
 }
 
 impl Model for Rows {
@@ -65,7 +71,7 @@ impl Model for Rows {
 
     ghost view = { λ r. rows_in r.lists };
 
-    ghost invariant = { λ r. IsSound r.lists r.size r.size_then r.index.list };
+    ghost invariant = { λ r. IsSound r.lists r.size r.size_then r.index.list r.text_index.list };
 }
 
 // The size with one more text.
@@ -108,6 +114,7 @@ impl Rows {
             size: none,
             size_then: none,
             index: UndoMultiset::new(alloc),
+            text_index: UndoMultiset::new(alloc),
         }
     }
 
@@ -158,15 +165,64 @@ impl Rows {
         self.lists.get(place, at)
     }
 
-    /// The index at a place of the first row of a text, or how many rows it has. Looks at its rows one after another.
+    // The index in a set of the first row of a text, or how many rows it has. Logarithmic.
+    fn position_in_set(&self, set: Scored, text: &[u8]) -> usize
+        ensures { result ≡ position_or_len (is_text text.now) (rows_at (Set set) self.now.current) }
+    {
+        match least_score(&self.text_index, set, text) {
+            Some(score) => self.lists.position_from(set, score, text),
+            None => self.lists.len(&Place::Set(set)),
+        }
+    }
+
+    /// The index at a place of the first row of a text, or how many rows it has. Logarithmic in a set; looks at the rows of a queue or a private list
+    /// one after another.
     pub fn position_of(&self, place: &Place, text: &[u8]) -> usize
         ensures { result ≡ position_or_len (is_text text.now) (rows_at place.now self.now.current) }
     {
-        self.lists.position_of(place, text)
+        match place {
+            Place::Set(set) => self.position_in_set(*set, text),
+            _ => self.lists.position_of(place, text),
+        }
     }
 
-    /// The index at a place of the first row that is wanted, of those from the index `first` to the one before `end`; `end` where none is. Looks at
-    /// these rows one after another.
+    // The index in a set of the first row with one of the texts, or how many rows it has. Looks each text up.
+    fn position_of_members(&self, set: Scored, members: &Words) -> usize
+        ensures { result ≡ position_or_len (λ row. is_member row.text members.now) (rows_at (Set set) self.now.current) }
+    {
+        let mut first = self.len_at(&Place::Set(set));
+        for member in members.list() {
+            first = first.min(self.position_in_set(set, member.bytes()));
+        }
+        first
+    }
+
+    // What `position_wanted` answers, by look-ups: where few texts are wanted in a set, and none of them stands before the index `first`.
+    fn look_up_wanted(
+        &self,
+        place: &Place,
+        first: usize,
+        end: usize,
+        wanted: &RowFilter,
+    ) -> Option<usize>
+        requires order { first ≤ end }
+        requires within { end ≤ length (rows_at place.now self.now.current) }
+        ensures { IfSome result (λ at. (at ≡ first + position_or_len (selects place.now wanted.now) (drop first (take end (rows_at place.now self.now.current)))) × (at ≤ end)) }
+    {
+        match (place, wanted) {
+            (Place::Set(set), RowFilter::Members(members)) => {
+                if members.list().len() > (end - first) / ROWS_A_LOOK_UP {
+                    return None;
+                }
+                let at = self.position_of_members(*set, members).min(end);
+                if at < first { None } else { Some(at) }
+            }
+            _ => None,
+        }
+    }
+
+    /// The index at a place of the first row that is wanted, of those from the index `first` to the one before `end`; `end` where none is. Few texts
+    /// in a set are looked up, in logarithmic time each; else it looks at these rows one after another.
     pub fn position_wanted(
         &self,
         place: &Place,
@@ -179,7 +235,10 @@ impl Rows {
         ensures is { result ≡ first + position_or_len (selects place.now wanted.now) (drop first (take end (rows_at place.now self.now.current))) }
         ensures within { result ≤ end }
     {
-        self.lists.position_wanted(place, first, end, wanted)
+        match self.look_up_wanted(place, first, end, wanted) {
+            Some(at) => at,
+            None => self.lists.position_wanted(place, first, end, wanted),
+        }
     }
 
     /// Copies of the texts of a place's rows, from the index `start` to the one before `end`.
@@ -215,12 +274,15 @@ impl Rows {
             return Err(Memory);
         }
         let job = job_of(self.alloc, &payload)?;
+        let key = key_of(&row_key, &payload)?;
         self.lists.prepare(&row_key.place, 1)?;
         self.index.reserve(1)?;
+        self.text_index.reserve(1)?;
         jobs.push(&payload, from, fresh)?;
         self.size = raised(self.size, payload.text());
         self.lists.put(row_key, payload, end);
         add_job(&mut self.index, job);
+        add_key(&mut self.text_index, key);
         Ok(())
     }
 
@@ -233,11 +295,56 @@ impl Rows {
             return Err(Memory);
         }
         let job = job_of(self.alloc, &payload)?;
+        let key = key_of(&row_key, &payload)?;
         self.lists.prepare(&row_key.place, 1)?;
         self.index.reserve(1)?;
+        self.text_index.reserve(1)?;
         self.size = raised(self.size, payload.text());
         self.lists.put(row_key, payload, end);
         add_job(&mut self.index, job);
+        add_key(&mut self.text_index, key);
+        Ok(())
+    }
+
+    // Moves a row of a queue or a private list to an end of another, or of its own. It isn't copied.
+    fn shift_listed(
+        &mut self,
+        from: &Place,
+        at: usize,
+        row_key: &RowKey,
+        end: Side,
+    ) -> Result<(), Memory>
+        requires within { at < length (rows_at from.now self.old.current) }
+        requires from { is_list from.now ≡ true }
+        requires to { is_list row_key.now.place ≡ true }
+        ensures ok { OnOk result (self.new ≡ edited (shifted end (start_of from.now self.old.current + at) row_key.now self.old.current) self.old) }
+        ensures err { OnErr result (self.new ≡ self.old) }
+    {
+        self.lists.prepare(&row_key.place, 2)?;
+        self.lists.shift(from, at, row_key, end);
+        Ok(())
+    }
+
+    // Moves a row by a copy of its payload.
+    fn shift_copied(
+        &mut self,
+        from: &Place,
+        at: usize,
+        row_key: RowKey,
+        end: Side,
+    ) -> Result<(), Memory>
+        requires { at < length (rows_at from.now self.old.current) }
+        ensures ok { OnOk result (self.new ≡ edited (shifted end (start_of from.now self.old.current + at) row_key self.old.current) self.old) }
+        ensures err { OnErr result (self.new ≡ self.old) }
+    {
+        self.lists.prepare(&row_key.place, 2)?;
+        self.text_index.reserve(2)?;
+        let (score, payload) = self.lists.get(from, at);
+        let copy = payload.copy()?;
+        let key = key_of(&row_key, &copy)?;
+        drop_key(&mut self.text_index, from, score, &copy);
+        add_key(&mut self.text_index, key);
+        self.lists.shift_copy(from, at, row_key, copy, end);
         Ok(())
     }
 
@@ -253,8 +360,11 @@ impl Rows {
         ensures ok { OnOk result (self.new ≡ edited (shifted end (start_of from.now self.old.current + at) row_key self.old.current) self.old) }
         ensures err { OnErr result (self.new ≡ self.old) }
     {
-        self.lists.shift(from, at, row_key, end)?;
-        Ok(())
+        if are_lists(from, &row_key.place) {
+            self.shift_listed(from, at, &row_key, end)
+        } else {
+            self.shift_copied(from, at, row_key, end)
+        }
     }
 
     /// Takes the row of a place at an index out. An open step keeps it until it is closed.
@@ -265,8 +375,10 @@ impl Rows {
     {
         self.lists.reserve()?;
         self.index.reserve(1)?;
-        let payload = self.lists.get(place, at).1;
+        self.text_index.reserve(1)?;
+        let (score, payload) = self.lists.get(place, at);
         drop_job(&mut self.index, payload);
+        drop_key(&mut self.text_index, place, score, payload);
         self.size = lowered(self.size, payload.text());
         self.lists.drop_out(place, at);
         Ok(())
@@ -288,9 +400,11 @@ impl Rows {
     {
         self.lists.reserve()?;
         self.index.reserve(1)?;
-        let payload = self.lists.get(place, at).1;
+        self.text_index.reserve(1)?;
+        let (score, payload) = self.lists.get(place, at);
         jobs.end_in_step(payload, how)?;
         drop_job(&mut self.index, payload);
+        drop_key(&mut self.text_index, place, score, payload);
         self.size = lowered(self.size, payload.text());
         self.lists.drop_out(place, at);
         Ok(())
@@ -310,6 +424,7 @@ impl Rows {
         let row = self.lists.take(place, at);
         self.size = lowered(self.size, row.1.text());
         take_job(&mut self.index, &row.1);
+        take_key(&mut self.text_index, place, row.0, &row.1);
         row
     }
 
@@ -321,6 +436,7 @@ impl Rows {
         self.size_then = self.size;
         self.lists.begin();
         self.index.begin();
+        self.text_index.begin();
     }
 
     /// Closes the step, and what stood at its begin stands again. Takes no memory.
@@ -331,6 +447,7 @@ impl Rows {
         self.size = self.size_then;
         self.lists.undo();
         self.index.undo();
+        self.text_index.undo();
     }
 
     /// Closes the step, and what stands now stays. Takes no memory.
@@ -340,6 +457,7 @@ impl Rows {
     {
         self.lists.commit();
         self.index.commit();
+        self.text_index.commit();
     }
 }
 
@@ -402,5 +520,6 @@ impl Rows {
         self.size_then = none;
         self.lists = RowLists::new(self.alloc);
         self.index = UndoMultiset::new(self.alloc);
+        self.text_index = UndoMultiset::new(self.alloc);
     }
 }

@@ -7,15 +7,15 @@ use Rattle.sk_places.proofs.Sound.{removed_sound, row_there, text_enough}
 use Rattle.sk_places.proofs.rows.Rows.take.Goals as goal
 
 pub lowered-self-inside-requires-clause-enough : goal.lowered-self-inside-requires-clause-enough
-lowered-self-inside-requires-clause-enough c = subst (λ t. length t ≤ c.self.inside.size.bytes) (sym c.text.ensures) (text_enough c.self.inside.lists c.self.inside.size c.self.inside.size_then c.self.inside.index.list c.self.invariant (start_of c.args.place.now (rows_in c.self.inside.lists).current + c.args.at) (listed c.args.place.now c.take-row.result) (row_there c.self.inside.lists c.self.inside.size c.self.inside.size_then c.self.inside.index.list c.self.invariant c.args.place.now c.args.at c.take-row.result (subst (λ v. c.args.at < length (rows_at c.args.place.now v.current)) (sym c.self.view_is) c.requires.within) c.take-row.ensures.row))
+lowered-self-inside-requires-clause-enough c = subst (λ t. length t ≤ c.self.inside.size.bytes) (sym c.text.ensures) (text_enough c.self.inside.lists c.self.inside.size c.self.inside.size_then c.self.inside.index.list c.self.inside.text_index.list c.self.invariant (start_of c.args.place.now (rows_in c.self.inside.lists).current + c.args.at) (listed c.args.place.now c.take-row.result) (row_there c.self.inside.lists c.self.inside.size c.self.inside.size_then c.self.inside.index.list c.self.inside.text_index.list c.self.invariant c.args.place.now c.args.at c.take-row.result (subst (λ v. c.args.at < length (rows_at c.args.place.now v.current)) (sym c.self.view_is) c.requires.within) c.take-row.ensures.row))
 
 pub invariant_of-self : goal.invariant_of-self
 invariant_of-self c =
     let bytes = ap (λ t. c.lowered-self-inside.result.bytes + length t) (sym c.text.ensures) ∙ c.lowered-self-inside.ensures.bytes in
-    removed_sound c.self.inside.lists c.take-row.new.self c.self.inside.size c.self.inside.size_then c.self.inside.index.list c.self.invariant c.take-row.ensures.lists (start_of c.args.place.now (rows_in c.self.inside.lists).current + c.args.at) (listed c.args.place.now c.take-row.result) c.lowered-self-inside.result c.take_job.new.index.list c.take-row.ensures.rows (row_there c.self.inside.lists c.self.inside.size c.self.inside.size_then c.self.inside.index.list c.self.invariant c.args.place.now c.args.at c.take-row.result (subst (λ v. c.args.at < length (rows_at c.args.place.now v.current)) (sym c.self.view_is) c.requires.within) c.take-row.ensures.row) c.lowered-self-inside.ensures.rows bytes c.take_job.ensures
+    removed_sound c.self.inside.lists c.take-row.new.self c.self.inside.size c.self.inside.size_then c.self.inside.index.list c.self.inside.text_index.list c.self.invariant c.take-row.ensures.lists (start_of c.args.place.now (rows_in c.self.inside.lists).current + c.args.at) (listed c.args.place.now c.take-row.result) c.lowered-self-inside.result c.take_job.new.index.list c.take_key.new.index.list c.take-row.ensures.rows (row_there c.self.inside.lists c.self.inside.size c.self.inside.size_then c.self.inside.index.list c.self.inside.text_index.list c.self.invariant c.args.place.now c.args.at c.take-row.result (subst (λ v. c.args.at < length (rows_at c.args.place.now v.current)) (sym c.self.view_is) c.requires.within) c.take-row.ensures.row) c.lowered-self-inside.ensures.rows bytes c.take_job.ensures c.take_key.ensures
 
 pub returns-clause-there : goal.returns-clause-there
-returns-clause-there c = subst (λ v. slice_get v.current (start_of c.args.place.now v.current + c.args.at) ≡ Some (listed c.args.place.now c.take-row.result)) c.self.view_is (row_there c.self.inside.lists c.self.inside.size c.self.inside.size_then c.self.inside.index.list c.self.invariant c.args.place.now c.args.at c.take-row.result (subst (λ v. c.args.at < length (rows_at c.args.place.now v.current)) (sym c.self.view_is) c.requires.within) c.take-row.ensures.row)
+returns-clause-there c = subst (λ v. slice_get v.current (start_of c.args.place.now v.current + c.args.at) ≡ Some (listed c.args.place.now c.take-row.result)) c.self.view_is (row_there c.self.inside.lists c.self.inside.size c.self.inside.size_then c.self.inside.index.list c.self.inside.text_index.list c.self.invariant c.args.place.now c.args.at c.take-row.result (subst (λ v. c.args.at < length (rows_at c.args.place.now v.current)) (sym c.self.view_is) c.requires.within) c.take-row.ensures.row)
 
 pub returns-clause-index : goal.returns-clause-index
 returns-clause-index c = subst (λ v. start_of c.args.place.now v.current + c.args.at < length v.current) c.self.view_is (leaving_within c.args.place.now (rows_in c.self.inside.lists).current c.args.at c.self.invariant.sound.kept.ordered (subst (λ v. c.args.at < length (rows_at c.args.place.now v.current)) (sym c.self.view_is) c.requires.within))

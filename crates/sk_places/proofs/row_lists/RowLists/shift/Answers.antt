@@ -1,7 +1,7 @@
 use Rattle.std.proofs.Common.{arith, refl, sym, ◌∙◌}
 use Rattle.sk_places.proofs.Holding.{list_there, some_found, space_for, within_listed}
 use Rattle.sk_places.proofs.Shifts.{may_move, shifted_is}
-use Rattle.sk_places.proofs.row_lists.RowLists.shift_listed.Goals as goal
+use Rattle.sk_places.proofs.row_lists.RowLists.shift.Goals as goal
 
 pub place_behind-there-requires-clause-list : goal.place_behind-there-requires-clause-list
 place_behind-there-requires-clause-list c = list_there c.args.self.now c.args.from.now c.in-Some.list c.requires.lists (sym c.number_of.ensures ∙ c.in-Some.is)

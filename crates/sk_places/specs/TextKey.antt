@@ -1,0 +1,51 @@
+-- The keys of the index of the sets' texts, and their order.
+use Rattle.std.specs.Prelude.{◌≡◌, ℤ, true, pos, refl}
+use Rattle.std.specs.Cmp.{IsTotalOrder}
+use Rattle.std.specs.Cmp.Lexicographic.{slice_cmp}
+use Rattle.std.specs.Ordering.{int_cmp, is_le, nat_cmp, ordering_then}
+use Rattle.std.specs.declared.cmp.Ordering.{Ordering}
+use Rattle.std.specs.declared.cmp.Ordering.TheVariants.{Less, Equal, Greater}
+use Rattle.std.proofs.lemmas.Cmp.{then_total, on_total, nat_cmp_total, int_cmp_total, nat_list_cmp_total}
+use Rattle.sk_resp.specs.Spelling.{Bytes}
+use Rattle.sk_cmd.specs.declared.argument.Scored.{Scored}
+use Rattle.sk_undo.specs.Queries.{key_query, le_le, lt_le}
+use Rattle.sk_undo.specs.Sorted.{IsQuery}
+use Rattle.sk_places.specs.declared.text_key.TextKey.{TextKey}
+use Rattle.sk_places.specs.Rows.{set_rank}
+
+-- the key of a text in a set, with its score there
+abbrev pub key_in : Scored → Bytes → ℤ → TextKey
+key_in set text score = record { set = set; payload = text; score = score }
+
+-- how a text in a set stands to a key: by the sets, and then by the texts' bytes
+abbrev pub text_order : Scored → Bytes → TextKey → Ordering
+text_order set text key = ordering_then (nat_cmp (set_rank set) (set_rank key.set)) (slice_cmp nat_cmp text key.payload)
+
+-- the order of keys: so, and then by the scores
+abbrev pub key_cmp : TextKey → TextKey → Ordering
+key_cmp x y = ordering_then (text_order x.set x.payload y) (int_cmp x.score y.score)
+
+-- ## The order is total, and what is looked for is a query
+
+abbrev text_cmp : TextKey → TextKey → Ordering
+text_cmp x y = text_order x.set x.payload y
+
+text_total : IsTotalOrder text_cmp
+text_total = then_total (on_total (λ (k : TextKey). set_rank k.set) nat_cmp_total) (on_total (λ (k : TextKey). k.payload) nat_list_cmp_total)
+
+pub key_total : IsTotalOrder key_cmp
+key_total = then_total text_total (on_total (λ (k : TextKey). k.score) int_cmp_total)
+
+then_le : (o p : Ordering) → is_le (ordering_then o p) ≡ true → is_le o ≡ true
+then_le Less p h = refl
+then_le Equal p h = refl
+then_le Greater p h = h
+
+pub text_query : (set : Scored) (text : Bytes) → IsQuery key_cmp (text_order set text)
+text_query set text = record {
+  le = λ x y h k. le_le text_total (key_in set text (pos 0)) x y h (then_le (text_cmp x y) (int_cmp x.score y.score) k);
+  lt = λ x y h k. lt_le text_total (key_in set text (pos 0)) x y h (then_le (text_cmp x y) (int_cmp x.score y.score) k);
+}
+
+pub key_query_of : (key : TextKey) → IsQuery key_cmp (key_cmp key)
+key_query_of key = key_query key_total key

@@ -1,0 +1,122 @@
+// The index of the sets' texts: the set, the text and the score of each row of a set. The least score of a text in a set is looked up in it, and by
+// the score the row. Rows of queues and of private lists have no key.
+ghost use Rattle.std.specs.Prelude.{◌≡◌, ◌+◌, ◌<◌, ◌≤◌, IfOk, None};
+ghost use Rattle.sk_undo.specs.Versions.{edited};
+ghost use Rattle.sk_places.specs.TextKey.{key_cmp, key_in, key_query_of, text_order, text_query};
+ghost use Rattle.sk_places.specs.TextIndex.{IsLeastScore, key_at, with_key, without_key};
+
+use crate::Memory;
+use crate::row::{Place, RowKey};
+use crate::search::compare_scores;
+use crate::text_key::{TextKey, compare_text};
+use sk_base::Score;
+use sk_cmd::Scored;
+use sk_payload::Payload;
+use sk_undo::{Query, UndoMultiset};
+use std::cmp::Ordering;
+
+pub type TextIndex = UndoMultiset<TextKey>;
+
+// All keys of a text in a set.
+#[derive(Drop)]
+struct OfText<'a> {
+    set: Scored,
+    text: &'a [u8],
+}
+
+impl<'a> Query<TextKey> for OfText<'a> {
+    ghost order = { λ query. text_order query.set query.text.now };
+
+    fn cmp_key(&self, key: &TextKey) -> Ordering {
+        compare_text(self.set, self.text, key)
+    }
+
+    ghost is_query = { λ query. text_query query.set query.text.now };
+}
+
+// The keys of a text in a set with this score.
+#[derive(Drop)]
+struct OfScore<'a> {
+    set: Scored,
+    text: &'a [u8],
+    score: Score,
+}
+
+impl<'a> Query<TextKey> for OfScore<'a> {
+    ghost order = { λ query. key_cmp (key_in query.set query.text.now query.score) };
+
+    fn cmp_key(&self, key: &TextKey) -> Ordering {
+        compare_text(self.set, self.text, key).then(compare_scores(self.score, key.score))
+    }
+
+    ghost is_query = { λ query. key_query_of (key_in query.set query.text.now query.score) };
+}
+
+/// The key of a row, where it is in a set. It shares the text.
+pub fn key_of(row_key: &RowKey, payload: &Payload) -> Result<Option<TextKey>, Memory>
+    ensures { IfOk result (λ key. key ≡ key_at row_key.now.place row_key.now.score payload.now) }
+{
+    match &row_key.place {
+        Place::Set(set) => Ok(Some(TextKey {
+            set: *set,
+            payload: payload.copy()?,
+            score: row_key.score,
+        })),
+        _ => Ok(None),
+    }
+}
+
+/// Puts the key of one more row in.
+pub fn add_key(index: &mut TextIndex, key: Option<TextKey>)
+    requires { 0 < index.old.room }
+    ensures { index.new.list ≡ edited (with_key key index.old.list.current) index.old.list }
+{
+    if let Some(key) = key {
+        index.put(key);
+    }
+}
+
+/// Takes the key of one row out. An open step keeps it until it is closed.
+pub fn drop_key(index: &mut TextIndex, place: &Place, score: Score, payload: &Payload)
+    requires { 0 < index.old.room }
+    ensures list { index.new.list ≡ edited (without_key (key_at place.now score payload.now) index.old.list.current) index.old.list }
+    ensures room { index.old.room ≤ index.new.room + 1 }
+{
+    if let Place::Set(set) = place {
+        index.remove(&OfScore {
+            set: *set,
+            text: payload.text().bytes(),
+            score,
+        });
+    }
+}
+
+/// The same where no step is open. Takes no memory.
+pub fn take_key(index: &mut TextIndex, place: &Place, score: Score, payload: &Payload)
+    requires { index.old.list.saved ≡ None }
+    ensures { index.new.list ≡ edited (without_key (key_at place.now score payload.now) index.old.list.current) index.old.list }
+{
+    if let Place::Set(set) = place {
+        index.take(&OfScore {
+            set: *set,
+            text: payload.text().bytes(),
+            score,
+        });
+    }
+}
+
+/// The least score of a text in a set. Logarithmic.
+pub fn least_score(index: &TextIndex, set: Scored, text: &[u8]) -> Option<Score>
+    ensures { IsLeastScore set text.now result index.now.list.current }
+{
+    let at = index.rank(&OfText { set, text });
+    if at == index.len() {
+        return None;
+    }
+    let key = index.at(at);
+    if compare_text(set, text, key).is_eq() {
+        Some(key.score)
+    } else {
+        None
+    }
+}
