@@ -8,6 +8,8 @@ pub record EarView : Type 0 where
   pub heard : List Ends
   -- those that were left to it
   pub kept : Option (Collected Ends)
+  -- how often it was nudged, as long as a 64-bit counter tells it
+  pub nudged : Option ℕ
   -- how often it has failed
   pub faults : ℕ
 

@@ -2,7 +2,7 @@
 ghost use Rattle.std.specs.Prelude.{◌≡◌, ◌≤◌, ◌∷◌, ℕ, List, [], Option, None, Err, vec_len, IfOk, IfSome, OnOk, OnErr};
 ghost use Rattle.sk_base.specs.Outside.{HasCause, Rose};
 ghost use Rattle.sk_edge.specs.Collected.{Collected, Keeps, MakesRoom};
-ghost use Rattle.sk_edge.specs.Doors.{GivesFirst, Listens};
+ghost use Rattle.sk_edge.specs.Doors.{GivesFirst, IsNudged, Listens};
 ghost use Rattle.sk_edge.specs.declared.door.DoorFault.TheVariants.{Memory};
 
 use sk_base::{Conn, Failed};
@@ -21,26 +21,29 @@ pub trait Ear: Drop {
     /// The connections that were left to it, where it tells them.
     ghost kept: { Self → Option (Collected Self.Conn) };
 
+    /// How often it was nudged, where it tells that. Each call counts, also one that failed.
+    ghost nudged: { Self → Option ℕ };
+
     /// Waits for the next connection. An ear that tells its connections fails only behind the last of them.
     fn accept(&mut self) -> Result<Self::Conn, Failed>
         ensures heard { IfOk result (λ conn. GivesFirst (heard self.old) conn (heard self.new)) }
         ensures end { OnErr result (IfSome (heard self.old) (λ conns. conns ≡ [])) }
         ensures err { OnErr result (heard self.new ≡ heard self.old) }
-        ensures kept { kept self.new ≡ kept self.old }
+        ensures beside { (kept self.new ≡ kept self.old) × (nudged self.new ≡ nudged self.old) }
         ensures cause { HasCause (ear_faults self.old) (ear_faults self.new) result };
 
     /// Makes one connection to the own port and drops it, so that an ear that waits there goes on. An ear that tells its connections hears nothing of
-    /// it, and doesn't fail.
+    /// it, and doesn't fail. The call counts, whatever comes of it.
     fn nudge(&mut self) -> Result<(), Failed>
-        ensures heard { heard self.new ≡ heard self.old }
-        ensures kept { kept self.new ≡ kept self.old }
+        ensures count { IsNudged (nudged self.old) 1 (nudged self.new) }
+        ensures beside { (heard self.new ≡ heard self.old) × (kept self.new ≡ kept self.old) }
         ensures told { OnErr result (heard self.old ≡ None) }
         ensures cause { HasCause (ear_faults self.old) (ear_faults self.new) result };
 
     /// Takes a connection that is done with. Takes no memory.
     fn leave(&mut self, conn: Self::Conn)
         ensures kept { Keeps (kept self.old) (conn ∷ []) (kept self.new) }
-        ensures heard { heard self.new ≡ heard self.old }
+        ensures beside { (heard self.new ≡ heard self.old) × (nudged self.new ≡ nudged self.old) }
         ensures faults { ear_faults self.new ≡ ear_faults self.old };
 }
 
@@ -85,7 +88,7 @@ pub trait Door {
     /// As many ears at the port as asked. A door that tells what its ears will hear doesn't fail.
     fn listen(&mut self, port: u16, loops: usize) -> Result<Vec<Self::Ear>, DoorFault>
         ensures count { IfOk result (λ ears. vec_len ears ≡ loops) }
-        ensures heard { IfOk result (λ ears. Listens Self.Ear.heard Self.Ear.kept (heard self.old) ears.items (heard self.new)) }
+        ensures heard { IfOk result (λ ears. Listens Self.Ear.heard Self.Ear.kept Self.Ear.nudged (heard self.old) ears.items (heard self.new)) }
         ensures room { OnOk result (MakesRoom (gathered self.old) loops (gathered self.new)) }
         ensures err { OnErr result ((heard self.new ≡ heard self.old) × (gathered self.new ≡ gathered self.old)) }
         ensures beside { (dialled self.new ≡ dialled self.old) × (kept self.new ≡ kept self.old) }

@@ -116,7 +116,7 @@ impl MemDoor {
         requires empty { (ears.items ≡ []) × (vec_len rooms ≤ vec_capacity ears) }
         requires rooms { AllZip IsRoomFor rooms.items (first_lists (vec_len rooms) self.old.heard) }
         ensures len { vec_len result ≡ vec_len rooms }
-        ensures heard { Listens (λ e. Some e.heard) (λ e. e.kept) (Some self.old.heard) result.items (Some self.new.heard) }
+        ensures heard { Listens (λ e. Some e.heard) (λ e. e.kept) (λ e. e.nudged) (Some self.old.heard) result.items (Some self.new.heard) }
         ensures same { self.new ≡ record self.old { heard = self.new.heard } }
     {
         for room in rooms {

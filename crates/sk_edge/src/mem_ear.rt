@@ -12,6 +12,8 @@ use std::marker::Model;
 pub struct MemEar {
     heard: VecDeque<MemConn>,
     kept: Collector<MemConn>,
+    // how often it was nudged, none where it doesn't fit
+    nudged: Option<u64>,
     faults: u64,
 }
 
@@ -20,17 +22,18 @@ impl Model for MemEar {
 
     ghost Value = { EarView };
 
-    ghost view = { λ e. record { heard = e.heard.items; kept = e.kept; faults = e.faults } };
+    ghost view = { λ e. record { heard = e.heard.items; kept = e.kept; nudged = e.nudged; faults = e.faults } };
 }
 
 impl MemEar {
     // An ear that hears these connections.
     pub(crate) fn new(heard: Vec<MemConn>, kept: Collector<MemConn>) -> MemEar
-        ensures { result ≡ record { heard = heard.items; kept = kept; faults = 0 } }
+        ensures { result ≡ record { heard = heard.items; kept = kept; nudged = Some 0; faults = 0 } }
     {
         MemEar {
             heard: VecDeque::from(heard),
             kept,
+            nudged: Some(0),
             faults: 0,
         }
     }
@@ -40,6 +43,13 @@ impl MemEar {
         ensures { IfSome self.now.kept (λ kept. result.now ≡ kept.items) }
     {
         self.kept.items()
+    }
+
+    /// How often it was nudged. None where that was 2^64 times or more.
+    pub fn nudged(&self) -> Option<u64>
+        ensures { result ≡ self.now.nudged }
+    {
+        self.nudged
     }
 }
 
@@ -52,6 +62,8 @@ impl Ear for MemEar {
 
     ghost kept = { λ e. e.kept };
 
+    ghost nudged = { λ e. e.nudged };
+
     fn accept(&mut self) -> Result<MemConn, Failed> {
         match self.heard.pop_front() {
             Some(conn) => Ok(conn),
@@ -62,8 +74,9 @@ impl Ear for MemEar {
         }
     }
 
-    /// Nothing is heard of it, and it never fails.
+    /// It is counted. Nothing is heard of it, and it never fails.
     fn nudge(&mut self) -> Result<(), Failed> {
+        self.nudged = self.nudged.and_then(|count| count.checked_add(1));
         Ok(())
     }
 

@@ -123,6 +123,8 @@ impl<R: Net<Listener = TcpListener, Stream = TcpStream> + Clock + Drop> Ear for 
 
     ghost kept = { λ _. None };
 
+    ghost nudged = { λ _. None };
+
     fn accept(&mut self) -> Result<TcpConn, Failed> {
         match self.next() {
             Some(stream) => Ok(TcpConn::new(self.alloc, stream)),

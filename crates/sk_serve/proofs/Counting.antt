@@ -35,17 +35,17 @@ all_back new mid old total n a b back gave same all = omega (arith, back, gave, 
 -- ## A list that is moved from its end to another
 
 -- one more
-pub moved : {X Y : Type 0} (f : X → ℕ) (g : Y → ℕ) (xs xs' : List X) (x : X) (ys ys' : List Y) (y : Y) (all : List ℕ) → xs ≡ xs' ++ x ∷ [] → ys' ≡ ys ++ y ∷ [] → g y ≡ f x
+pub moved : {X Y T : Type 0} (f : X → T) (g : Y → T) (xs xs' : List X) (x : X) (ys ys' : List Y) (y : Y) (all : List T) → xs ≡ xs' ++ x ∷ [] → ys' ≡ ys ++ y ∷ [] → g y ≡ f x
     → map g ys ++ reverse (map f xs) ≡ all → map g ys' ++ reverse (map f xs') ≡ all
 moved f g xs xs' x ys ys' y all gone come same was =
     let back : reverse (map f xs) ≡ f x ∷ reverse (map f xs') = ap (λ z. reverse (map f z)) gone ∙ ap reverse (map_push f xs' x) ∙ reverse-append (map f xs') (f x ∷ []) in
     let front : map g ys' ≡ map g ys ++ f x ∷ [] = ap (map g) come ∙ map_push g ys y ∙ ap (λ n. map g ys ++ n ∷ []) same in
     ap (λ z. z ++ reverse (map f xs')) front ∙ append_assoc (map g ys) (f x ∷ []) (reverse (map f xs')) ∙ sym (ap (λ z. map g ys ++ z) back) ∙ was
 
-pub none_yet : {Y : Type 0} (g : Y → ℕ) (ys : List Y) (all : List ℕ) → length ys ≡ 0 → map g ys ++ all ≡ all
+pub none_yet : {Y T : Type 0} (g : Y → T) (ys : List Y) (all : List T) → length ys ≡ 0 → map g ys ++ all ≡ all
 none_yet g [] all none = refl
 none_yet g (y ∷ ys) all none = absurd (omega (arith, none))
 
-pub all_moved : {X Y : Type 0} (f : X → ℕ) (g : Y → ℕ) (xs : List X) (ys : List Y) (all : List ℕ) → length xs ≡ 0 → map g ys ++ reverse (map f xs) ≡ all → map g ys ≡ all
+pub all_moved : {X Y T : Type 0} (f : X → T) (g : Y → T) (xs : List X) (ys : List Y) (all : List T) → length xs ≡ 0 → map g ys ++ reverse (map f xs) ≡ all → map g ys ≡ all
 all_moved f g [] ys all none is = sym (append-nil (map g ys)) ∙ is
 all_moved f g (x ∷ xs) ys all none is = absurd (omega (arith, none))

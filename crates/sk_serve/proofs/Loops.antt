@@ -1,10 +1,12 @@
 -- What the sessions of a loop, and of several, add up to.
-use Rattle.std.proofs.Common.{◌≡◌, ℕ, ◌+◌, ◌*◌, ◌⊎◌, List, [], ◌∷◌, ◌++◌, length, length-append, refl, sym, ap, ◌∙◌, subst, arith, inl, inr, Bool, true, false, ◌||◌, Result, Ok, Err, zero, suc, Option, None}
+use Rattle.std.proofs.Common.{◌≡◌, ◌≢◌, ℕ, ◌+◌, ◌*◌, ◌-◌, ◌⊎◌, List, [], ◌∷◌, ◌++◌, length, length-append, refl, sym, ap, ◌∙◌, subst, arith, inl, inr, Bool, true, false, ◌||◌, Result, Ok, Err, zero, suc, Option, None}
 use Rattle.std.specs.Prelude.{◌≤◌, ◌<◌, map, reverse, All, IfOk}
 use Rattle.std.specs.List.{AllZip, Any}
 use Rattle.std.proofs.lemmas.List.{length-map, length-reverse, reverse-append, reverse-reverse}
 use Rattle.std.proofs.lemmas.List.Elements.{AllZip-get_or, length_all_zip}
 use Rattle.sk_base.specs.Outside.{Rose}
+use Rattle.sk_edge.specs.Collected.{Collected, Keeps, MakesRoom}
+use Rattle.sk_edge.specs.Doors.{IsNudged}
 use Rattle.sk_resp.specs.Spelling.{Bytes}
 use Rattle.sk_desk.specs.Pass.{PassView}
 use Rattle.sk_talk.specs.Talk.{DoesAll, Ends}
@@ -12,12 +14,14 @@ use Rattle.sk_talk.specs.declared.talk_end.TalkEnd.{TalkEnd}
 use Rattle.sk_talk.specs.declared.talk_end.TalkEnd.TheVariants as end
 use Rattle.sk_serve.specs.declared.accept_loop.LoopEnd.{LoopEnd}
 use Rattle.sk_serve.specs.declared.accept_loop.LoopEnd.TheVariants as loop_end
+use Rattle.sk_serve.specs.declared.serve_end.ServeEnd.{ServeEnd}
 use Rattle.sk_serve.specs.declared.serve_end.Served.{Served}
 use Rattle.sk_serve.specs.declared.serve_end.ServeFault.{ServeFault}
 use Rattle.sk_serve.specs.declared.serve_end.ServeFault.TheVariants as fault
 use Rattle.sk_serve.specs.Ending.{IfServed, end_of}
 use Rattle.sk_serve.specs.Session.{Does, IsSession}
-use Rattle.sk_serve.specs.Server.{at_desk, AddsUp, AreSummaries, HasShutdown, IsDone, IsFresh, IsLoop, IsSettled, IsSummary, IsUsedUp, LoopView, Runs, ServesOne, SomeRose, Summary, SumsUp, acknowledged_in}
+use Rattle.sk_serve.specs.Server.{at_desk, AddsUp, AreSummaries, HasShutdown, IsDone, IsFresh, IsFull, IsLoop, IsSettled, IsSummary, IsUsedUp, LoopView, Runs, ServesOne, SomeEar, SomeZip, Summary, SumsUp, WokeOthers, acknowledged_in, nudges_at}
+use Rattle.sk_serve.proofs.Nudging.{nudged_more, nudged_none}
 
 pub from_ok : {T E : Type 0} (r : Result T E) (x : T) (F : T → Type 0) → r ≡ Ok x → IfOk r F → F x
 from_ok r x F is got = subst (λ z. IfOk z F) is got
@@ -81,14 +85,46 @@ pub rose_from : (a b c : ℕ) → a ≤ b → Rose b c → Rose a c
 rose_from a b c le (inl less) = inl (omega (arith, less, le))
 rose_from a b c le (inr last) = inr last
 
-pub runs_nothing : (l : LoopView) → Runs l l
-runs_nothing l = record { numbers_same = refl; later = omega arith; failed = λ is. inl is }
+pub runs_nothing : (others : ℕ) (l : LoopView) → Runs others l l
+runs_nothing others l = record {
+  numbers_same = refl;
+  later = omega arith;
+  failed = λ is. inl is;
+  woke = λ done. subst (λ end. IsNudged l.nudged (nudges_at end others) l.nudged) (sym done) (nudged_none l.nudged);
+  over = λ ended. refl;
+  quit = λ shut. inl shut;
+}
 
-pub runs_on : (old mid new : LoopView) → Runs old mid → Runs mid new → Runs old new
-runs_on old mid new first then_ = record {
+done_or : (end : LoopEnd) → (end ≡ loop_end.Done) ⊎ (end ≢ loop_end.Done)
+done_or loop_end.Done = inl refl
+done_or loop_end.Shutdown = inr (λ is. cc is)
+done_or loop_end.Failed = inr (λ is. cc is)
+done_or loop_end.Spent = inr (λ is. cc is)
+done_or loop_end.Memory = inr (λ is. cc is)
+
+-- A loop that had ended by a cause of its own by then doesn't run again.
+woke_on : (others : ℕ) (old mid new : LoopView) → IsNudged old.nudged (nudges_at mid.end others) mid.nudged → Runs others mid new → IsNudged old.nudged (nudges_at new.end others) new.nudged
+woke_on others old mid new first then_ = by_end (done_or mid.end) where
+  by_end : (mid.end ≡ loop_end.Done) ⊎ (mid.end ≢ loop_end.Done) → IsNudged old.nudged (nudges_at new.end others) new.nudged
+  by_end (inl done) =
+      nudged_more old.nudged mid.nudged new.nudged 0 (nudges_at new.end others) (nudges_at new.end others) (subst (λ end. IsNudged old.nudged (nudges_at end others) mid.nudged) done first) (then_.woke done) (omega arith)
+  by_end (inr ended) = subst (λ (l : LoopView). IsNudged old.nudged (nudges_at l.end others) l.nudged) (sym (then_.over ended)) first
+
+quit_on : (others : ℕ) (old mid new : LoopView) → Runs others old mid → Runs others mid new → (mid.shut ≡ true) ⊎ (new.end ≢ loop_end.Done) → (old.shut ≡ true) ⊎ (new.end ≢ loop_end.Done)
+quit_on others old mid new first then_ (inr ended) = inr ended
+quit_on others old mid new first then_ (inl shut) = by_first (first.quit shut) where
+  by_first : (old.shut ≡ true) ⊎ (mid.end ≢ loop_end.Done) → (old.shut ≡ true) ⊎ (new.end ≢ loop_end.Done)
+  by_first (inl was) = inl was
+  by_first (inr ended) = inr (λ done. ended (sym (ap (λ (l : LoopView). l.end) (then_.over ended)) ∙ done))
+
+pub runs_on : (others : ℕ) (old mid new : LoopView) → Runs others old mid → Runs others mid new → Runs others old new
+runs_on others old mid new first then_ = record {
   numbers_same = then_.numbers_same ∙ first.numbers_same;
   later = omega (arith, first.later, then_.later);
   failed = λ is. by_last (then_.failed is);
+  woke = λ done. woke_on others old mid new (first.woke done) then_;
+  over = λ ended. then_.over (λ done. ended (sym (ap (λ (l : LoopView). l.end) (first.over ended)) ∙ done)) ∙ first.over ended;
+  quit = λ shut. quit_on others old mid new first then_ (then_.quit shut);
 }
   where
     by_first : (mid.end ≡ loop_end.Failed → (old.end ≡ loop_end.Failed) ⊎ Rose old.faults mid.faults) → mid.end ≡ loop_end.Failed → (old.end ≡ loop_end.Failed) ⊎ Rose old.faults new.faults
@@ -101,17 +137,17 @@ runs_on old mid new first then_ = record {
     by_last (inl was) = by_first first.failed was
     by_last (inr rose) = inr (rose_from old.faults mid.faults new.faults first.later rose)
 
-pub all_run_nothing : (loops : List LoopView) → AllZip Runs loops loops
-all_run_nothing [] = tt
-all_run_nothing (l ∷ loops) = (runs_nothing l, all_run_nothing loops)
+pub all_run_nothing : (others : ℕ) (loops : List LoopView) → AllZip (Runs others) loops loops
+all_run_nothing others [] = tt
+all_run_nothing others (l ∷ loops) = (runs_nothing others l, all_run_nothing others loops)
 
-pub all_run_on : (old mid new : List LoopView) → AllZip Runs old mid → AllZip Runs mid new → AllZip Runs old new
-all_run_on [] [] [] first then_ = tt
-all_run_on (a ∷ old) (b ∷ mid) (c ∷ new) first then_ = (runs_on a b c first.0 then_.0, all_run_on old mid new first.1 then_.1)
-all_run_on [] (b ∷ mid) new first then_ = absurd first
-all_run_on (a ∷ old) [] new first then_ = absurd first
-all_run_on [] [] (c ∷ new) first then_ = absurd then_
-all_run_on (a ∷ old) (b ∷ mid) [] first then_ = absurd then_
+pub all_run_on : (others : ℕ) (old mid new : List LoopView) → AllZip (Runs others) old mid → AllZip (Runs others) mid new → AllZip (Runs others) old new
+all_run_on others [] [] [] first then_ = tt
+all_run_on others (a ∷ old) (b ∷ mid) (c ∷ new) first then_ = (runs_on others a b c first.0 then_.0, all_run_on others old mid new first.1 then_.1)
+all_run_on others [] (b ∷ mid) new first then_ = absurd first
+all_run_on others (a ∷ old) [] new first then_ = absurd first
+all_run_on others [] [] (c ∷ new) first then_ = absurd then_
+all_run_on others (a ∷ old) (b ∷ mid) [] first then_ = absurd then_
 
 -- ## Several loops
 
@@ -159,10 +195,10 @@ adds_more count served total before mid after amount shut ended both total_is t 
     by_first false e is f g = shutdown_later t.sums.sessions u.sessions (g is)
 
 -- each loop has as many numbers after its run as before it
-pub numbers_kept : (n : ℕ) (old new : List LoopView) → AllZip Runs old new → All (IsFresh n) old → All (λ it. it.numbers ≡ n) new
-numbers_kept n old new ran fresh k d less =
-    let before : k < length old = omega (arith, less, length_all_zip Runs old new ran) in
-    (AllZip-get_or Runs old new k d d ran before).numbers_same ∙ (fresh k d before).numbers_are
+pub numbers_kept : (others n : ℕ) (old new : List LoopView) → AllZip (Runs others) old new → All (IsFresh n) old → All (λ it. it.numbers ≡ n) new
+numbers_kept others n old new ran fresh k d less =
+    let before : k < length old = omega (arith, less, length_all_zip (Runs others) old new ran) in
+    (AllZip-get_or (Runs others) old new k d d ran before).numbers_same ∙ (fresh k d before).numbers_are
 
 pub sums_alone : (count before after amount : ℕ) (shut : Bool) → AddsUp count before after shut → before ≡ 0 → amount ≡ after → SumsUp count amount shut
 sums_alone count before after amount shut t none is = record {
@@ -177,7 +213,7 @@ pub done_by : (bound count sessions : ℕ) (shut : Bool) (loops : List LoopView)
     → IsDone bound count sessions shut
 done_by bound count sessions shut loops (inl (some, all)) full quiet = inl (some, full all)
 done_by bound count sessions true loops (inr some) full quiet = inr refl
-done_by bound count sessions false loops (inr some) full quiet = absurd (some (quiet refl))
+done_by bound count sessions false loops (inr (k, x, less, is, shut)) full quiet = absurd (cc (sym (ap (λ (l : LoopView). l.shut) (sym is) ∙ quiet refl k x less) ∙ shut))
 
 -- ## Faults
 
@@ -191,47 +227,81 @@ used_up pass numbers served shut how loop spent = record {
 pub used_up_one : (n : ℕ) (loops : List LoopView) → All (λ it. it.numbers ≡ n) loops → Any (λ it. IsUsedUp it.numbers) loops → IsUsedUp n
 used_up_one n loops numbers (k, x, less, is, used) = subst IsUsedUp (ap (λ (l : LoopView). l.numbers) (sym is) ∙ numbers k x less) used
 
-rose_among : (n : ℕ) (old new : List LoopView) → AllZip Runs old new → All (IsFresh n) old → Any (λ it. it.end ≡ loop_end.Failed) new → SomeRose (map (λ (l : LoopView). l.faults) old) (map (λ (l : LoopView). l.faults) new)
-rose_among n [] [] ran fresh (k, x, less, is, failed) = absurd (omega (arith, less))
-rose_among n (a ∷ old) (b ∷ new) ran fresh (zero, x, less, is, failed) = here (ran.0.failed (ap (λ (l : LoopView). l.end) is ∙ failed)) where
-  here : (a.end ≡ loop_end.Failed) ⊎ Rose a.faults b.faults → SomeRose (map (λ (l : LoopView). l.faults) (a ∷ old)) (map (λ (l : LoopView). l.faults) (b ∷ new))
-  here (inl was) = absurd (cc (sym (fresh 0 a (omega arith)).end_is ∙ was))
-  here (inr rose) = inl rose
-rose_among n (a ∷ old) (b ∷ new) ran fresh (suc k, x, less, is, failed) = inr (rose_among n old new ran.1 (λ i d below. fresh (suc i) d (omega (arith, below))) (k, x, omega (arith, less), is, failed))
-rose_among n [] (b ∷ new) ran fresh failed = absurd ran
-rose_among n (a ∷ old) [] ran fresh failed = absurd ran
-
-rose_last : (xs ys : List ℕ) (a b : ℕ) → length xs ≡ length ys → SomeRose (xs ++ a ∷ []) (ys ++ b ∷ []) → SomeRose (a ∷ xs) (b ∷ ys)
-rose_last [] [] a b same some = some
-rose_last (x ∷ xs) (y ∷ ys) a b same (inl rose) = inr (inl rose)
-rose_last (x ∷ xs) (y ∷ ys) a b same (inr some) = further (rose_last xs ys a b (omega (arith, same)) some) where
-  further : SomeRose (a ∷ xs) (b ∷ ys) → SomeRose (a ∷ x ∷ xs) (b ∷ y ∷ ys)
-  further (inl rose) = inl rose
-  further (inr more) = inr (inr more)
-rose_last [] (y ∷ ys) a b same some = absurd (omega (arith, same))
-rose_last (x ∷ xs) [] a b same some = absurd (omega (arith, same))
+-- ## One among several
 
 or_map : {A B C : Type 0} → (B → C) → A ⊎ B → A ⊎ C
 or_map f (inl a) = inl a
 or_map f (inr b) = inr (f b)
 
--- the other way round they rose as well
-rose_back : (xs ys : List ℕ) → length xs ≡ length ys → SomeRose (reverse xs) (reverse ys) → SomeRose xs ys
-rose_back [] [] same some = some
-rose_back (x ∷ xs) (y ∷ ys) same some =
-    or_map (λ more. rose_back xs ys (omega (arith, same)) more) (rose_last (reverse xs) (reverse ys) x y (length-reverse xs ∙ omega (arith, same) ∙ sym (length-reverse ys))
-    (subst (λ z. SomeRose z (reverse ys ++ y ∷ [])) (reverse-append (x ∷ []) xs) (subst (λ z. SomeRose (reverse (x ∷ xs)) z) (reverse-append (y ∷ []) ys) some)))
-rose_back [] (y ∷ ys) same some = absurd (omega (arith, same))
-rose_back (x ∷ xs) [] same some = absurd (omega (arith, same))
+module _ {T : Type 0} (R : T → T → Type 0) where
+  -- one loop after its run, which hadn't run before
+  some_among : (f : LoopView → T) (P : LoopView → Type 0) (others n : ℕ) → ((a b : LoopView) → IsFresh n a → Runs others a b → P b → R (f a) (f b))
+      → (old new : List LoopView) → AllZip (Runs others) old new → All (IsFresh n) old → Any P new → SomeZip R (map f old) (map f new)
+  some_among f P others n each [] [] ran fresh (k, x, less, is, p) = absurd (omega (arith, less))
+  some_among f P others n each (a ∷ old) (b ∷ new) ran fresh (zero, x, less, is, p) = inl (each a b (fresh 0 a (omega arith)) ran.0 (subst P (sym is) p))
+  some_among f P others n each (a ∷ old) (b ∷ new) ran fresh (suc k, x, less, is, p) = inr (some_among f P others n each old new ran.1 (λ i d below. fresh (suc i) d (omega (arith, below))) (k, x, omega (arith, less), is, p))
+  some_among f P others n each [] (b ∷ new) ran fresh some = absurd ran
+  some_among f P others n each (a ∷ old) [] ran fresh some = absurd ran
 
--- A loop's ear failed: of the counts before and after, which stand the other way round, one rose.
-pub rose_through : (n : ℕ) (old new : List LoopView) (before after : List ℕ) → AllZip Runs old new → All (IsFresh n) old → Any (λ it. it.end ≡ loop_end.Failed) new → map (λ (l : LoopView). l.faults) old ≡ reverse before
-    → after ≡ reverse (map (λ (l : LoopView). l.faults) new) → SomeRose before after
-rose_through n old new before after ran fresh failed first last =
-    let again : map (λ (l : LoopView). l.faults) new ≡ reverse after = sym (ap reverse last ∙ reverse-reverse (map (λ (l : LoopView). l.faults) new)) in
-    let same : length before ≡ length after =
-    sym (length-reverse before) ∙ sym (ap length first) ∙ length-map old (λ (l : LoopView). l.faults) ∙ length_all_zip Runs old new ran ∙ sym (length-map new (λ (l : LoopView). l.faults)) ∙ ap length again ∙ length-reverse after in
-    rose_back before after same (subst (λ z. SomeRose z (reverse after)) first (subst (λ z. SomeRose (map (λ (l : LoopView). l.faults) old) z) again (rose_among n old new ran fresh failed)))
+  some_last : (xs ys : List T) (a b : T) → length xs ≡ length ys → SomeZip R (xs ++ a ∷ []) (ys ++ b ∷ []) → SomeZip R (a ∷ xs) (b ∷ ys)
+  some_last [] [] a b same some = some
+  some_last (x ∷ xs) (y ∷ ys) a b same (inl one) = inr (inl one)
+  some_last (x ∷ xs) (y ∷ ys) a b same (inr some) = further (some_last xs ys a b (omega (arith, same)) some) where
+    further : SomeZip R (a ∷ xs) (b ∷ ys) → SomeZip R (a ∷ x ∷ xs) (b ∷ y ∷ ys)
+    further (inl one) = inl one
+    further (inr more) = inr (inr more)
+  some_last [] (y ∷ ys) a b same some = absurd (omega (arith, same))
+  some_last (x ∷ xs) [] a b same some = absurd (omega (arith, same))
+
+  -- the other way round it is so as well
+  some_back : (xs ys : List T) → length xs ≡ length ys → SomeZip R (reverse xs) (reverse ys) → SomeZip R xs ys
+  some_back [] [] same some = some
+  some_back (x ∷ xs) (y ∷ ys) same some =
+      or_map (λ more. some_back xs ys (omega (arith, same)) more) (some_last (reverse xs) (reverse ys) x y (length-reverse xs ∙ omega (arith, same) ∙ sym (length-reverse ys))
+      (subst (λ z. SomeZip R z (reverse ys ++ y ∷ [])) (reverse-append (x ∷ []) xs) (subst (λ z. SomeZip R (reverse (x ∷ xs)) z) (reverse-append (y ∷ []) ys) some)))
+  some_back [] (y ∷ ys) same some = absurd (omega (arith, same))
+  some_back (x ∷ xs) [] same some = absurd (omega (arith, same))
+
+  -- what is seen of the ears before and after, which stand the other way round
+  some_through : (f : LoopView → T) (P : LoopView → Type 0) (others n : ℕ) → ((a b : LoopView) → IsFresh n a → Runs others a b → P b → R (f a) (f b))
+      → (old new : List LoopView) (before after : List T) → AllZip (Runs others) old new → All (IsFresh n) old → Any P new → map f old ≡ reverse before → after ≡ reverse (map f new) → SomeZip R before after
+  some_through f P others n each old new before after ran fresh some first last =
+      let again : map f new ≡ reverse after = sym (ap reverse last ∙ reverse-reverse (map f new)) in
+      let same : length before ≡ length after =
+      sym (length-reverse before) ∙ sym (ap length first) ∙ length-map old f ∙ length_all_zip (Runs others) old new ran ∙ sym (length-map new f) ∙ ap length again ∙ length-reverse after in
+      some_back before after same (subst (λ z. SomeZip R z (reverse after)) first (subst (λ z. SomeZip R (map f old) z) again (some_among f P others n each old new ran fresh some)))
+
+-- A loop's ear failed: its count rose.
+pub rose_through : (others n : ℕ) (old new : List LoopView) (before after : List ℕ) → AllZip (Runs others) old new → All (IsFresh n) old → Any (λ it. it.end ≡ loop_end.Failed) new
+    → map (λ (l : LoopView). l.faults) old ≡ reverse before → after ≡ reverse (map (λ (l : LoopView). l.faults) new) → SomeZip Rose before after
+rose_through others n old new before after ran fresh failed first last =
+    some_through Rose (λ l. l.faults) (λ l. l.end ≡ loop_end.Failed) others n (λ a b new_ ran_ is. rose_of a b new_ (ran_.failed is)) old new before after ran fresh failed first last
+  where
+    rose_of : (a b : LoopView) → IsFresh n a → (a.end ≡ loop_end.Failed) ⊎ Rose a.faults b.faults → Rose a.faults b.faults
+    rose_of a b new_ (inl was) = absurd (cc (sym new_.end_is ∙ was))
+    rose_of a b new_ (inr rose) = rose
+
+nudged_at : (others : ℕ) (end : LoopEnd) (a b : Option ℕ) → end ≢ loop_end.Done → IsNudged a (nudges_at end others) b → IsNudged a others b
+nudged_at others loop_end.Done a b ended nudged = absurd (ended refl)
+nudged_at others loop_end.Shutdown a b ended nudged = nudged
+nudged_at others loop_end.Failed a b ended nudged = nudged
+nudged_at others loop_end.Spent a b ended nudged = nudged
+nudged_at others loop_end.Memory a b ended nudged = nudged
+
+-- The loops served their number, or one was shut: it woke the others.
+pub woke_through : (bound others n count sessions : ℕ) (old new : List LoopView) (before after : List (Option ℕ)) → AllZip (Runs others) old new → All (IsFresh n) old → IsSettled bound new
+    → (All (λ it. it.served ≡ bound) new → sessions ≡ bound * count) → map (λ (l : LoopView). l.nudged) old ≡ reverse before → after ≡ reverse (map (λ (l : LoopView). l.nudged) new)
+    → IsFull bound count sessions ⊎ SomeZip (λ a b. IsNudged a others b) before after
+woke_through bound others n count sessions old new before after ran fresh (inl (some, all)) full first last = inl (some, full all)
+woke_through bound others n count sessions old new before after ran fresh (inr shut) full first last =
+    inr (some_through (λ a b. IsNudged a others b) (λ l. l.nudged) (λ l. l.shut ≡ true) others n woke_of old new before after ran fresh shut first last)
+  where
+    ended_of : (a b : LoopView) → IsFresh n a → (a.shut ≡ true) ⊎ (b.end ≢ loop_end.Done) → b.end ≢ loop_end.Done
+    ended_of a b new_ (inl was) = absurd (cc (sym new_.shut_is ∙ was))
+    ended_of a b new_ (inr ended) = ended
+
+    woke_of : (a b : LoopView) → IsFresh n a → Runs others a b → b.shut ≡ true → IsNudged a.nudged others b.nudged
+    woke_of a b new_ ran_ shut_ = nudged_at others b.end a.nudged b.nudged (ended_of a b new_ (ran_.quit shut_)) (ran_.woke new_.end_is)
 
 -- ## The end
 
@@ -240,3 +310,13 @@ pub unserved : (f : ServeFault) (P : Served → Type 0) → IfServed (end_of f) 
 unserved fault.Failed P = tt
 unserved fault.Spent P = tt
 unserved fault.Memory P = tt
+
+pub unserved_at : (f : ServeFault) (end : ServeEnd) (P : Served → Type 0) → end ≡ end_of f → IfServed end P
+unserved_at f end P is = subst (λ e. IfServed e P) (sym is) (unserved f P)
+
+-- The ears that woke the others go back to the door.
+pub woke_by : {E : Type 0} (nudged : E → Option ℕ) (bound n loops : ℕ) (gathered room gathered' : Option (Collected E)) (ears ears' : List E) (s : Served) → n ≡ loops
+    → IsFull bound n s.sessions ⊎ SomeZip (λ a b. IsNudged a (n - 1) b) (map nudged ears) (map nudged ears') → MakesRoom gathered loops room → Keeps room ears' gathered' → WokeOthers nudged bound loops gathered gathered' s
+woke_by nudged bound n loops gathered room gathered' ears ears' s is woke made gathers =
+    subst (λ k. IsFull bound k s.sessions ⊎ SomeEar nudged (λ a b. IsNudged a (k - 1) b) loops gathered gathered') is
+    (or_map (λ some. record { ears = ears; ears' = ears'; room = room; made = made; gathers = gathers; some = some }) woke)

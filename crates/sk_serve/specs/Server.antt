@@ -1,9 +1,11 @@
 -- What the sessions of a server did, loop by loop and in all.
-use Rattle.std.specs.Prelude.{◌≡◌, ◌⊎◌, ℕ, ◌+◌, ◌*◌, ◌<◌, ◌≤◌, All, List, [], ◌∷◌, length, map, Option, None, Bool, true, false}
+use Rattle.std.specs.Prelude.{◌≡◌, ◌≢◌, ◌⊎◌, ℕ, ◌+◌, ◌-◌, ◌*◌, ◌<◌, ◌≤◌, All, List, [], ◌∷◌, length, map, Option, None, Bool, true, false}
+use Rattle.std.specs.List.{Any}
 use Rattle.sk_base.specs.Outside.{Rose}
 use Rattle.sk_resp.specs.Spelling.{Bytes}
 use Rattle.sk_desk.specs.Pass.{PassView}
 use Rattle.sk_edge.specs.Collected.{Collected, Keeps, MakesRoom}
+use Rattle.sk_edge.specs.Doors.{IsNudged}
 use Rattle.sk_desk.specs.State.{IsBalanced}
 use Rattle.sk_talk.specs.Talk.{DoesAll, Ends}
 use Rattle.sk_talk.specs.declared.talk_end.TalkEnd.{TalkEnd}
@@ -73,7 +75,7 @@ ServesOne old new how = (new.count + 1 ≡ old.count) × ((added : ℕ) × IsSum
 -- ## Loops
 
 -- the pass, how many numbers it had at first, how many connections were served, whether a session ended by SHUTDOWN, how the loop ended, and how often
--- its ear has failed
+-- its ear has failed and was nudged
 pub record LoopView : Type 0 where
   pub pass : PassView
   pub numbers : ℕ
@@ -81,6 +83,7 @@ pub record LoopView : Type 0 where
   pub shut : Bool
   pub end : LoopEnd
   pub faults : ℕ
+  pub nudged : Option ℕ
 
 pub record IsLoop (pass : PassView) (numbers served : ℕ) (shut : Bool) (how : LoopEnd) : Type 0 where
   -- each desk gave its part back
@@ -90,26 +93,40 @@ pub record IsLoop (pass : PassView) (numbers served : ℕ) (shut : Bool) (how : 
   pub sums : SumsUp served pass.amount shut
   pub spent : how ≡ loop_end.Spent → pass.count ≡ 0
 
--- A loop ran. It ended as one whose ear failed only where the ear's count rose.
-pub record Runs (old new : LoopView) : Type 0 where
+-- how often the ear of a loop is nudged that ended so, beside so many others: once for each of them, where the loop ended by a cause of its own
+abbrev pub nudges_at : LoopEnd → ℕ → ℕ
+nudges_at loop_end.Done others = 0
+nudges_at other others = others
+
+-- A loop ran, beside so many others. It ended as one whose ear failed only where the ear's count rose. Where it ended by a cause of its own, as SHUTDOWN
+-- is one, it woke each other loop once, and else none; and it doesn't run again.
+pub record Runs (others : ℕ) (old new : LoopView) : Type 0 where
   pub numbers_same : new.numbers ≡ old.numbers
   pub later : old.faults ≤ new.faults
   pub failed : new.end ≡ loop_end.Failed → (old.end ≡ loop_end.Failed) ⊎ Rose old.faults new.faults
+  pub woke : old.end ≡ loop_end.Done → IsNudged old.nudged (nudges_at new.end others) new.nudged
+  pub over : old.end ≢ loop_end.Done → new ≡ old
+  pub quit : new.shut ≡ true → (old.shut ≡ true) ⊎ (new.end ≢ loop_end.Done)
 
 -- a loop that hasn't run
 pub record IsFresh (numbers : ℕ) (l : LoopView) : Type 0 where
   pub numbers_are : l.numbers ≡ numbers
   pub end_is : l.end ≡ loop_end.Done
+  pub shut_is : l.shut ≡ false
 
 -- There is a bound, and each loop served as many connections; or a session of one of them ended by SHUTDOWN.
 abbrev pub IsSettled : ℕ → List LoopView → Type 0
-IsSettled sessions loops = ((0 < sessions) × All (λ it. it.served ≡ sessions) loops) ⊎ (All (λ it. it.shut ≡ false) loops → ⊥)
+IsSettled sessions loops = ((0 < sessions) × All (λ it. it.served ≡ sessions) loops) ⊎ Any (λ it. it.shut ≡ true) loops
 
 -- ## A server
 
--- There is a bound, and so many loops served as many connections each; or a session ended by SHUTDOWN.
+-- There is a bound, and so many loops served as many connections each.
+abbrev pub IsFull : (bound loops sessions : ℕ) → Type 0
+IsFull bound loops sessions = (0 < bound) × (sessions ≡ bound * loops)
+
+-- That, or a session ended by SHUTDOWN.
 abbrev pub IsDone : (bound loops sessions : ℕ) → Bool → Type 0
-IsDone bound loops sessions shut = ((0 < bound) × (sessions ≡ bound * loops)) ⊎ (shut ≡ true)
+IsDone bound loops sessions shut = IsFull bound loops sessions ⊎ (shut ≡ true)
 
 -- What a server did: its sessions are counted, and what they acknowledged adds up to what the store counts from outside.
 pub record IsServed (bound loops : ℕ) (s : Served) : Type 0 where
@@ -119,23 +136,28 @@ pub record IsServed (bound loops : ℕ) (s : Served) : Type 0 where
   pub outside : s.acknowledged ≡ s.tally.outside
   pub balanced : IsBalanced s.tally
 
--- ## Faults
+-- ## Its ears
 
--- one of these counts of faults rose, each beside what it was
-abbrev pub SomeRose : List ℕ → List ℕ → Type 0
-SomeRose [] after = ⊥
-SomeRose (a ∷ before) [] = ⊥
-SomeRose (a ∷ before) (b ∷ after) = Rose a b ⊎ SomeRose before after
+-- this holds of one of these and of what it was before
+abbrev pub SomeZip : {T : Type 0} → (T → T → Type 0) → List T → List T → Type 0
+SomeZip R [] after = ⊥
+SomeZip R (a ∷ before) [] = ⊥
+SomeZip R (a ∷ before) (b ∷ after) = R a b ⊎ SomeZip R before after
 
--- The door gave ears and gathered them again, and the count of one of them rose meanwhile.
-pub record EarFailed {E : Type 0} (faults : E → ℕ) (loops : ℕ) (gathered gathered' : Option (Collected E)) : Type 0 where
+-- The door gave ears and gathered them again; of what is seen of one of them, before and after, this holds.
+pub record SomeEar {E T : Type 0} (seen : E → T) (R : T → T → Type 0) (loops : ℕ) (gathered gathered' : Option (Collected E)) : Type 0 where
   pub ears : List E
   pub ears' : List E
   pub room : Option (Collected E)
   pub made : MakesRoom gathered loops room
   pub gathers : Keeps room ears' gathered'
-  pub rose : SomeRose (map faults ears) (map faults ears')
+  pub some : SomeZip R (map seen ears) (map seen ears')
 
 -- The door's own count rose, or that of one of its ears.
 abbrev pub HasFailed : {D E : Type 0} → (D → ℕ) → (D → Option (Collected E)) → (E → ℕ) → ℕ → D → D → Type 0
-HasFailed door_faults gathered ear_faults loops old new = Rose (door_faults old) (door_faults new) ⊎ EarFailed ear_faults loops (gathered old) (gathered new)
+HasFailed door_faults gathered ear_faults loops old new = Rose (door_faults old) (door_faults new) ⊎ SomeEar ear_faults Rose loops (gathered old) (gathered new)
+
+-- Each loop served its number; or a loop woke the others: its ear was nudged once for each.
+abbrev pub WokeOthers : {E : Type 0} → (E → Option ℕ) → (bound loops : ℕ) → Option (Collected E) → Option (Collected E) → Served → Type 0
+WokeOthers nudged bound loops gathered gathered' s =
+    IsFull bound loops s.sessions ⊎ SomeEar nudged (λ before after. IsNudged before (loops - 1) after) loops gathered gathered'

@@ -1,6 +1,7 @@
 // One accept loop: it serves one connection after another, each on a seat of its own, and leaves each to its ear.
 ghost use Rattle.std.specs.Prelude.{◌≡◌, ◌≢◌, ◌≤◌, ◌*◌, ◌↔◌, IfOk, IfErr, IsTrue, Err, false, true};
 ghost use Rattle.sk_base.specs.Outside.{Rose};
+ghost use Rattle.sk_edge.specs.Doors.{IsNudged};
 ghost use Rattle.sk_serve.specs.Server.{IsUsedUp, Runs, ServesOne, SumsUp};
 ghost use Rattle.sk_desk.specs.declared.hub.HubFault.TheVariants as hub_fault;
 
@@ -30,8 +31,8 @@ pub enum LoopEnd {
 }
 
 /// An ear, a clock, and a pass with two parts for each of its numbers. Contracts see the pass, how many numbers it had at first, how many connections
-/// were served, whether a session ended by SHUTDOWN, how the loop ended, and its ear's count of faults. What its sessions acknowledged adds up to the
-/// pass's amount.
+/// were served, whether a session ended by SHUTDOWN, how the loop ended, and how often its ear has failed and was nudged. What its sessions acknowledged
+/// adds up to the pass's amount.
 #[derive(Drop)]
 pub struct AcceptLoop<E: Ear, K: Clock, L: Ledger> {
     ear: E,
@@ -48,7 +49,7 @@ impl<E: Ear, K: Clock, L: Ledger> Model for AcceptLoop<E, K, L> {
 
     ghost Value = { LoopView };
 
-    ghost view = { λ l. record { pass = l.pass; numbers = l.numbers; served = l.served; shut = l.shut; end = l.end; faults = E.ear_faults l.ear } };
+    ghost view = { λ l. record { pass = l.pass; numbers = l.numbers; served = l.served; shut = l.shut; end = l.end; faults = E.ear_faults l.ear; nudged = E.nudged l.ear } };
 
     ghost invariant = { λ l. IsLoop l.pass l.numbers l.served l.shut l.end };
 }
@@ -78,6 +79,7 @@ fn serve_one<R: Wait + Sync, C: Duplex, K: Clock, L: Ledger, G: Gate>(
 fn wake<E: Ear>(ear: &mut E, others: usize) -> Result<(), Failed>
     ensures later { E.ear_faults ear.old ≤ E.ear_faults ear.new }
     ensures failed { IfErr result (λ e. Rose (E.ear_faults ear.old) (E.ear_faults ear.new)) }
+    ensures count { IsNudged (E.nudged ear.old) others (E.nudged ear.new) }
 {
     let mut woken = Ok(());
     for _other in 0..others {
@@ -92,6 +94,7 @@ fn wake<E: Ear>(ear: &mut E, others: usize) -> Result<(), Failed>
 fn end_at(fault: HubFault) -> LoopEnd
     ensures spent { result ≡ LoopEnd.Spent → fault ≡ hub_fault.Spent }
     ensures failed { result ≢ LoopEnd.Failed }
+    ensures cause { result ≢ LoopEnd.Done }
 {
     match fault {
         HubFault::Spent => LoopEnd::Spent,
@@ -103,8 +106,9 @@ impl<E: Ear, K: Clock, L: Ledger> AcceptLoop<E, K, L> {
     pub fn new(ear: E, clock: K, pass: Pass<L>, numbers: u32) -> AcceptLoop<E, K, L>
         requires { (pass.parts ≡ 2 * numbers) × (pass.count ≡ numbers) × (pass.amount ≡ 0) }
         ensures numbers { result.numbers ≡ numbers }
-        ensures end { result.end ≡ LoopEnd.Done }
+        ensures end { (result.end ≡ LoopEnd.Done) × (result.shut ≡ false) }
         ensures faults { result.faults ≡ E.ear_faults ear }
+        ensures nudged { result.nudged ≡ E.nudged ear }
     {
         AcceptLoop {
             ear,
@@ -117,12 +121,15 @@ impl<E: Ear, K: Clock, L: Ledger> AcceptLoop<E, K, L> {
         }
     }
 
-    // The loop ends so, and wakes the others, which are to end.
+    // The loop ends by this cause, and wakes the others, which are to end.
     fn stop<R: Wait + Sync, G: Gate>(&mut self, shared: &Shared<'_, R, L, G>, end: LoopEnd)
-        requires { end ≡ LoopEnd.Spent → self.old.pass.count ≡ 0 }
-        ensures numbers { self.new.numbers ≡ self.old.numbers }
+        requires cause { end ≢ LoopEnd.Done }
+        requires spent { end ≡ LoopEnd.Spent → self.old.pass.count ≡ 0 }
+        ensures same { (self.new.numbers ≡ self.old.numbers) × (self.new.shut ≡ self.old.shut) }
         ensures later { self.old.faults ≤ self.new.faults }
         ensures failed { self.new.end ≡ LoopEnd.Failed → end ≢ LoopEnd.Failed → Rose self.old.faults self.new.faults }
+        ensures ended { self.new.end ≢ LoopEnd.Done }
+        ensures woke { IsNudged self.old.nudged shared.now.others self.new.nudged }
     {
         self.end = end;
         shared.stop();
@@ -133,7 +140,8 @@ impl<E: Ear, K: Clock, L: Ledger> AcceptLoop<E, K, L> {
 
     // Waits for the next connection and serves it. False where the loop has ended.
     fn step<R: Wait + Sync, G: Gate>(&mut self, shared: &Shared<'_, R, L, G>) -> bool
-        ensures { Runs self.old self.new }
+        requires { self.old.end ≡ LoopEnd.Done }
+        ensures { Runs shared.now.others self.old self.new }
     {
         let Ok(mut conn) = self.ear.accept() else {
             self.stop(shared, LoopEnd::Failed);
@@ -163,15 +171,19 @@ impl<E: Ear, K: Clock, L: Ledger> AcceptLoop<E, K, L> {
         }
     }
 
-    /// Serves connections until the loop ends.
+    // It ended by a cause of its own, or has served as many connections as it was to.
+    fn is_over(&self, sessions: u64) -> bool
+        ensures { result ≡ false → self.now.end ≡ LoopEnd.Done }
+    {
+        !self.is_at(LoopEnd::Done) || sessions != 0 && self.has_served(sessions)
+    }
+
+    /// Serves connections until the loop ends. One that ended by a cause of its own serves no more.
     pub fn run<R: Wait + Sync, G: Gate>(&mut self, shared: &Shared<'_, R, L, G>)
-        ensures { Runs self.old self.new }
+        ensures { Runs shared.now.others self.old self.new }
     {
         for _ in shared.rt.forever() {
-            if shared.sessions != 0 && self.has_served(shared.sessions) {
-                return;
-            }
-            if !self.step(shared) {
+            if self.is_over(shared.sessions) || !self.step(shared) {
                 return;
             }
         }
@@ -197,11 +209,11 @@ impl<E: Ear, K: Clock, L: Ledger> AcceptLoop<E, K, L> {
         u64::from(self.served) == sessions
     }
 
-    // No session of it ended by SHUTDOWN.
-    pub fn is_open(&self) -> bool
-        ensures { IsTrue result ↔ self.now.shut ≡ false }
+    // A session of it ended by SHUTDOWN.
+    pub fn is_shut(&self) -> bool
+        ensures { result ≡ self.now.shut }
     {
-        !self.shut
+        self.shut
     }
 
     /// The ear, the pass, how many connections were served, and whether a session ended by SHUTDOWN.
@@ -210,6 +222,7 @@ impl<E: Ear, K: Clock, L: Ledger> AcceptLoop<E, K, L> {
         ensures sums { SumsUp result.2 result.1.amount result.3 }
         ensures counts { (result.2 ≡ self.served) × (result.3 ≡ self.shut) }
         ensures faults { E.ear_faults result.0 ≡ self.faults }
+        ensures nudged { E.nudged result.0 ≡ self.nudged }
     {
         let AcceptLoop {
             ear,

@@ -1,9 +1,11 @@
 // A server: accept loops in threads over one store, each with an ear, a clock and a pass of its own. Once they have ended their passes are joined, the
 // ears go back to the door, and the store is closed.
-ghost use Rattle.std.specs.Prelude.{◌≡◌, ◌+◌, ◌-◌, ◌*◌, ◌/◌, ◌<◌, ◌≤◌, ◌^◌, ◌||◌, ℕ, IfOk, OnOk, Some, Err, true, false, length, map, reverse, vec_len, vec_capacity, All};
+ghost use Rattle.std.specs.Prelude.{◌≡◌, ◌⊎◌, ◌+◌, ◌-◌, ◌*◌, ◌/◌, ◌<◌, ◌≤◌, ◌^◌, ◌||◌, ℕ, IfOk, OnOk, Some, Err, true, false, length, map, reverse, vec_len, vec_capacity, All};
 ghost use Rattle.std.specs.List.{AllZip, Any};
+ghost use Rattle.sk_base.specs.Outside.{Rose};
+ghost use Rattle.sk_edge.specs.Doors.{IsNudged};
 ghost use Rattle.sk_serve.specs.Ending.{IfServed};
-ghost use Rattle.sk_serve.specs.Server.{AddsUp, HasFailed, IsFresh, IsServed, IsSettled, IsUsedUp, Runs, SomeRose};
+ghost use Rattle.sk_serve.specs.Server.{AddsUp, HasFailed, IsFresh, IsFull, IsServed, IsSettled, IsUsedUp, Runs, SomeZip, WokeOthers};
 
 use crate::accept_loop::{AcceptLoop, LoopEnd};
 use crate::gate::Gate;
@@ -40,6 +42,7 @@ fn loops_for<E: Ear, K: Clock, L: Ledger>(
     ensures amount { pass.new.amount ≡ pass.old.amount }
     ensures parts { pass.new.parts + 2 * (numbers * vec_len ears.old) ≡ pass.old.parts }
     ensures faults { map (λ it. it.faults) loops.new.items ≡ reverse (map E.ear_faults ears.old.items) }
+    ensures nudged { map (λ it. it.nudged) loops.new.items ≡ reverse (map E.nudged ears.old.items) }
     ensures ears { (vec_len ears.new ≡ 0) × (vec_capacity ears.new ≡ vec_capacity ears.old) }
 {
     while let Some(ear) = ears.pop() {
@@ -66,6 +69,7 @@ fn gather<E: Ear, K: Clock, L: Ledger>(
     ensures sums { AddsUp result.0 pass.old.amount pass.new.amount result.1 }
     ensures full { (n : ℕ) → All (λ it. it.served ≡ n) loops.items → result.0 ≡ n * vec_len loops }
     ensures faults { map E.ear_faults ears.new.items ≡ reverse (map (λ it. it.faults) loops.items) }
+    ensures nudged { map E.nudged ears.new.items ≡ reverse (map (λ it. it.nudged) loops.items) }
     ensures quiet { result.1 ≡ false → All (λ it. it.shut ≡ false) loops.items }
 {
     let mut sessions: u64 = 0;
@@ -89,7 +93,7 @@ fn run_all<
     G: Gate + Sync,
 >(shared: &Shared<'_, R, L, G>, threads: usize, loops: &mut [AcceptLoop<E, K, L>])
     requires { 0 < threads }
-    ensures { AllZip Runs loops.old loops.new }
+    ensures { AllZip (Runs shared.now.others) loops.old loops.new }
 {
     shared.resume();
     thread::for_each_mut(
@@ -97,7 +101,7 @@ fn run_all<
         loops,
         threads,
         &|_: usize, it: &mut AcceptLoop<E, K, L>|
-            ensures { Runs it.old it.new }
+            ensures { Runs shared.entry.now.others it.old it.new }
         { it.run(shared) },
     );
 }
@@ -137,10 +141,10 @@ fn have_served<E: Ear, K: Clock, L: Ledger>(loops: &[AcceptLoop<E, K, L>], sessi
     loops.iter().all(|it| it.has_served(sessions))
 }
 
-fn are_open<E: Ear, K: Clock, L: Ledger>(loops: &[AcceptLoop<E, K, L>]) -> bool
-    ensures { All (λ it. it.shut ≡ false) loops.now → result ≡ true }
+fn some_shut<E: Ear, K: Clock, L: Ledger>(loops: &[AcceptLoop<E, K, L>]) -> bool
+    ensures { result ≡ true → Any (λ it. it.shut ≡ true) loops.now }
 {
-    loops.iter().all(|it| it.is_open())
+    loops.iter().any(|it| it.is_shut())
 }
 
 // A session ended by SHUTDOWN, or there is a bound, and each loop served as many.
@@ -150,7 +154,7 @@ fn is_settled<E: Ear, K: Clock, L: Ledger>(loops: &[AcceptLoop<E, K, L>], sessio
     if sessions != 0 && have_served(loops, sessions) {
         return true;
     }
-    !are_open(loops)
+    some_shut(loops)
 }
 
 // Runs the loops in threads, and then, as long as there is no cause to end, one after another.
@@ -166,7 +170,7 @@ fn run_on<
     loops: &mut [AcceptLoop<E, K, L>],
 ) -> Result<(), ServeFault>
     requires { 0 < threads }
-    ensures ran { AllZip Runs loops.old loops.new }
+    ensures ran { AllZip (Runs shared.now.others) loops.old loops.new }
     ensures settled { OnOk result (IsSettled shared.now.sessions loops.new) }
     ensures failed { result ≡ Err ServeFault.Failed → Any (λ it. it.end ≡ LoopEnd.Failed) loops.new }
     ensures spent { result ≡ Err ServeFault.Spent → Any (λ it. IsUsedUp it.numbers) loops.new }
@@ -204,7 +208,9 @@ fn serve_on<
     requires blank { (blank.name ≡ L.name) × (blank.parts ≡ L.parts) × (blank.parts ≡ 2 ^ 34) }
     requires ears { (0 < vec_len ears.old) × (vec_len ears.old ≤ MOST_LOOPS_SERVED) }
     ensures served { IfOk result (IsServed sessions (vec_len ears.old)) }
-    ensures failed { result ≡ Err ServeFault.Failed → SomeRose (map E.ear_faults ears.old.items) (map E.ear_faults ears.new.items) }
+    ensures woke { IfOk result (λ s. IsFull sessions (vec_len ears.old) s.sessions
+        ⊎ SomeZip (λ before after. IsNudged before (vec_len ears.old - 1) after) (map E.nudged ears.old.items) (map E.nudged ears.new.items)) }
+    ensures failed { result ≡ Err ServeFault.Failed → SomeZip Rose (map E.ear_faults ears.old.items) (map E.ear_faults ears.new.items) }
     ensures spent { result ≡ Err ServeFault.Spent → IsUsedUp ((2 ^ 32 - 2) / vec_len ears.old) }
 {
     let count = ears.len();
@@ -250,6 +256,7 @@ where
     N::Ear: Send,
     requires { (0 < loops) × (loops ≤ MOST_LOOPS_SERVED) }
     ensures served { IfServed result (IsServed sessions loops) }
+    ensures woke { IfServed result (WokeOthers N.Ear.nudged sessions loops (N.gathered door.old) (N.gathered door.new)) }
     ensures failed { result ≡ ServeEnd.Failed → HasFailed N.door_faults N.gathered N.Ear.ear_faults loops door.old door.new }
     ensures spent { result ≡ ServeEnd.Spent → IsUsedUp ((2 ^ 32 - 2) / loops) }
     ensures later { N.door_faults door.old ≤ N.door_faults door.new }

@@ -13,6 +13,7 @@ loop-it-init g c = record {
   full = λ n all. (all, omega arith);
   quiet = λ is all. all;
   faults = none_yet g.E.Ear.ear_faults c.args.ears.now.items (reverse (map (λ it. it.faults) c.args.loops.items)) (omega (arith, c.requires.room));
+  nudged = none_yet g.E.Ear.nudged c.args.ears.now.items (reverse (map (λ it. it.nudged) c.args.loops.items)) (omega (arith, c.requires.room));
   room = omega (arith, c.requires.room);
 }
 
@@ -37,6 +38,7 @@ loop-it-preserved g c =
           let both = neither c.loop-it.shut c.into_parts-ear.result.3 (sym c.either-shut.ensures ∙ is) in
           i.quiet both.0 (put_back (λ it. it.shut ≡ false) c.loop-it.loops.items c.pop.new.self.items c.in-Some.it items all (sym own.counts.1 ∙ both.1));
       faults = moved (λ it. it.faults) g.E.Ear.ear_faults c.loop-it.loops.items c.pop.new.self.items c.in-Some.it c.loop-it.ears.items c.push_reserved.new.self.items c.into_parts-ear.result.0 _ items c.push_reserved.ensures.items own.faults i.faults;
+      nudged = moved (λ it. it.nudged) g.E.Ear.nudged c.loop-it.loops.items c.pop.new.self.items c.in-Some.it c.loop-it.ears.items c.push_reserved.new.self.items c.into_parts-ear.result.0 _ items c.push_reserved.ensures.items own.nudged i.nudged;
       room = omega (arith, i.room, fewer, c.push_reserved.ensures.len, c.push_reserved.ensures.capacity);
     }
 
@@ -48,3 +50,6 @@ returns-clause-parts g c n all =
 
 pub returns-clause-faults : goal.returns-clause-faults
 returns-clause-faults g c = all_moved (λ it. it.faults) g.E.Ear.ear_faults c.loop-it.loops.items c.loop-it.ears.items _ (omega (arith, c.in_default.ensures.cases.0)) c.loop-it.invariant.faults
+
+pub returns-clause-nudged : goal.returns-clause-nudged
+returns-clause-nudged g c = all_moved (λ it. it.nudged) g.E.Ear.nudged c.loop-it.loops.items c.loop-it.ears.items _ (omega (arith, c.in_default.ensures.cases.0)) c.loop-it.invariant.nudged

@@ -11,6 +11,7 @@ invariant-loop-it g l = record {
   full : (n : ℕ) → All (λ it. it.served ≡ n) l.fn.loops.items → All (λ it. it.served ≡ n) l.loops.items × (l.sessions + n * vec_len l.loops ≡ n * vec_len l.fn.loops);
   quiet : l.shut ≡ false → All (λ it. it.shut ≡ false) l.loops.items → All (λ it. it.shut ≡ false) l.fn.loops.items;
   faults : map g.E.Ear.ear_faults l.ears.items ++ reverse (map (λ it. it.faults) l.loops.items) ≡ reverse (map (λ it. it.faults) l.fn.loops.items);
+  nudged : map g.E.Ear.nudged l.ears.items ++ reverse (map (λ it. it.nudged) l.loops.items) ≡ reverse (map (λ it. it.nudged) l.fn.loops.items);
   room : vec_len l.ears + vec_len l.loops ≤ vec_capacity l.ears;
 }
 

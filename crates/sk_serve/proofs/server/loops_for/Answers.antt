@@ -15,9 +15,10 @@ loop-ear-preserved g c =
       parts = omega (arith, grown, i.parts, c.split-own.ensures.parts_are);
       amount = c.split-own.ensures.amount_is ∙ i.amount;
       fresh = subst (λ items. All (IsFresh n) items) (sym c.push_reserved.ensures.items)
-          (All-push (IsFresh n) c.loop-ear.loops.items c.new.result i.fresh (record { numbers_are = c.new.ensures.numbers; end_is = c.new.ensures.end }));
+          (All-push (IsFresh n) c.loop-ear.loops.items c.new.result i.fresh (record { numbers_are = c.new.ensures.numbers; end_is = c.new.ensures.end.0; shut_is = c.new.ensures.end.1 }));
       len = omega (arith, i.len, c.push_reserved.ensures.len, c.in-Some.ensures.cases);
       faults = moved g.E.Ear.ear_faults (λ it. it.faults) c.loop-ear.ears.items c.pop.new.self.items c.in-Some.ear c.loop-ear.loops.items c.push_reserved.new.self.items c.new.result _ c.in-Some.ensures.items c.push_reserved.ensures.items c.new.ensures.faults i.faults;
+      nudged = moved g.E.Ear.nudged (λ it. it.nudged) c.loop-ear.ears.items c.pop.new.self.items c.in-Some.ear c.loop-ear.loops.items c.push_reserved.new.self.items c.new.result _ c.in-Some.ensures.items c.push_reserved.ensures.items c.new.ensures.nudged i.nudged;
       room = c.push_reserved.ensures.capacity ∙ i.room;
       ears = c.pop.ensures.capacity ∙ i.ears;
     }
@@ -32,9 +33,13 @@ loop-ear-init g c =
       fresh = λ k d less. absurd (omega (arith, less, c.requires.room));
       len = omega (arith, c.requires.room);
       faults = none_yet (λ it. it.faults) c.args.loops.now.items _ (omega (arith, c.requires.room));
+      nudged = none_yet (λ it. it.nudged) c.args.loops.now.items _ (omega (arith, c.requires.room));
       room = refl;
       ears = refl;
     }
 
 pub returns-clause-faults : goal.returns-clause-faults
 returns-clause-faults g c = all_moved g.E.Ear.ear_faults (λ it. it.faults) c.loop-ear.ears.items c.loop-ear.loops.items _ (omega (arith, c.in_default.ensures.cases.0)) c.loop-ear.invariant.faults
+
+pub returns-clause-nudged : goal.returns-clause-nudged
+returns-clause-nudged g c = all_moved g.E.Ear.nudged (λ it. it.nudged) c.loop-ear.ears.items c.loop-ear.loops.items _ (omega (arith, c.in_default.ensures.cases.0)) c.loop-ear.invariant.nudged

@@ -11,6 +11,7 @@ invariant-loop-ear g l = record {
   fresh : All (IsFresh l.numbers) l.loops.items;
   len : vec_len l.loops + vec_len l.ears ≡ vec_len l.fn.ears;
   faults : map (λ it. it.faults) l.loops.items ++ reverse (map g.E.Ear.ear_faults l.ears.items) ≡ reverse (map g.E.Ear.ear_faults l.fn.ears.items);
+  nudged : map (λ it. it.nudged) l.loops.items ++ reverse (map g.E.Ear.nudged l.ears.items) ≡ reverse (map g.E.Ear.nudged l.fn.ears.items);
   room : vec_capacity l.loops ≡ vec_capacity l.fn.loops;
   ears : vec_capacity l.ears ≡ vec_capacity l.fn.ears;
 }

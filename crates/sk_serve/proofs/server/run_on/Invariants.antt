@@ -3,4 +3,4 @@ use Rattle.sk_serve.specs.Server.{Runs}
 use Rattle.sk_serve.proofs.server.run_on.Given as goal
 
 abbrev pub invariant-loop : goal.invariant-loop
-invariant-loop g l = (goal.iterator-loop g).can_next l.iterator' × (goal.iterator-loop g).is_finite l.iterator' × AllZip Runs l.fn.loops l.loops
+invariant-loop g l = (goal.iterator-loop g).can_next l.iterator' × (goal.iterator-loop g).is_finite l.iterator' × AllZip (Runs l.shared.others) l.fn.loops l.loops

@@ -10,7 +10,7 @@ use Rattle.sk_edge.proofs.Zips.{first_len, next_at, pop_next, push_next}
 use Rattle.sk_edge.proofs.mem_door.MemDoor.open.Goals as goal
 
 abbrev IsNext : EarView → List Ends → Type 0
-IsNext = IsEar (λ e. Some e.heard) (λ e. e.kept)
+IsNext = IsEar (λ e. Some e.heard) (λ e. e.kept) (λ e. e.nudged)
 
 -- one more ear, with the next room, over the next list
 pub loop-room-preserved : goal.loop-room-preserved
@@ -30,7 +30,7 @@ loop-room-preserved c =
     let here : c.next_list.result.items ≡ get_or all at [] = c.next_list.ensures.list ∙ next_at (vec_len c.args.rooms) at lists c.loop-room.self.heard left fits in
     let hears : Some c.new.result.heard ≡ Some (get_or all at []) = ap Some (ap (λ e. e.heard) c.new.ensures ∙ here) in
     let keeps : IsRoomFor c.new.result.kept (get_or all at []) = ap (λ e. e.kept) c.new.ensures ∙ next.0 in
-    let more = push_next IsNext c.loop-room.ears.items all at [] c.new.result lt old.heard (hears, keeps) in (
+    let more = push_next IsNext c.loop-room.ears.items all at [] c.new.result lt old.heard (hears, keeps, ap (λ e. e.nudged) c.new.ensures) in (
       tt,
       tt,
       record {

@@ -14,5 +14,5 @@ invariant-loop-room l =
       room : vec_len l.fn.rooms ≤ vec_capacity l.ears;
       left : l.self ≡ record l.fn.self { heard = drop (vec_len l.ears) l.fn.self.heard };
       rooms : AllZip IsRoomFor (into_iter_items l.room-iterator) (drop (vec_len l.ears) (first_lists (vec_len l.fn.rooms) l.fn.self.heard));
-      heard : AllZip (IsEar (λ e. Some e.heard) (λ e. e.kept)) l.ears.items (take (vec_len l.ears) (first_lists (vec_len l.fn.rooms) l.fn.self.heard));
+      heard : AllZip (IsEar (λ e. Some e.heard) (λ e. e.kept) (λ e. e.nudged)) l.ears.items (take (vec_len l.ears) (first_lists (vec_len l.fn.rooms) l.fn.self.heard));
     }
