@@ -128,6 +128,21 @@ impl QueueOrder {
         &self.names
     }
 
+    /// The same queues, for another worker.
+    pub fn copy(&self, alloc: Global) -> Result<QueueOrder, Memory>
+        ensures { IfOk result (λ order. order ≡ self.now) }
+    {
+        let mut names = Vec::with_capacity(alloc, self.names.len())?;
+        for name in self.names.iter() {
+            names.push(name.copy()?)?;
+        }
+        let weights = match &self.weights {
+            Some(weights) => Some(weights.clone()?),
+            None => None,
+        };
+        Ok(QueueOrder { names, weights })
+    }
+
     /// The places of the queues in the order of a turn. A strict order draws no word. A weighted one takes each place as often as its weight says, in
     /// list order; from the last index `i` down to 1 it draws a word and exchanges the element at `i` with that at `word mod (i + 1)`; and it keeps
     /// each place where it stands first. Where there is no memory, no word is drawn.
