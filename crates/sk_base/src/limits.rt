@@ -203,6 +203,9 @@ pub const SHORTAGE_PAUSE: u64 = 10;
 /// The most accept loops of a server. Each serves one connection at a time.
 pub const MOST_LOOPS_SERVED: usize = 64;
 
+/// The most workers of a process, each in a thread. A process has a team for each: a registry of jobs and a plain rule.
+pub const MOST_WORKERS: usize = 16;
+
 /// How long a poller waits between two turns, in milliseconds.
 pub const POLL_PAUSE: u64 = 5_000;
 
