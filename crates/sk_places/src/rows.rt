@@ -36,7 +36,7 @@ use sk_zset::ByBytes;
 use std::alloc::Global;
 use std::marker::Model;
 
-// As many rows are looked at one after another, or more, in the time of one look-up.
+// How many rows are looked at one after another in about the time of one look-up of a text.
 const ROWS_A_LOOK_UP: usize = 64;
 
 /// How many rows there are, and how many bytes their texts have.
@@ -56,6 +56,7 @@ pub struct Rows {
     // At the begin of an open step.
     size_then: Size,
     index: UndoMultiset<Word>,
+    // Of the sets' rows.
     text_index: TextIndex,
 }
 

@@ -15,6 +15,7 @@ use sk_payload::Payload;
 use sk_undo::{Query, UndoMultiset};
 use std::cmp::Ordering;
 
+/// The keys in order, each as often as rows have it.
 pub type TextIndex = UndoMultiset<TextKey>;
 
 // All keys of a text in a set.
