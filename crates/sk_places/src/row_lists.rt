@@ -1,6 +1,6 @@
 // The rows as they are kept. A queue and a private list is a deque under its place, which stands once; so a row comes and goes at an end, or from
 // one to another, in constant time. The sets of jobs are one list by score and text. Memory is taken by `prepare`, so what follows can't fail.
-ghost use Rattle.std.specs.Prelude.{◌≡◌, ◌+◌, ◌<◌, ◌≤◌, ◌&&◌, true, false, not, None, Some, [], IfOk, IsSome, MatchOption, OnErr, OnOk, drop, length, map, option_map, slice_get, take};
+ghost use Rattle.std.specs.Prelude.{◌≡◌, ◌+◌, ◌<◌, ◌≤◌, ◌&&◌, true, false, not, None, Some, [], IfOk, IsSome, MatchOption, OnOk, drop, length, map, option_map, slice_get, take};
 ghost use Rattle.std.specs.BTreeMap.{is_at as is_key};
 ghost use Rattle.std.specs.List.{count_by, position_or_len, remove};
 ghost use Rattle.std.specs.Map.{lookup};
