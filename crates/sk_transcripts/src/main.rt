@@ -2,6 +2,7 @@
 //! free as an answer, so that only a run with memory at hand refuses a body that always gives it.
 #![tactic(auto)]
 
+mod asks;
 mod drafts;
 mod pushes;
 mod shown;
@@ -11,13 +12,13 @@ use std::io::{self, ErrorKind};
 
 /// With no word the transcripts. With a number so many jobs are pushed, for a measurement of time.
 fn main(rt: HostRuntime) -> io::Result<()> {
-    let mut words = env::args(&rt)?;
-    let text = match words.nth(1) {
+    let mut text = String::new(rt.alloc());
+    match env::args(&rt)?.nth(1) {
         Some(word) => match word.parse::<u64>() {
-            Ok(count) => pushes::bytes_of(rt.alloc(), count)?,
+            Ok(count) => pushes::add_bytes_of(&mut text, count)?,
             Err(_) => return Err(io::Error::from(ErrorKind::InvalidInput)),
         },
-        None => pushes::transcripts(rt.alloc())?,
-    };
+        None => pushes::add_transcripts(&mut text)?,
+    }
     print!(rt; "{text}")
 }

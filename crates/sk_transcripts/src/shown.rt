@@ -1,6 +1,6 @@
 // What a transcript shows: requests, replies and faults, a line each.
 use percent_encoding::{AsciiSet, CONTROLS, ascii_set, percent_encode};
-use sk_client::ClientFault;
+use sk_client::{BulkFault, ClientFault};
 use sk_link::LinkFault;
 use sk_payload::DraftFault;
 use sk_resp::{Feeder, Reply, Words, write_reply};
@@ -14,6 +14,18 @@ const FIRST: usize = 3;
 
 /// What stands as `%XX`, beside what isn't ASCII.
 const ESCAPED: AsciiSet = ascii_set!(CONTROLS.add(b'%'));
+
+/// A line of its own.
+pub fn add_line(out: &mut String, line: &str) -> Result<(), AllocError> {
+    out.push_str(line)?;
+    out.push_str("\n")
+}
+
+/// What the next lines show.
+pub fn add_title(out: &mut String, title: &str) -> Result<(), AllocError> {
+    out.push_str("\n# ")?;
+    add_line(out, title)
+}
 
 fn add_bytes(out: &mut String, bytes: &[u8]) -> Result<(), AllocError> {
     percent_encode(bytes, ESCAPED).append_to(out)
@@ -63,8 +75,8 @@ fn reply_text(alloc: Global, reply: &Reply) -> Result<String, AllocError> {
     Ok(out)
 }
 
-/// A reply, on a line of its own.
-pub fn add_reply(out: &mut String, reply: &Reply) -> Result<(), AllocError> {
+// A reply, on a line of its own.
+fn add_reply(out: &mut String, reply: &Reply) -> Result<(), AllocError> {
     let text = reply_text(*out.allocator(), reply)?;
     out.push_str("= ")?;
     out.push_str(text.as_str())?;
@@ -81,8 +93,8 @@ fn draft_fault(fault: DraftFault) -> &'static str {
     }
 }
 
-/// A fault of a link, in words.
-pub fn link_fault(alloc: Global, fault: &LinkFault) -> Result<String, AllocError> {
+// A fault of a link, in words.
+fn link_fault(alloc: Global, fault: &LinkFault) -> Result<String, AllocError> {
     match fault {
         LinkFault::Failed => String::from_str(alloc, "link failed"),
         LinkFault::Unreadable(bytes) => {
@@ -113,10 +125,34 @@ pub fn add_outcome(out: &mut String, outcome: &Result<(), ClientFault>) -> Resul
     }
 }
 
-/// Why a push did not come about.
-pub fn add_fault(out: &mut String, fault: &ClientFault) -> Result<(), AllocError> {
+// Why a push did not come about.
+fn add_fault(out: &mut String, fault: &ClientFault) -> Result<(), AllocError> {
     let text = client_fault(*out.allocator(), fault)?;
     out.push_str("= ")?;
     out.push_str(text.as_str())?;
     out.push_str("\n")
+}
+
+/// What a request came to, with the reply to it.
+pub fn add_answer(out: &mut String, answer: &Result<Reply, ClientFault>) -> Result<(), AllocError> {
+    match answer {
+        Ok(reply) => add_reply(out, reply),
+        Err(fault) => add_fault(out, fault),
+    }
+}
+
+/// What a push of many jobs came to.
+pub fn add_bulk(out: &mut String, outcome: &Result<u64, BulkFault>) -> Result<(), AllocError> {
+    let alloc = *out.allocator();
+    match outcome {
+        Ok(count) => {
+            let line = format!(in alloc; "= ok {count}")?;
+            add_line(out, line.as_str())
+        }
+        Err(bulk) => {
+            let line = format!(in alloc; "= sent {}", bulk.sent)?;
+            add_line(out, line.as_str())?;
+            add_fault(out, &bulk.fault)
+        }
+    }
 }
