@@ -4,7 +4,8 @@
     server.py PROGRAM
 
 What no row can show: pipelines, large replies, cut commands, clients that leave or never read, 64 connections at a time, a port that is taken,
-and the summary, whose acknowledgements must be what the clients counted. Plain sockets and Python alone. Status 1 where anything differs.
+processes of push, work and status beside them, one of which is killed, and the summary, whose acknowledgements must be what the clients counted.
+Plain sockets and Python alone. Status 1 where anything differs.
 """
 import re
 import socket
@@ -225,7 +226,56 @@ def taken_port(server):
     assert b'port' in ran.stderr, ran.stderr
 
 
-TESTS = [pipeline, large_reply, single_bytes, one_that_leaves, one_that_never_reads, ends, own_words_of_a_pipe, a_worker_that_dies, many_at_once, taken_port]
+def ran(server, *words):
+    """The output of the program with these words, at this server's port."""
+    words = [PROGRAM, words[0], '--port', str(server.port), *words[1:]]
+    done = subprocess.run(words, stdin=subprocess.DEVNULL, capture_output=True, timeout=SECONDS)
+    assert done.returncode == 0, (words, done.returncode, done.stdout, done.stderr)
+    return done.stdout.decode()
+
+
+def processes(server):
+    """Jobs of each class are pushed, run by sixteen workers with a turn each, and counted by the page."""
+    jobs = ['Note'] * 13 + ['Fail', 'Flip', 'Other']
+    for name in jobs:
+        assert re.fullmatch(r'[0-9a-f]{24}\n', ran(server, 'push', '--queue', 'shop', name, '[1]'))
+    assert ran(server, 'work', '--queues', 'shop', '--threads', '16', '--turns', '1') == 'done 13 retried 3 buried 0 discarded 0\n'
+    assert re.match(r'processed 16\nfailed 3\n', ran(server, 'status')), ran(server, 'status')
+    return len(jobs)
+
+
+def processed(server):
+    return int(re.match(r'processed (\d+)\n', ran(server, 'status'))[1])
+
+
+def a_process_that_is_killed(server):
+    """Each job was done, waits, or stands in the private list of the killed process. One that was done may still stand there, one for each worker."""
+    before = processed(server)
+    with server.client() as it:
+        for n in range(500):
+            it.ask(b':%d\r\n' % (n + 1), 'LPUSH', 'queue:killed', JOB % ('killed-%d' % n, n))
+    words = [PROGRAM, 'work', '--port', str(server.port), '--ident', 'killed', '--queues', 'killed', '--prefetch', '16']
+    process = subprocess.Popen(words, stdin=subprocess.DEVNULL, stdout=subprocess.DEVNULL, stderr=subprocess.DEVNULL)
+    with server.client() as it:
+        def length(key):
+            it.send(command('LLEN', key))
+            reply = it.take(1)
+            while not reply.endswith(b'\n'):
+                reply += it.take(1)
+            return int(reply[1:])
+        while length('queue:killed') == 500:
+            time.sleep(0.001)
+        process.kill()
+        process.wait()
+        time.sleep(0.2)
+        done = processed(server) - before
+        waiting, held = length('queue:killed'), length('sq:killed')
+        assert held <= 64 and 500 <= done + waiting + held <= 504, (done, waiting, held)
+    return 500
+
+
+TESTS = [pipeline, large_reply, single_bytes, one_that_leaves, one_that_never_reads, ends, own_words_of_a_pipe, a_worker_that_dies, many_at_once, taken_port,
+         processes, a_process_that_is_killed]
 
 
 def main():

@@ -3,3 +3,4 @@ pub mod Endings
 pub mod PushRuns
 pub mod StatusRuns
 pub mod ServeRuns
+pub mod WorkRuns

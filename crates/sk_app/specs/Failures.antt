@@ -6,6 +6,8 @@ use Rattle.sk_resp.specs.Spelling.{Bytes}
 use Rattle.sk_resp.specs.declared.reply.Reply.{Reply}
 use Rattle.sk_edge.specs.declared.door.DoorFault.{DoorFault}
 use Rattle.sk_edge.specs.declared.door.DoorFault.TheVariants as door
+use Rattle.sk_launcher.specs.declared.launch_fault.LaunchFault.{LaunchFault}
+use Rattle.sk_launcher.specs.declared.launch_fault.LaunchFault.TheVariants as launch
 use Rattle.sk_line.specs.declared.fault.LineFault.{LineFault}
 use Rattle.sk_line.specs.declared.fault.LineFault.TheVariants as line
 use Rattle.sk_link.specs.declared.link.LinkFault.TheVariants as link
@@ -46,3 +48,10 @@ by_line line.Memory = Memory
 abbrev pub by_door : DoorFault → Failure
 by_door door.Failed = Door
 by_door door.Memory = Memory
+
+abbrev pub by_launch : LaunchFault → Failure
+by_launch launch.Memory = Memory
+by_launch launch.Door = Door
+by_launch (launch.Link f) = Link f
+by_launch (launch.Refused r) = Refused r
+by_launch launch.GenLimit = GenLimit

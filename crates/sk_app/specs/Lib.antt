@@ -7,3 +7,4 @@ pub mod Paging
 pub mod Classes
 pub mod Serving
 pub mod Programs
+pub mod Working

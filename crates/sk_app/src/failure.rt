@@ -1,9 +1,10 @@
 // Why a program ends before it has done what its words ask for.
 ghost use Rattle.std.specs.Prelude.{◌≡◌};
-ghost use Rattle.sk_app.specs.Failures.{by_door, by_line, status_of};
+ghost use Rattle.sk_app.specs.Failures.{by_door, by_launch, by_line, status_of};
 ghost use Rattle.sk_app.specs.declared.failure.Failure.TheVariants.{Memory};
 
 use sk_edge::DoorFault;
+use sk_launcher::LaunchFault;
 use sk_line::LineFault;
 use sk_link::LinkFault;
 use sk_resp::Reply;
@@ -77,6 +78,20 @@ impl From<DoorFault> for Failure {
         match fault {
             DoorFault::Failed => Failure::Door,
             DoorFault::Memory => Failure::Memory,
+        }
+    }
+}
+
+impl From<LaunchFault> for Failure {
+    ghost from_gives = { λ fault e. e ≡ by_launch fault };
+
+    fn from(fault: LaunchFault) -> Self {
+        match fault {
+            LaunchFault::Memory => Failure::Memory,
+            LaunchFault::Door => Failure::Door,
+            LaunchFault::Link(fault) => Failure::Link(fault),
+            LaunchFault::Refused(reply) => Failure::Refused(reply),
+            LaunchFault::GenLimit => Failure::GenLimit,
         }
     }
 }

@@ -10,6 +10,7 @@ mod push;
 mod serve;
 mod status;
 mod top;
+mod work;
 
 pub use failure::Failure;
 pub use jobs::{Fail, Flip, Note};
@@ -18,3 +19,4 @@ pub use push::run_push;
 pub use serve::run_serve;
 pub use status::run_status;
 pub use top::run;
+pub use work::run_work;

@@ -7,6 +7,8 @@ ghost use Rattle.sk_app.specs.Programs.{named, program_of};
 pub enum Program {
     /// A server.
     Serve,
+    /// Workers and a poller.
+    Work,
     /// One job is pushed.
     Push,
     /// The page of a server is written.
@@ -19,6 +21,9 @@ fn named(name: &str) -> Option<Program>
 {
     if name == "serve" {
         return Some(Program::Serve);
+    }
+    if name == "work" {
+        return Some(Program::Work);
     }
     if name == "push" {
         return Some(Program::Push);

@@ -1,25 +1,29 @@
 // The top call: what the words of a command line ask for. The first of them names the program.
-ghost use Rattle.std.specs.Prelude.{◌≡◌, ◌⊎◌, [], ◌∷◌, None, Result, Some, map, string_bytes};
+ghost use Rattle.std.specs.Prelude.{◌≡◌, ◌≤◌, ◌⊎◌, [], ◌∷◌, None, Result, Some, map, string_bytes, vec_len};
 ghost use Rattle.sk_base.specs.Outside.{Rose};
 ghost use Rattle.sk_base.specs.Yields.{Yields, YieldsAll};
 ghost use Rattle.sk_resp.specs.Spelling.{Bytes};
 ghost use Rattle.sk_pipe.specs.Run.{Completes, IsPipeLine, IsPiped, shipped, status_of};
 ghost use Rattle.sk_pipe.specs.declared.pipe_end.PipeEnd.{PipeEnd};
 ghost use Rattle.sk_serve.specs.Server.{HasFailed};
+ghost use Rattle.sk_base.specs.declared.limits.TheConstants.{MOST_WORKERS};
 ghost use Rattle.sk_app.specs.Dialogue.{Carried, Caused, Dialogue, Gave};
 ghost use Rattle.sk_app.specs.Ending.{Concludes};
 ghost use Rattle.sk_app.specs.Paging.{Asks, StatusRun};
 ghost use Rattle.sk_app.specs.Programs.{program_of};
 ghost use Rattle.sk_app.specs.Pushing.{PushRun, Pushes};
 ghost use Rattle.sk_app.specs.Serving.{ServeRun};
+ghost use Rattle.sk_app.specs.Working.{WorkRun};
 ghost use Rattle.sk_app.specs.declared.failure.Failure.{Failure};
-ghost use Rattle.sk_app.specs.declared.program.Program.TheVariants.{Push, Serve, Status};
+ghost use Rattle.sk_app.specs.declared.program.Program.TheVariants.{Push, Serve, Status, Work};
 
 use crate::program::{Program, program_of};
-use crate::{run_push, run_serve, run_status};
+use crate::{run_push, run_serve, run_status, run_work};
 use sk_base::{Clock, Dice, Sink, Source};
 use sk_edge::Door;
 use sk_pipe::run as run_pipe;
+use sk_policy::DelayRule;
+use sk_worker::Registry;
 use std::alloc::Global;
 use std::sync::Wait;
 use std::thread::Threads;
@@ -29,16 +33,19 @@ use std::thread::Threads;
 ///
 /// - `pipe`, alone: commands from the source, and their replies to the sink ([`sk_pipe::run`]).
 /// - `serve ..`: a server ([`run_serve`]).
+/// - `work ..`: workers and a poller for a server ([`run_work`]), which have these teams and rules.
 /// - `push ..`: one job is pushed to a server ([`run_push`]).
 /// - `status ..`: the page of a server ([`run_status`]).
 ///
 /// Status 0: all was done. 1: the input of `pipe` has a fault or ends inside a command. 2: the words are no command line; nothing was read, written or
 /// opened. 3, 4: the source, the sink failed. 5: there was no memory. 6: a connection failed or was unreadable, or seats were used up. 7: the store
-/// answered an error. 9: 2^40 bytes were read.
+/// answered an error, or a worker held a job whose count of failures can't rise. 9: 2^40 bytes were read.
 pub fn run<R: Threads + Wait + Sync, S: Source, K: Sink, N: Door, C: Clock + Send, D: Dice>(
     rt: &R,
     alloc: Global,
     words: &[String],
+    teams: &mut Vec<Registry>,
+    rules: Vec<DelayRule>,
     source: &mut S,
     sink: &mut K,
     net: &mut N,
@@ -47,6 +54,10 @@ pub fn run<R: Threads + Wait + Sync, S: Source, K: Sink, N: Door, C: Clock + Sen
 ) -> u8
 where
     N::Ear: Send,
+    // There is a plain rule for each team.
+    requires rules { vec_len rules ≡ vec_len teams.old }
+    requires few { vec_len teams.old ≤ MOST_WORKERS }
+
     // The word `pipe` pipes the source to the sink, and the status tells how that ended.
     ensures piped { IsPipeLine (map string_bytes words.now) → (end : PipeEnd) × (result ≡ status_of end)
         × IsPiped shipped S.left S.read_faults K.taken K.write_faults source.old source.new sink.old sink.new end }
@@ -59,6 +70,11 @@ where
     ensures served { program_of (map string_bytes words.now) ≡ Some Serve → (outcome : Result Bytes Failure)
         × Concludes outcome result (K.taken sink.old) (K.taken sink.new) × ServeRun (map string_bytes words.now) (net.new ≡ net.old)
         (λ loops. HasFailed N.door_faults N.gathered N.Ear.ear_faults loops net.old net.new) outcome }
+
+    // Workers.
+    ensures worked { program_of (map string_bytes words.now) ≡ Some Work → (outcome : Result Bytes Failure)
+        × Concludes outcome result (K.taken sink.old) (K.taken sink.new)
+        × WorkRun (vec_len teams.old) (map string_bytes words.now) ((net.new ≡ net.old) × (teams.new ≡ teams.old)) outcome }
 
     // A push.
     ensures pushed { program_of (map string_bytes words.now) ≡ Some Push → (outcome : Result Bytes Failure)
@@ -84,14 +100,19 @@ where
     ensures unknown { (IsPipeLine (map string_bytes words.now) → ⊥) → program_of (map string_bytes words.now) ≡ None → result ≡ 2 }
 
     // Where words are refused nothing is read, written or opened. `pipe` alone reads the source.
-    ensures refused { result ≡ 2 → (source.new ≡ source.old) × (sink.new ≡ sink.old) × (net.new ≡ net.old) }
+    ensures refused { result ≡ 2 → (source.new ≡ source.old) × (sink.new ≡ sink.old) × (net.new ≡ net.old) × (teams.new ≡ teams.old) }
     ensures source_alone { (IsPipeLine (map string_bytes words.now) → ⊥) → source.new ≡ source.old }
+
+    // There are as many teams as before, and `work` alone has to do with them.
+    ensures teams { vec_len teams.new ≡ vec_len teams.old }
+    ensures others { (program_of (map string_bytes words.now) ≡ Some Work → ⊥) → teams.new ≡ teams.old }
 
     // With status 4 the sink's count of faults rose. (For the pipe that is said above.)
     ensures sink_cause { (IsPipeLine (map string_bytes words.now) → ⊥) → result ≡ 4 → Rose (K.write_faults sink.old) (K.write_faults sink.new) }
 {
     match program_of(words) {
         Some(Program::Serve) => run_serve(rt, alloc, words, sink, net, clock),
+        Some(Program::Work) => run_work(rt, alloc, words, teams, rules, sink, net, clock, dice),
         Some(Program::Push) => run_push(alloc, words, sink, net, clock, dice),
         Some(Program::Status) => run_status(alloc, words, sink, net),
         None => run_pipe(alloc, words, source, sink),

@@ -1,0 +1,25 @@
+-- The connections of a launcher: the door gives them, and in the end they are left to it.
+use Rattle.std.specs.Prelude.{◌≡◌, ◌++◌, ℕ, List, [], ◌∷◌, Option}
+use Rattle.sk_edge.specs.Collected.{Collected, Keeps, MakesRoom}
+use Rattle.sk_edge.specs.Doors.{GivesFirst}
+
+-- Each of these in turn led from one state to the next.
+pub data Each {S A : Type 0} (Step : S → A → S → Type 0) (from : S) : List A → S → Type 0 where
+  none : Each Step from [] from
+  one_more : (xs : List A) (mid to : S) (x : A) → Each Step from xs mid → Step mid x to → Each Step from (xs ++ x ∷ []) to
+
+-- what a door tells of the connections that it will make, and of those that were left to it
+pub record DoorTells (Conn : Type 0) : Type 0 where
+  pub dialled : Option (List Conn)
+  pub kept : Option (Collected Conn)
+
+abbrev pub door_tells : {Conn : Type 0} → Option (List Conn) → Option (Collected Conn) → DoorTells Conn
+door_tells dialled kept = record { dialled = dialled; kept = kept }
+
+-- The door gave this connection, and made room to keep one.
+abbrev pub Gives : {Conn : Type 0} → DoorTells Conn → Conn → DoorTells Conn → Type 0
+Gives a conn b = GivesFirst a.dialled conn b.dialled × MakesRoom a.kept 1 b.kept
+
+-- The connection was left to the door.
+abbrev pub Keeping : {Conn : Type 0} → DoorTells Conn → Conn → DoorTells Conn → Type 0
+Keeping a conn b = (b.dialled ≡ a.dialled) × Keeps a.kept (conn ∷ []) b.kept

@@ -1,0 +1,73 @@
+-- The turns of a worker in its thread, each with the link, the clock and the dice of that thread. (What jobs tell of their runs,
+-- and what delay rules answered, is told by each turn itself, and not here.)
+use Rattle.std.specs.Prelude.{◌≡◌, ◌+◌, ℕ, Bool, true, false, List, Option, Some, Result, Ok, Err}
+use Rattle.sk_base.specs.Yields.{YieldsAll}
+use Rattle.sk_resp.specs.Spelling.{Bytes}
+use Rattle.sk_link.specs.Call.{Call}
+use Rattle.sk_link.specs.declared.link.LinkFault.{LinkFault}
+use Rattle.sk_policy.specs.Order.{Order}
+use Rattle.sk_worker.specs.Event.{Event}
+use Rattle.sk_worker.specs.Stage.{Settings}
+use Rattle.sk_worker.specs.Turn.{Parts, TurnTranscript}
+use Rattle.sk_worker.specs.declared.turn.Turn.{Turn}
+use Rattle.sk_worker.specs.declared.turn.WorkFault.{WorkFault}
+use Rattle.sk_launcher.specs.Counting.{TallyView, counted}
+
+-- ## What is seen
+
+-- A worker with its link, its jobs, and the moments and words that its clock and its dice are going to give, and what came of its turns.
+pub record WorkState (Link : Type 0) : Type 0 where
+  pub link : Link
+  pub moments : Option (ℕ → ℕ)
+  pub words : Option (ℕ → ℕ)
+  pub settings : Settings
+  -- the jobs in hand, the oldest first
+  pub held : List Bytes
+  -- it had a fault
+  pub ended : Bool
+  pub fault : Option WorkFault
+  pub tally : TallyView
+
+abbrev pub settings : Bytes → Order → ℕ → List Bytes → Settings
+settings ident order prefetch classes = record { ident = ident; order = order; prefetch = prefetch; classes = classes }
+
+abbrev pub state : {Link : Type 0} → Link → Option (ℕ → ℕ) → Option (ℕ → ℕ) → Settings → List Bytes → Bool → Option WorkFault →
+    TallyView → WorkState Link
+state link moments words settings held ended fault tally = record {
+  link = link;
+  moments = moments;
+  words = words;
+  settings = settings;
+  held = held;
+  ended = ended;
+  fault = fault;
+  tally = tally;
+}
+
+-- ## Turns
+
+-- what a turn's answer is noted as
+abbrev pub IsNoted : {Link : Type 0} → WorkState Link → Result Turn WorkFault → WorkState Link → Type 0
+IsNoted a (Ok t) b = (b.ended ≡ false) × (b.fault ≡ a.fault) × (b.tally ≡ record { taken = a.tally.taken + 1; counts = counted t a.tally.counts })
+IsNoted a (Err f) b = (b.ended ≡ true) × (b.fault ≡ Some f) × (b.tally ≡ a.tally)
+
+-- A turn led from one state to the other, by its own events.
+pub record WorkerTurn {Link : Type 0} (Carried : Link → Link → List Call → Type 0) (Gave : Link → Link → LinkFault → Type 0)
+    (a : WorkState Link) (result : Result Turn WorkFault) (b : WorkState Link) : Type 0 where
+  pub whole : a.ended ≡ false
+  pub events : List Event
+  pub parts : Parts (λ calls. Carried a.link b.link calls) (λ runs. Unit {0})
+      (λ moments. YieldsAll a.moments moments b.moments) (λ words. YieldsAll a.words words b.words) (λ choices. Unit {0}) events
+  pub told : TurnTranscript (Gave a.link b.link) a.settings a.held events b.held result
+  pub settings_same : b.settings ≡ a.settings
+  pub noted : IsNoted a result b
+
+-- ## Laws of a turn
+
+pub begins : {Link : Type 0} (Carried : Link → Link → List Call → Type 0) (Gave : Link → Link → LinkFault → Type 0) (a b : WorkState Link)
+    (result : Result Turn WorkFault) → WorkerTurn Carried Gave a result b → a.ended ≡ false
+begins Carried Gave a b result turn = turn.whole
+
+pub ends : {Link : Type 0} (Carried : Link → Link → List Call → Type 0) (Gave : Link → Link → LinkFault → Type 0) (a b : WorkState Link) (fault : WorkFault) →
+    WorkerTurn Carried Gave a (Err fault) b → b.ended ≡ true
+ends Carried Gave a b fault turn = turn.noted.0

@@ -1,0 +1,134 @@
+// How a worker leaves, and gives back what it was made of.
+ghost use Rattle.std.specs.Prelude.{◌≡◌, ◌≤◌, ◌<◌, ◌+◌, ◌∷◌, ◌++◌, [], List, None, map, length, vec_len, vec_capacity, option_map, option_to_list, IfOk};
+ghost use Rattle.std.specs.List.{AllZip};
+ghost use Rattle.sk_base.specs.declared.limits.TheConstants.{MOST_WORKERS};
+ghost use Rattle.sk_launcher.specs.Connections.{Each, Keeping, door_tells};
+ghost use Rattle.sk_launcher.specs.Faults.{by_work};
+ghost use Rattle.sk_launcher.specs.Launching.{Leaves, work_faults};
+ghost use Rattle.sk_launcher.specs.Working.{WorkState, settings, state};
+ghost use Rattle.sk_link.specs.Fault.{IsCause};
+ghost use Rattle.sk_link.specs.Wire.{Carries, WireState, unread_of};
+
+use crate::LaunchFault;
+use crate::processor::Processor;
+use crate::tally::Tally;
+use crate::worker_thread::WorkerThread;
+use sk_base::Clock;
+use sk_edge::{Door, PcgDice};
+use sk_link::WireLink;
+use sk_worker::{Registry, WorkFault};
+use std::alloc::{AllocError, Global};
+
+/// What workers gave back when they had left: their teams, their turns, and their faults. It has room for those of all workers.
+#[derive(Drop)]
+pub(crate) struct Returns {
+    pub teams: Vec<Registry>,
+    pub tallies: Vec<Tally>,
+    pub faults: Vec<LaunchFault>,
+}
+
+impl Returns {
+    /// Room for so many teams, and for what so many workers, the poller and the launcher give back.
+    pub fn with_room(alloc: Global, teams: usize, workers: usize) -> Result<Returns, AllocError>
+        requires { workers ≤ MOST_WORKERS }
+        ensures empty { IfOk result (λ r. (r.teams.items ≡ []) × (r.tallies.items ≡ []) × (r.faults.items ≡ [])) }
+        ensures room { IfOk result (λ r. (teams ≤ vec_capacity r.teams) × (workers ≤ vec_capacity r.tallies) × (workers + 2 ≤ vec_capacity r.faults)) }
+    {
+        Ok(Returns {
+            teams: Vec::with_capacity(alloc, teams)?,
+            tallies: Vec::with_capacity(alloc, workers)?,
+            faults: Vec::with_capacity(alloc, workers + 2)?,
+        })
+    }
+}
+
+// A worker's fault is one of those of all.
+fn keep_fault(faults: &mut Vec<LaunchFault>, fault: Option<WorkFault>)
+    requires { vec_len faults.old < vec_capacity faults.old }
+    ensures faults { faults.new.items ≡ faults.old.items ++ option_to_list (option_map by_work fault) }
+    ensures room { vec_capacity faults.new ≡ vec_capacity faults.old }
+    ensures few { vec_len faults.new ≤ vec_len faults.old + 1 }
+{
+    if let Some(fault) = fault {
+        faults.push_reserved(LaunchFault::from(fault));
+    }
+}
+
+// A worker leaves.
+fn dismiss<N: Door, C: Clock>(
+    alloc: Global,
+    mut worker: WorkerThread<WireLink<N::Conn>, C, PcgDice>,
+    net: &mut N,
+    returns: &mut Returns,
+)
+    requires teams { vec_len returns.old.teams < vec_capacity returns.old.teams }
+    requires tallies { vec_len returns.old.tallies < vec_capacity returns.old.tallies }
+    requires faults { vec_len returns.old.faults < vec_capacity returns.old.faults }
+    ensures gone { (gone : WorkState (WireState N.Conn)) × Leaves
+        (λ a b calls. Carries (record { ended = a.ended; taken = N.Conn.taken a.conn; unread = unread_of a.pending (N.Conn.left a.conn) })
+        (record { ended = b.ended; taken = N.Conn.taken b.conn; unread = unread_of b.pending (N.Conn.left b.conn) }) calls)
+        (λ a b. IsCause (N.Conn.read_faults a.conn + N.Conn.write_faults a.conn) (N.Conn.read_faults b.conn + N.Conn.write_faults b.conn) a.ended
+        (unread_of b.pending (N.Conn.left b.conn)))
+        (state worker.link (C.moments worker.clock) None
+        (settings worker.processor.worker.ident worker.processor.worker.order worker.processor.worker.prefetch worker.processor.registry.classes)
+        worker.processor.worker.held.items worker.processor.worker.ended worker.processor.fault worker.processor.tally) gone
+        × Keeping (door_tells (N.dialled net.old) (N.kept net.old)) gone.link.conn (door_tells (N.dialled net.new) (N.kept net.new))
+        × (map (λ team. team.classes) returns.new.teams.items ≡ map (λ team. team.classes) returns.old.teams.items ++ gone.settings.classes ∷ [])
+        × (returns.new.tallies.items ≡ returns.old.tallies.items ++ gone.tally ∷ [])
+        × (returns.new.faults.items ≡ returns.old.faults.items ++ option_to_list (option_map by_work gone.fault)) }
+    ensures room { (vec_capacity returns.new.teams ≡ vec_capacity returns.old.teams) × (vec_capacity returns.new.tallies ≡ vec_capacity returns.old.tallies)
+        × (vec_capacity returns.new.faults ≡ vec_capacity returns.old.faults) }
+    ensures few { (vec_len returns.new.teams ≡ vec_len returns.old.teams + 1) × (vec_len returns.new.tallies ≡ vec_len returns.old.tallies + 1)
+        × (vec_len returns.new.faults ≤ vec_len returns.old.faults + 1) }
+    ensures faults { N.door_faults net.new ≡ N.door_faults net.old }
+{
+    worker.leave(alloc);
+    let WorkerThread {
+        processor,
+        link,
+        clock: _,
+        dice: _,
+    } = worker;
+    let Processor {
+        worker: _,
+        registry,
+        tally,
+        fault,
+    } = processor;
+    returns.teams.push_reserved(registry);
+    returns.tallies.push_reserved(tally);
+    keep_fault(&mut returns.faults, fault);
+    net.leave(link.into_conn());
+}
+
+/// The workers leave, in their order.
+pub(crate) fn dismiss_all<N: Door, C: Clock>(
+    alloc: Global,
+    staff: Vec<WorkerThread<WireLink<N::Conn>, C, PcgDice>>,
+    net: &mut N,
+    returns: &mut Returns,
+)
+    requires teams { vec_len returns.old.teams + vec_len staff ≤ vec_capacity returns.old.teams }
+    requires tallies { vec_len returns.old.tallies + vec_len staff ≤ vec_capacity returns.old.tallies }
+    requires faults { vec_len returns.old.faults + vec_len staff ≤ vec_capacity returns.old.faults }
+    ensures gone { (gone : List (WorkState (WireState N.Conn))) × AllZip (λ w gone. Leaves
+        (λ a b calls. Carries (record { ended = a.ended; taken = N.Conn.taken a.conn; unread = unread_of a.pending (N.Conn.left a.conn) })
+        (record { ended = b.ended; taken = N.Conn.taken b.conn; unread = unread_of b.pending (N.Conn.left b.conn) }) calls)
+        (λ a b. IsCause (N.Conn.read_faults a.conn + N.Conn.write_faults a.conn) (N.Conn.read_faults b.conn + N.Conn.write_faults b.conn) a.ended
+        (unread_of b.pending (N.Conn.left b.conn)))
+        (state w.link (C.moments w.clock) None
+        (settings w.processor.worker.ident w.processor.worker.order w.processor.worker.prefetch w.processor.registry.classes)
+        w.processor.worker.held.items w.processor.worker.ended w.processor.fault w.processor.tally) gone) staff.items gone
+        × Each (λ a gone b. Keeping a gone.link.conn b) (door_tells (N.dialled net.old) (N.kept net.old)) gone (door_tells (N.dialled net.new) (N.kept net.new))
+        × (map (λ team. team.classes) returns.new.teams.items ≡ map (λ team. team.classes) returns.old.teams.items ++ map (λ gone. gone.settings.classes) gone)
+        × (returns.new.tallies.items ≡ returns.old.tallies.items ++ map (λ gone. gone.tally) gone)
+        × (returns.new.faults.items ≡ returns.old.faults.items ++ work_faults gone) }
+    ensures room { (vec_capacity returns.new.teams ≡ vec_capacity returns.old.teams) × (vec_capacity returns.new.faults ≡ vec_capacity returns.old.faults) }
+    ensures few { (vec_len returns.new.teams ≡ vec_len returns.old.teams + vec_len staff)
+        × (vec_len returns.new.faults ≤ vec_len returns.old.faults + vec_len staff) }
+    ensures faults { N.door_faults net.new ≡ N.door_faults net.old }
+{
+    for worker in staff {
+        dismiss(alloc, worker, net, returns);
+    }
+}

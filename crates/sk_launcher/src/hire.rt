@@ -1,0 +1,175 @@
+// How a worker gets its connection and joins.
+ghost use Rattle.std.specs.Prelude.{◌≡◌, ◌≤◌, ◌<◌, ◌+◌, ◌∷◌, ◌++◌, [], List, None, IfOk, IfErr, OnOk, OnErr, map, length, vec_len, vec_capacity};
+ghost use Rattle.std.specs.List.{AllZip};
+ghost use Rattle.sk_base.specs.Outside.{Rose};
+ghost use Rattle.sk_base.specs.declared.limits.TheConstants.{MOST_PREFETCH};
+ghost use Rattle.sk_launcher.specs.Connections.{Each, Gives, door_tells};
+ghost use Rattle.sk_launcher.specs.Launching.{Hindered, Hire, Hires, IsStarted, office};
+ghost use Rattle.sk_launcher.specs.Working.{settings, state};
+ghost use Rattle.sk_link.specs.Fault.{IsCause};
+ghost use Rattle.sk_link.specs.Wire.{Carries, WireState, unread_of};
+
+use crate::LaunchFault;
+use crate::component::Component;
+use crate::processor::Processor;
+use crate::tally::Tally;
+use crate::worker_thread::WorkerThread;
+use sk_base::Clock;
+use sk_edge::{Door, PcgDice};
+use sk_line::WorkLine;
+use sk_link::WireLink;
+use sk_policy::{DelayRule, QueueOrder};
+use sk_resp::Text;
+use sk_worker::{Registry, Worker};
+use std::alloc::Global;
+use std::collections::VecDeque;
+
+/// What a new worker needs besides its team: who it is, its queues, and its connection.
+#[derive(Drop)]
+pub(crate) struct Post<N: Door> {
+    pub ident: Text,
+    pub order: QueueOrder,
+    pub conn: N::Conn,
+}
+
+/// The next worker's post.
+pub(crate) fn open_post<N: Door>(
+    alloc: Global,
+    line: &WorkLine,
+    net: &mut N,
+) -> Result<Post<N>, LaunchFault>
+    ensures given { IfOk result (λ post. Gives (door_tells (N.dialled net.old) (N.kept net.old)) post.conn (door_tells (N.dialled net.new) (N.kept net.new))) }
+    ensures post { IfOk result (λ post. (post.ident ≡ line.now.ident) × (post.order ≡ line.now.order)) }
+    ensures err { OnErr result (door_tells (N.dialled net.new) (N.kept net.new) ≡ door_tells (N.dialled net.old) (N.kept net.old)) }
+    ensures cause { IfErr result (λ f. Hindered (Rose (N.door_faults net.old) (N.door_faults net.new)) (f ∷ [])) }
+    ensures later { N.door_faults net.old ≤ N.door_faults net.new }
+{
+    let ident = line.ident.copy()?;
+    let order = line.order.copy(alloc)?;
+    let conn = net.connect(line.address.host.text(), line.address.port)?;
+    Ok(Post { ident, order, conn })
+}
+
+/// What workers are made of, in the order in which they get it: their teams, the rules of classes without a job, and their dice.
+#[derive(Drop)]
+pub(crate) struct Outfit {
+    pub teams: VecDeque<Registry>,
+    pub rules: VecDeque<DelayRule>,
+    pub dice: VecDeque<PcgDice>,
+}
+
+// Starts a worker with what its post and the next outfit give, and lets it join.
+fn start<N: Door, C: Clock>(
+    alloc: Global,
+    prefetch: u32,
+    post: Post<N>,
+    registry: Registry,
+    plain: DelayRule,
+    dice: PcgDice,
+    clock: &C,
+) -> WorkerThread<WireLink<N::Conn>, C, PcgDice>
+    requires { (1 ≤ prefetch) × (prefetch ≤ MOST_PREFETCH) }
+    ensures { (h : Hire (WireState N.Conn)) × IsStarted
+        (λ a b calls. Carries (record { ended = a.ended; taken = N.Conn.taken a.conn; unread = unread_of a.pending (N.Conn.left a.conn) })
+        (record { ended = b.ended; taken = N.Conn.taken b.conn; unread = unread_of b.pending (N.Conn.left b.conn) }) calls)
+        (λ a b. IsCause (N.Conn.read_faults a.conn + N.Conn.write_faults a.conn) (N.Conn.read_faults b.conn + N.Conn.write_faults b.conn) a.ended
+        (unread_of b.pending (N.Conn.left b.conn)))
+        post.conn (settings post.ident post.order prefetch registry.classes) h
+        × ((state result.link (C.moments result.clock) None
+        (settings result.processor.worker.ident result.processor.worker.order result.processor.worker.prefetch result.processor.registry.classes)
+        result.processor.worker.held.items result.processor.worker.ended result.processor.fault result.processor.tally) ≡ h.joined) }
+{
+    let worker = Worker::new(alloc, post.ident, post.order, plain, prefetch as usize);
+    let mut thread = WorkerThread {
+        processor: Processor {
+            worker,
+            registry,
+            tally: Tally::new(),
+            fault: None,
+        },
+        link: WireLink::new(alloc, post.conn),
+        clock: clock.twin(),
+        dice,
+    };
+    thread.join(alloc);
+    thread
+}
+
+// Hires one worker, where there is an outfit left.
+fn hire_one<N: Door, C: Clock>(
+    alloc: Global,
+    line: &WorkLine,
+    outfit: &mut Outfit,
+    net: &mut N,
+    clock: &C,
+) -> Result<WorkerThread<WireLink<N::Conn>, C, PcgDice>, LaunchFault>
+    requires prefetch { (1 ≤ line.now.prefetch) × (line.now.prefetch ≤ MOST_PREFETCH) }
+    requires teams { 0 < length outfit.old.teams.items }
+    requires rules { 0 < length outfit.old.rules.items }
+    requires dice { 0 < length outfit.old.dice.items }
+    ensures hired { IfOk result (λ worker. (h : Hire (WireState N.Conn)) × Hires
+        (λ a b calls. Carries (record { ended = a.ended; taken = N.Conn.taken a.conn; unread = unread_of a.pending (N.Conn.left a.conn) })
+        (record { ended = b.ended; taken = N.Conn.taken b.conn; unread = unread_of b.pending (N.Conn.left b.conn) }) calls)
+        (λ a b. IsCause (N.Conn.read_faults a.conn + N.Conn.write_faults a.conn) (N.Conn.read_faults b.conn + N.Conn.write_faults b.conn) a.ended
+        (unread_of b.pending (N.Conn.left b.conn)))
+        line.now.ident line.now.order line.now.prefetch (office (door_tells (N.dialled net.old) (N.kept net.old)) (map (λ team. team.classes) outfit.old.teams.items)) h (office (door_tells (N.dialled net.new) (N.kept net.new)) (map (λ team. team.classes) outfit.new.teams.items))
+        × ((state worker.link (C.moments worker.clock) None
+        (settings worker.processor.worker.ident worker.processor.worker.order worker.processor.worker.prefetch worker.processor.registry.classes)
+        worker.processor.worker.held.items worker.processor.worker.ended worker.processor.fault worker.processor.tally) ≡ h.joined)) }
+    ensures used { OnOk result ((length outfit.new.teams.items + 1 ≡ length outfit.old.teams.items)
+        × (length outfit.new.rules.items + 1 ≡ length outfit.old.rules.items) × (length outfit.new.dice.items + 1 ≡ length outfit.old.dice.items)) }
+    ensures err { OnErr result (((door_tells (N.dialled net.new) (N.kept net.new)) ≡ (door_tells (N.dialled net.old) (N.kept net.old))) × (outfit.new ≡ outfit.old)) }
+    ensures cause { IfErr result (λ f. Hindered (Rose (N.door_faults net.old) (N.door_faults net.new)) (f ∷ [])) }
+    ensures later { N.door_faults net.old ≤ N.door_faults net.new }
+{
+    let post = open_post(alloc, line, net)?;
+    let Some(team) = outfit.teams.pop_front() else {
+        unreachable!()
+    };
+    let Some(plain) = outfit.rules.pop_front() else {
+        unreachable!()
+    };
+    let Some(dice) = outfit.dice.pop_front() else {
+        unreachable!()
+    };
+    Ok(start(alloc, line.prefetch, post, team, plain, dice, clock))
+}
+
+/// Hires as many workers as the line says, up to the first that has a fault. Where the door gives no connection, or there is no memory, there are fewer.
+pub(crate) fn hire_all<N: Door, C: Clock>(
+    alloc: Global,
+    line: &WorkLine,
+    outfit: &mut Outfit,
+    net: &mut N,
+    clock: &C,
+    staff: &mut Vec<WorkerThread<WireLink<N::Conn>, C, PcgDice>>,
+) -> Result<(), LaunchFault>
+    requires prefetch { (1 ≤ line.now.prefetch) × (line.now.prefetch ≤ MOST_PREFETCH) }
+    requires room { (vec_len staff.old ≡ 0) × (line.now.threads ≤ vec_capacity staff.old) }
+    requires teams { line.now.threads ≤ length outfit.old.teams.items }
+    requires rules { line.now.threads ≤ length outfit.old.rules.items }
+    requires dice { line.now.threads ≤ length outfit.old.dice.items }
+    ensures hired { (hires : List (Hire (WireState N.Conn))) × Each (Hires
+        (λ a b calls. Carries (record { ended = a.ended; taken = N.Conn.taken a.conn; unread = unread_of a.pending (N.Conn.left a.conn) })
+        (record { ended = b.ended; taken = N.Conn.taken b.conn; unread = unread_of b.pending (N.Conn.left b.conn) }) calls)
+        (λ a b. IsCause (N.Conn.read_faults a.conn + N.Conn.write_faults a.conn) (N.Conn.read_faults b.conn + N.Conn.write_faults b.conn) a.ended
+        (unread_of b.pending (N.Conn.left b.conn)))
+        line.now.ident line.now.order line.now.prefetch) (office (door_tells (N.dialled net.old) (N.kept net.old)) (map (λ team. team.classes) outfit.old.teams.items)) hires (office (door_tells (N.dialled net.new) (N.kept net.new)) (map (λ team. team.classes) outfit.new.teams.items))
+        × AllZip (λ h w. (state w.link (C.moments w.clock) None
+        (settings w.processor.worker.ident w.processor.worker.order w.processor.worker.prefetch w.processor.registry.classes)
+        w.processor.worker.held.items w.processor.worker.ended w.processor.fault w.processor.tally) ≡ h.joined) hires staff.new.items }
+    ensures few { vec_len staff.new ≤ line.now.threads }
+    ensures left { length outfit.new.teams.items + vec_len staff.new ≡ length outfit.old.teams.items }
+    ensures cause { IfErr result (λ f. Hindered (Rose (N.door_faults net.old) (N.door_faults net.new)) (f ∷ [])) }
+    ensures later { N.door_faults net.old ≤ N.door_faults net.new }
+{
+    while staff.len() < line.threads as usize {
+        let worker = hire_one(alloc, line, outfit, net, clock)?;
+        let is_broken = worker.is_broken();
+        staff.push_reserved(worker);
+        if is_broken {
+            return Ok(());
+        }
+    }
+    Ok(())
+}

@@ -1,0 +1,328 @@
+// The launcher: it makes the connections, starts the poller and the workers, lets them take their turns in threads, and gives everything back.
+ghost use Rattle.std.specs.Prelude.{◌≡◌, ◌≤◌, ◌<◌, ◌+◌, IfOk, length, map, true, vec_len, vec_capacity};
+ghost use Rattle.std.specs.List.{list_all};
+ghost use Rattle.sk_base.specs.declared.limits.TheConstants.{MOST_PREFETCH, MOST_WORKERS};
+ghost use Rattle.sk_cron.specs.Offset.{IsOffset};
+ghost use Rattle.sk_launcher.specs.Launching.{IsAnswer};
+ghost use Rattle.sk_poller.specs.Loop.{is_loop};
+
+use crate::component::Component;
+use crate::dismiss::{Returns, dismiss_all};
+use crate::faults::least;
+use crate::hire::{Outfit, hire_all};
+use crate::manager::{are_whole, run_on};
+use crate::poller_thread::PollerThread;
+use crate::shared::Shared;
+use crate::total::total;
+use crate::worker_thread::WorkerThread;
+use crate::{Counts, LaunchFault};
+use sk_base::{Clock, Dice};
+use sk_edge::{Door, PcgDice};
+use sk_line::WorkLine;
+use sk_link::{Link, WireLink};
+use sk_policy::DelayRule;
+use sk_poller::Poller;
+use sk_resp::Text;
+use sk_worker::Registry;
+use std::alloc::{AllocError, Global};
+use std::collections::VecDeque;
+use std::mem;
+use std::sync::Wait;
+use std::thread::Threads;
+
+// A dice of its own, by two words.
+fn own_dice<D: Dice>(dice: &mut D) -> PcgDice {
+    let state = dice.word();
+    let stream = dice.word();
+    PcgDice::from_words(state, stream)
+}
+
+// So many of them.
+fn own_dices<D: Dice>(
+    alloc: Global,
+    count: usize,
+    dice: &mut D,
+) -> Result<VecDeque<PcgDice>, AllocError>
+    ensures { IfOk result (λ own. length own.items ≡ count) }
+{
+    let mut own = Vec::with_capacity(alloc, count)?;
+    while own.len() < count {
+        own.push_reserved(own_dice(dice));
+    }
+    Ok(VecDeque::from(own))
+}
+
+// How many turns a worker takes. With 0 on the line it goes on until a fault: 2^64 - 1 turns have no end.
+fn turns_of(line: &WorkLine) -> u64 {
+    if line.turns == 0 {
+        u64::MAX
+    } else {
+        u64::from(line.turns)
+    }
+}
+
+// Where workers go on until a fault there are no counts: should they come to an end without one, the launcher waits until the process is ended.
+fn settle<R: Wait>(
+    rt: &R,
+    turns: u32,
+    answer: Result<Counts, LaunchFault>,
+) -> Result<Counts, LaunchFault>
+    ensures same { result ≡ answer }
+    ensures turns { IfOk result (λ counts. 0 < turns) }
+{
+    match answer {
+        Ok(counts) => {
+            if turns == 0 {
+                for _ in rt.forever() {}
+                unreachable!()
+            }
+            Ok(counts)
+        }
+        Err(fault) => Err(fault),
+    }
+}
+
+// What a launcher has before its first turn: the poller's name, dice and connection, the workers' dice, and room for all that comes back.
+#[derive(Drop)]
+struct Ready<N: Door> {
+    ident: Text,
+    own: PcgDice,
+    others: VecDeque<PcgDice>,
+    returns: Returns,
+    conn: N::Conn,
+}
+
+fn make_ready<N: Door, D: Dice>(
+    alloc: Global,
+    line: &WorkLine,
+    teams: usize,
+    net: &mut N,
+    dice: &mut D,
+) -> Result<Ready<N>, LaunchFault>
+    requires { line.now.threads ≤ MOST_WORKERS }
+    ensures dice { IfOk result (λ r. length r.others.items ≡ line.now.threads) }
+    ensures empty { IfOk result (λ r. (vec_len r.returns.teams ≡ 0) × (vec_len r.returns.tallies ≡ 0) × (vec_len r.returns.faults ≡ 0)) }
+    ensures room { IfOk result (λ r. (teams ≤ vec_capacity r.returns.teams) × (line.now.threads ≤ vec_capacity r.returns.tallies)
+        × (line.now.threads + 2 ≤ vec_capacity r.returns.faults)) }
+    ensures later { N.door_faults net.old ≤ N.door_faults net.new }
+{
+    let count = line.threads as usize;
+    let returns = Returns::with_room(alloc, teams, count)?;
+    let own = own_dice(dice);
+    let others = own_dices(alloc, count, dice)?;
+    let ident = line.ident.copy()?;
+    let conn = net.connect(line.address.host.text(), line.address.port)?;
+    Ok(Ready {
+        ident,
+        own,
+        others,
+        returns,
+        conn,
+    })
+}
+
+// A poller over a new connection, which takes its first turn.
+fn start_poller<N: Door, C: Clock>(
+    alloc: Global,
+    poller: Poller,
+    conn: N::Conn,
+    clock: &C,
+    dice: PcgDice,
+) -> PollerThread<WireLink<N::Conn>, C, PcgDice> {
+    let mut poller = PollerThread {
+        poller,
+        link: WireLink::new(alloc, conn),
+        clock: clock.twin(),
+        dice,
+        taken: 0,
+        fault: None,
+    };
+    poller.first(alloc);
+    poller
+}
+
+// The poller and the workers take their turns in threads, over links of any kind.
+#[tactic(auto, using(crate::proofs::Crossing::payload_send, crate::proofs::Crossing::order_send, crate::proofs::Crossing::tally_send))]
+fn run_threads<R: Threads + Wait + Sync, L: Link + Drop + Send, C: Clock + Send>(
+    rt: &R,
+    shared: &Shared,
+    poller: &mut PollerThread<L, C, PcgDice>,
+    staff: &mut Vec<WorkerThread<L, C, PcgDice>>,
+)
+    requires { 0 < vec_len staff.old }
+    ensures { vec_len staff.new ≡ vec_len staff.old }
+{
+    run_on(rt, shared, poller, staff.as_mut_slice());
+}
+
+// They do, where as many workers were hired as there are to be, and nobody had a fault.
+fn work<R: Threads + Wait + Sync, N: Door, C: Clock + Send>(
+    rt: &R,
+    alloc: Global,
+    line: &WorkLine,
+    poller: &mut PollerThread<WireLink<N::Conn>, C, PcgDice>,
+    staff: &mut Vec<WorkerThread<WireLink<N::Conn>, C, PcgDice>>,
+)
+    requires { 1 ≤ line.now.threads }
+    ensures { vec_len staff.new ≡ vec_len staff.old }
+{
+    if staff.len() == line.threads as usize && are_whole(staff) {
+        run_threads(rt, &Shared::new(alloc, turns_of(line)), poller, staff);
+    }
+}
+
+// The poller gives back its connection, and its fault.
+fn dismiss_poller<N: Door, C: Clock>(
+    poller: PollerThread<WireLink<N::Conn>, C, PcgDice>,
+    net: &mut N,
+    faults: &mut Vec<LaunchFault>,
+)
+    requires { vec_len faults.old < vec_capacity faults.old }
+    ensures few { vec_len faults.new ≤ vec_len faults.old + 1 }
+    ensures room { vec_capacity faults.new ≡ vec_capacity faults.old }
+    ensures faults { N.door_faults net.new ≡ N.door_faults net.old }
+{
+    let PollerThread {
+        poller: _,
+        link,
+        clock: _,
+        dice: _,
+        taken: _,
+        fault,
+    } = poller;
+    net.leave(link.into_conn());
+    if let Some(fault) = fault {
+        faults.push_reserved(LaunchFault::from(fault));
+    }
+}
+
+// The teams that had no worker come back behind the others.
+fn return_teams(mut left: VecDeque<Registry>, teams: &mut Vec<Registry>)
+    requires { vec_len teams.old + length left.items ≤ vec_capacity teams.old }
+    ensures { vec_len teams.new ≡ vec_len teams.old + length left.items }
+{
+    while let Some(team) = left.pop_front() {
+        teams.push_reserved(team);
+    }
+}
+
+// What came back: the counts of all turns, or a fault with the least status.
+fn answer(returns: Returns) -> (Vec<Registry>, Result<Counts, LaunchFault>)
+    requires { 0 ≤ 1 }
+    ensures teams { result.0.items ≡ returns.teams.items }
+    ensures answered { IsAnswer returns.faults.items (map (λ t. t.counts) returns.tallies.items) result.1 }
+{
+    let Returns {
+        teams,
+        tallies,
+        faults,
+    } = returns;
+    match least(faults) {
+        Some(fault) => (teams, Err(fault)),
+        None => (teams, Ok(total(Counts::none(), &tallies))),
+    }
+}
+
+// Workers are hired, work and leave.
+fn run_process<R: Threads + Wait + Sync, N: Door, C: Clock + Send>(
+    rt: &R,
+    alloc: Global,
+    line: &WorkLine,
+    mut poller: PollerThread<WireLink<N::Conn>, C, PcgDice>,
+    mut staff: Vec<WorkerThread<WireLink<N::Conn>, C, PcgDice>>,
+    mut outfit: Outfit,
+    net: &mut N,
+    clock: &C,
+    returns: &mut Returns,
+)
+    requires threads { 1 ≤ line.now.threads }
+    requires prefetch { (1 ≤ line.now.prefetch) × (line.now.prefetch ≤ MOST_PREFETCH) }
+    requires room { (vec_len staff ≡ 0) × (line.now.threads ≤ vec_capacity staff) }
+    requires outfit { (line.now.threads ≤ length outfit.teams.items) × (line.now.threads ≤ length outfit.rules.items)
+        × (line.now.threads ≤ length outfit.dice.items) }
+    requires empty { (vec_len returns.old.teams ≡ 0) × (vec_len returns.old.tallies ≡ 0) × (vec_len returns.old.faults ≡ 0) }
+    requires returns { (length outfit.teams.items ≤ vec_capacity returns.old.teams) × (line.now.threads ≤ vec_capacity returns.old.tallies)
+        × (line.now.threads + 2 ≤ vec_capacity returns.old.faults) }
+    ensures teams { vec_len returns.new.teams ≡ length outfit.teams.items }
+    ensures later { N.door_faults net.old ≤ N.door_faults net.new }
+{
+    let mut hired = Ok(());
+    if !poller.is_broken() {
+        hired = hire_all(alloc, line, &mut outfit, net, clock, &mut staff);
+        work::<R, N, C>(rt, alloc, line, &mut poller, &mut staff);
+    }
+    dismiss_poller(poller, net, &mut returns.faults);
+    dismiss_all(alloc, staff, net, returns);
+    return_teams(outfit.teams, &mut returns.teams);
+    if let Err(fault) = hired {
+        returns.faults.push_reserved(fault);
+    }
+}
+
+/// Starts a poller and as many workers as the line says, each with a connection, a clock and a dice of its own, and lets them take their turns in
+/// threads. Answers how many turns of the workers came to each answer.
+///
+/// The first worker has the first of the teams and the first of the rules (the rule of classes that have no job), and so on. Once it has joined, a
+/// worker takes as many turns as the line says, and the poller one more. Where the line says 0, they go on until a fault. Between two turns the poller
+/// pauses 5,000 ms, and a worker that found no job pauses 1,000 ms. Where a thread meets a fault, each other one ends before its next turn. At the end
+/// each worker without a fault gives back the jobs that it holds; the connections go back to the door, in the order of making, and the teams stand in
+/// their order again, whatever came of it.
+///
+/// Errors: of several faults one with the least [`status`](LaunchFault::status).
+pub fn launch<R: Threads + Wait + Sync, N: Door, C: Clock + Send, D: Dice>(
+    rt: &R,
+    alloc: Global,
+    mut line: WorkLine,
+    teams: &mut Vec<Registry>,
+    rules: Vec<DelayRule>,
+    net: &mut N,
+    clock: &C,
+    dice: &mut D,
+) -> Result<Counts, LaunchFault>
+    requires teams { vec_len rules ≡ vec_len teams.old }
+    requires few { vec_len teams.old ≤ MOST_WORKERS }
+    requires threads { (1 ≤ line.threads) × (line.threads ≤ vec_len teams.old) }
+    requires prefetch { (1 ≤ line.prefetch) × (line.prefetch ≤ MOST_PREFETCH) }
+    requires offset { IsOffset line.offset }
+    requires loops { list_all is_loop line.loops.items ≡ true }
+    ensures turns { IfOk result (λ counts. 0 < line.turns) }
+    ensures teams { vec_len teams.new ≡ vec_len teams.old }
+    ensures later { N.door_faults net.old ≤ N.door_faults net.new }
+{
+    let staff = Vec::with_capacity(alloc, line.threads as usize)?;
+    let ready = make_ready(alloc, &line, teams.len(), net, dice)?;
+    let Ready {
+        ident,
+        own,
+        others,
+        mut returns,
+        conn,
+    } = ready;
+    let loops = mem::replace(&mut line.loops, Vec::new(alloc));
+    let poller = start_poller::<N, C>(
+        alloc,
+        Poller::new(ident, loops, line.offset),
+        conn,
+        clock,
+        own,
+    );
+    let outfit = Outfit {
+        teams: VecDeque::from(mem::replace(teams, Vec::new(alloc))),
+        rules: VecDeque::from(rules),
+        dice: others,
+    };
+    run_process(
+        rt,
+        alloc,
+        &line,
+        poller,
+        staff,
+        outfit,
+        net,
+        clock,
+        &mut returns,
+    );
+    let (back, answer) = answer(returns);
+    *teams = back;
+    settle(rt, line.turns, answer)
+}

@@ -1,0 +1,21 @@
+//! The threads of a process of workers: a poller and processors, each with a link, a clock and a dice of its own, as Sidekiq's launcher runs them.
+#![tactic(auto)]
+
+mod component;
+mod counts;
+mod dismiss;
+mod faults;
+mod hire;
+mod launch_fault;
+mod launcher;
+mod manager;
+mod poller_thread;
+mod processor;
+mod shared;
+mod tally;
+mod total;
+mod worker_thread;
+
+pub use counts::Counts;
+pub use launch_fault::LaunchFault;
+pub use launcher::launch;
