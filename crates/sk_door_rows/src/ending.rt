@@ -27,14 +27,24 @@ fn add_bytes(out: &mut String, bytes: &[u8]) -> Result<(), AllocError> {
     Ok(())
 }
 
+// Appends a part for a connection.
+fn add_conn(out: &mut String, conn: &MemConn, part: &str) -> Result<(), AllocError> {
+    out.push_str("\n@")?;
+    out.push_str(part)?;
+    add_bytes(out, conn.tray().taken())
+}
+
 // Appends a part for each connection, in order.
 fn add_conns(out: &mut String, conns: &[MemConn], part: &str) -> Result<(), AllocError> {
     for conn in conns {
-        out.push_str("\n@")?;
-        out.push_str(part)?;
-        add_bytes(out, conn.tray().taken())?;
+        add_conn(out, conn, part)?;
     }
     Ok(())
+}
+
+/// Appends a part for a connection that was made (`dialled`).
+pub fn add_taken(out: &mut String, conn: &MemConn) -> Result<(), AllocError> {
+    add_conn(out, conn, "dialled")
 }
 
 /// The status, and then parts: what the sink took (`sink`); each ear (`ear`) with what each connection took that it heard (`heard`); and what each

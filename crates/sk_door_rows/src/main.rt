@@ -2,11 +2,16 @@
 //! No contract can say what a call through the store's lock did, and each leaves want of memory free as an answer. Rows show both.
 #![tactic(auto)]
 
+mod call;
 mod ending;
+mod faults;
+mod order;
 mod peer;
 mod play;
+mod poller;
 mod setting;
 mod text;
+mod worker;
 
 use play::play;
 use setting::Setting;

@@ -1,4 +1,5 @@
-// What a row gives to the top call.
+// What a row gives to its call.
+use crate::call::Call;
 use crate::peer::Peer;
 use crate::text::{add_bytes_of, invalid, key_of, number, numbers};
 use sk_base::{Feed, ListDice, MemConn, StepClock, Tray};
@@ -8,9 +9,10 @@ use std::io;
 /// What stands before each part of a row behind its first.
 const PART: &str = "\n@";
 
-/// What a row gives to the top call.
+/// What a row gives to its call.
 #[derive(Drop)]
 pub struct Setting {
+    pub call: Call,
     /// The command line.
     pub words: Vec<String>,
     pub clock: StepClock,
@@ -58,6 +60,7 @@ impl Setting {
     /// No words, no connections, no input; the clock and the dice tell 0.
     fn new(alloc: Global) -> Setting {
         Setting {
+            call: Call::Top,
             words: Vec::new(alloc),
             clock: StepClock { now: 0, step: 0 },
             dice: ListDice::new(Vec::new(alloc)),
@@ -68,15 +71,17 @@ impl Setting {
         }
     }
 
-    // Adds what a line says: the words of the command line (`run`), the clock's first moment and its step (`clock`), or the words of the dice (`dice`).
-    // Another line is invalid data.
+    // Adds what a line says: the clock's first moment and its step (`clock`), the words of the dice (`dice`), or what is called, with the words of its
+    // command line. Another line is invalid data.
     fn add(&mut self, alloc: Global, line: &str) -> io::Result<()> {
         let (key, rest) = key_of(line);
         match key {
-            "run" => self.words = words(alloc, rest)?,
             "clock" => self.clock = clock(rest)?,
             "dice" => self.dice = ListDice::new(numbers(alloc, rest)?),
-            _ => return Err(invalid()),
+            _ => {
+                self.call = Call::read(key)?;
+                self.words = words(alloc, rest)?;
+            }
         }
         Ok(())
     }

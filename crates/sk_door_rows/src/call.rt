@@ -1,0 +1,32 @@
+// What a row calls.
+use crate::text::invalid;
+use std::io;
+
+/// What a row calls.
+#[derive(Clone, Copy, Debug, PartialEq, Eq)]
+pub enum Call {
+    /// `run`: the top call.
+    Top,
+    /// `work`: a worker, by a line of `work`. It joins, takes the line's turns and leaves.
+    Work,
+    /// `poll`: a poller, by a line of `work`. It takes the line's turns.
+    Poll,
+    /// `order`: a turn of the order of the queues, `strict` or `weighted`.
+    Order,
+    /// `decide`: what becomes of a failed job, by its jitter and its text.
+    Decide,
+}
+
+impl Call {
+    /// The call with this name. Another name is invalid data.
+    pub fn read(name: &str) -> io::Result<Call> {
+        match name {
+            "run" => Ok(Call::Top),
+            "work" => Ok(Call::Work),
+            "poll" => Ok(Call::Poll),
+            "order" => Ok(Call::Order),
+            "decide" => Ok(Call::Decide),
+            _ => Err(invalid()),
+        }
+    }
+}
