@@ -1,23 +1,34 @@
 // The call of a row in its setting.
+ghost use Rattle.std.specs.Prelude.{◌≡◌, ◌≤◌, vec_len};
+ghost use Rattle.sk_base.specs.declared.limits.TheConstants.{MOST_WORKERS};
+
 use crate::call::Call;
 use crate::ending::ending;
 use crate::order::{decision, order};
 use crate::poller::poll;
 use crate::setting::Setting;
-use crate::worker::work;
-use sk_app::run;
+use crate::text::invalid;
+use crate::worker::{class, work};
+use sk_app::{Note, run};
 use sk_edge::MemDoor;
+use sk_policy::{DelayRule, plain_delay};
+use sk_worker::{Job, Registry};
 use std::alloc::{AllocError, Global};
 use std::io;
 use std::sync::Wait;
 use std::thread::Threads;
 
-// What comes of the top call.
+// What comes of the top call, with these teams.
 fn top<R: Threads + Wait + Sync>(
     rt: &R,
     alloc: Global,
     setting: Setting,
-) -> Result<String, AllocError> {
+    teams: &mut Vec<Registry>,
+    rules: Vec<DelayRule>,
+) -> Result<String, AllocError>
+    requires rules { vec_len rules ≡ vec_len teams.old }
+    requires few { vec_len teams.old ≤ MOST_WORKERS }
+{
     let Setting {
         call: _,
         words,
@@ -33,6 +44,8 @@ fn top<R: Threads + Wait + Sync>(
         rt,
         alloc,
         &words,
+        teams,
+        rules,
         &mut source,
         &mut sink,
         &mut door,
@@ -42,6 +55,27 @@ fn top<R: Threads + Wait + Sync>(
     ending(alloc, status, &sink, &door)
 }
 
+// What comes of it with one team, which has the class Note.
+fn top_with_a_team<R: Threads + Wait + Sync>(
+    rt: &R,
+    alloc: Global,
+    setting: Setting,
+) -> io::Result<String> {
+    let note: Box<dyn Job + Send> = Box::new(alloc, Note)?;
+    let own: Box<dyn Fn(u32) -> u64 + Send> = Box::new(alloc, |count: u32| plain_delay(count))?;
+    let plain: Box<dyn Fn(u32) -> u64 + Send> = Box::new(alloc, |count: u32| plain_delay(count))?;
+    let mut team = Registry::new(alloc);
+    let noted = team.add(class(alloc, "Note")?, note, DelayRule::new(own));
+    if noted.is_err() {
+        return Err(invalid());
+    }
+    let mut teams = Vec::new(alloc);
+    teams.push(team)?;
+    let mut rules = Vec::new(alloc);
+    rules.push(DelayRule::new(plain))?;
+    Ok(top(rt, alloc, setting, &mut teams, rules)?)
+}
+
 /// What comes of the setting's call.
 pub fn play<R: Threads + Wait + Sync>(
     rt: &R,
@@ -49,7 +83,7 @@ pub fn play<R: Threads + Wait + Sync>(
     mut setting: Setting,
 ) -> io::Result<String> {
     match setting.call {
-        Call::Top => Ok(top(rt, alloc, setting)?),
+        Call::Top => top_with_a_team(rt, alloc, setting),
         Call::Work => work(alloc, setting),
         Call::Poll => poll(alloc, setting),
         Call::Order => order(alloc, &mut setting),

@@ -39,7 +39,7 @@ fn fault_name(fault: &WorkFault) -> &'static str {
     }
 }
 
-fn class(alloc: Global, name: &str) -> Result<Text, AllocError> {
+pub fn class(alloc: Global, name: &str) -> Result<Text, AllocError> {
     Ok(Text::new(String::from_str(alloc, name)?))
 }
 
