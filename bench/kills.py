@@ -3,11 +3,11 @@
 
     kills.py [--jobs 10000] [--kills 20] [--prefetch 4]
 
-One server, so many jobs of the class Note, pushed one after another, and two processes of `work`, each with four workers. Again and again, once the two
-have done a share of the jobs, one of them is killed, and another is started under a name of its own. What the dead one held stands in its private list
-until its heartbeat has lapsed, a minute later: then a poller of the living gives it back, and it runs. A line for each kill tells how many jobs were done
-by then, and how many the dead process held. At the end the page has no live job, and the server's summary has each job as returned, or as buried where it
-was rescued too often. Wanted: the program alone, which bin/sidekiq builds.
+One server, two processes of `work`, each with four workers, and so many jobs of the class Note, pushed in as many lots as there are kills. In the middle
+of each lot one that holds jobs is killed, and another is started under a name of its own. What the dead one held stands in its private list until its heartbeat
+has lapsed, a minute later: then a poller of the living gives it back, and it runs. A line for each kill tells how many jobs were done by then, of how many
+pushed, and how many the dead process held. At the end the page has no live job, and the server's summary has each job as returned, or as buried where
+it was rescued too often. Wanted: the program alone, which bin/sidekiq builds.
 """
 import argparse
 import re
@@ -31,6 +31,7 @@ class Worker:
 
     def __init__(self, number, prefetch):
         self.name = 'host:%d:0' % number
+        self.list = b'sq:' + self.name.encode()
         words = ['work', '--port', str(PORT), '--ident', self.name, '--threads', '4', '--prefetch', str(prefetch)]
         self.process = subprocess.Popen([PROGRAM, *words], stdout=subprocess.DEVNULL, stderr=subprocess.DEVNULL)
 
@@ -42,7 +43,7 @@ class Worker:
 def held_by(store, worker):
     """How many jobs stand in the private list of a worker that is gone, once the server has seen that it is."""
     time.sleep(0.05)
-    return store.length(b'sq:' + worker.name.encode())
+    return store.length(worker.list)
 
 
 def main():
@@ -53,19 +54,22 @@ def main():
     given = parser.parse_args()
     server = subprocess.Popen([PROGRAM, 'serve', '--port', str(PORT), '--loops', '32'], stdout=subprocess.PIPE, stderr=subprocess.DEVNULL)
     store = Client(PORT)
-    for number in range(given.jobs):
-        assert store.ask(b'LPUSH', b'queue:default', job(number)) == b':%d' % (number + 1)
-    print('kills: %d jobs pushed' % given.jobs)
-    workers, next_name, held = [Worker(0, given.prefetch), Worker(1, given.prefetch)], 2, 0
+    workers, next_name, held, pushed = [Worker(0, given.prefetch), Worker(1, given.prefetch)], 2, 0, 0
+    while page_of(store)['processes'] < 2:
+        time.sleep(0.002)
     for kill in range(given.kills):
-        share = (kill + 1) * given.jobs // (given.kills + 2)
-        while page_of(store)['processed'] < share:
-            time.sleep(0.002)
-        worker = workers.pop(0)
+        lot = [job(number) for number in range(pushed, (kill + 1) * given.jobs // given.kills)]
+        before = page_of(store)['processed']
+        store.fill(lot)
+        pushed += len(lot)
+        while page_of(store)['processed'] < before + len(lot) // 5:
+            pass
+        worker = next((it for it in workers if store.length(it.list)), workers[0])      # (the other one may be in the pause that follows an empty queue)
         worker.kill()
+        workers.remove(worker)
         done, in_hands = page_of(store)['processed'], held_by(store, worker)
         held += in_hands
-        print('kills: %2d. %-9s killed when %5d were done; it held %2d' % (kill + 1, worker.name, done, in_hands), flush=True)
+        print('kills: %2d. %-9s killed when %5d of %5d were done; it held %2d' % (kill + 1, worker.name, done, pushed, in_hands), flush=True)
         workers.append(Worker(next_name, given.prefetch))
         next_name += 1
     print('kills: the dead held %d jobs; their heartbeats lapse in a minute' % held, flush=True)
