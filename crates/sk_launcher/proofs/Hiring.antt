@@ -1,5 +1,5 @@
 -- How workers are hired.
-use Rattle.std.proofs.Common.{◌≡◌, ◌∙◌, sym, ap, subst, ℕ, List, [], ◌∷◌, ◌++◌, map, length, arith, Bool, Option, None, refl, false}
+use Rattle.std.proofs.Common.{◌≡◌, ◌∙◌, sym, ap, subst, ℕ, List, [], ◌∷◌, ◌++◌, map, length, arith, None, refl, false}
 use Rattle.std.specs.List.{AllZip}
 use Rattle.sk_resp.specs.Spelling.{Bytes}
 use Rattle.sk_link.specs.Call.{Call}
@@ -7,7 +7,7 @@ use Rattle.sk_link.specs.Wire.{WireState}
 use Rattle.sk_link.specs.declared.link.LinkFault.{LinkFault}
 use Rattle.sk_policy.specs.Order.{Order}
 use Rattle.sk_worker.specs.Stage.{Settings}
-use Rattle.sk_launcher.specs.Connections.{Each, none, one_more, Gives}
+use Rattle.sk_launcher.specs.Connections.{Each, one_more, Gives}
 use Rattle.sk_launcher.specs.Counting.{no_turns}
 use Rattle.sk_launcher.specs.Launching.{HasJoined, Hire, Hires, IsStarted, Office}
 use Rattle.sk_launcher.specs.Working.{WorkState, settings}

@@ -1,5 +1,5 @@
 -- One with the least status, of one fault more.
-use Rattle.std.proofs.Common.{◌≡◌, ◌≤◌, ◌<◌, ◌++◌, ◌∙◌, sym, ap, List, [], ◌∷◌, append_assoc, append-nil, Option, Some, None, refl, arith, Bool, true, false}
+use Rattle.std.proofs.Common.{◌≡◌, ◌≤◌, ◌++◌, ◌∙◌, ap, List, [], ◌∷◌, append_assoc, Option, Some, None, refl, arith, Bool, true, false}
 use Rattle.std.specs.Prelude.{nat_le, if◌then◌else◌}
 use Rattle.std.specs.List.{AllByRecursion}
 use Rattle.std.proofs.lemmas.Bool.{leb-false, leb-true}

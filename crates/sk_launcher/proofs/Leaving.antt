@@ -1,5 +1,5 @@
 -- How workers leave, one after another.
-use Rattle.std.proofs.Common.{◌≡◌, ◌∙◌, sym, ap, ℕ, List, [], ◌∷◌, ◌++◌, append_assoc, append-nil, map, refl, option_map, option_to_list}
+use Rattle.std.proofs.Common.{◌≡◌, ◌∙◌, sym, ap, List, [], ◌∷◌, ◌++◌, append_assoc, append-nil, map, refl, option_map, option_to_list}
 use Rattle.std.specs.List.{AllZip}
 use Rattle.sk_resp.specs.Spelling.{Bytes}
 use Rattle.sk_link.specs.Wire.{WireState}

@@ -1,5 +1,5 @@
 -- What one turn of a thread comes to.
-use Rattle.std.proofs.Common.{◌≡◌, ◌∙◌, sym, ap, subst, ℕ, List, [], Bool, Option, Some, None, refl, is_some, true, false, Result, Ok, Err}
+use Rattle.std.proofs.Common.{◌≡◌, sym, subst, ℕ, List, [], Bool, Option, Some, None, refl, is_some, true, false, Result, Err}
 use Rattle.std.specs.Prelude.{map}
 use Rattle.std.specs.Bool.{MatchBool}
 use Rattle.std.specs.Result.{is_err}
@@ -9,7 +9,7 @@ use Rattle.sk_policy.specs.Order.{Order}
 use Rattle.sk_link.specs.Call.{Call}
 use Rattle.sk_link.specs.declared.link.LinkFault.{LinkFault}
 use Rattle.sk_poller.specs.Event.{Event as PollEvent}
-use Rattle.sk_poller.specs.Stage.{Parts as PollParts, PollTranscript, Watch, resting}
+use Rattle.sk_poller.specs.Stage.{Parts as PollParts, PollTranscript, resting}
 use Rattle.sk_poller.specs.declared.report.PollFault.{PollFault}
 use Rattle.sk_poller.specs.declared.report.PollReport.{PollReport}
 use Rattle.sk_worker.specs.Event.{Choice, Event, asked, moments as moments_of}

@@ -1,5 +1,5 @@
 -- Lists side by side.
-use Rattle.std.proofs.Common.{◌≡◌, ◌<◌, ◌≤◌, ℕ, suc, List, [], ◌∷◌, length, slice_index_or, arith}
+use Rattle.std.proofs.Common.{◌≡◌, ◌<◌, ℕ, suc, List, [], ◌∷◌, length, slice_index_or, arith}
 use Rattle.std.specs.List.{AllZip}
 use Rattle.sk_launcher.specs.Turning.{Advances}
 

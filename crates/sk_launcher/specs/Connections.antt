@@ -1,5 +1,5 @@
 -- The connections of a launcher: the door gives them, and in the end they are left to it.
-use Rattle.std.specs.Prelude.{◌≡◌, ◌++◌, ℕ, List, [], ◌∷◌, Option}
+use Rattle.std.specs.Prelude.{◌≡◌, ◌++◌, List, [], ◌∷◌, Option}
 use Rattle.sk_edge.specs.Collected.{Collected, Keeps, MakesRoom}
 use Rattle.sk_edge.specs.Doors.{GivesFirst}
 

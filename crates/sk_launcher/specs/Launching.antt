@@ -1,7 +1,7 @@
 -- What a launcher did: the poller's turns, each worker's turns between its joining and its leaving, and which answer came of them.
-use Rattle.std.specs.Prelude.{◌≡◌, ◌⊎◌, ◌+◌, ◌<◌, ◌≤◌, ◌++◌, ℕ, Bool, true, false, List, [], ◌∷◌, length, map, Option, Some, None, option_map, option_to_list, Result, Ok, Err, if◌then◌else◌, nat_le}
+use Rattle.std.specs.Prelude.{◌≡◌, ◌≤◌, ◌++◌, ℕ, false, List, [], ◌∷◌, map, Option, Some, None, option_map, option_to_list, Result, Ok, Err, if◌then◌else◌, nat_le}
 use Rattle.std.specs.Bool.{MatchBool}
-use Rattle.std.specs.List.{AllZip, AllByRecursion}
+use Rattle.std.specs.List.{AllByRecursion}
 use Rattle.std.specs.Result.{is_err}
 use Rattle.sk_resp.specs.Spelling.{Bytes}
 use Rattle.sk_link.specs.Call.{Call}
@@ -13,7 +13,7 @@ use Rattle.sk_worker.specs.Leaving.{LeaveTranscript, leaving}
 use Rattle.sk_worker.specs.Saying.{Joins}
 use Rattle.sk_worker.specs.Stage.{Settings}
 use Rattle.sk_worker.specs.declared.turn.WorkFault.{WorkFault}
-use Rattle.sk_launcher.specs.Connections.{DoorTells, Each, Gives, Keeping}
+use Rattle.sk_launcher.specs.Connections.{DoorTells, Gives}
 use Rattle.sk_launcher.specs.Counting.{no_turns, total_from}
 use Rattle.sk_launcher.specs.Faults.{by_work, status_of}
 use Rattle.sk_launcher.specs.Working.{WorkState, settings}

@@ -1,5 +1,5 @@
 -- The turns of a poller in its thread, each with the link, the clock and the dice of that thread.
-use Rattle.std.specs.Prelude.{◌≡◌, ◌+◌, ℕ, ℤ, Bool, true, false, List, Option, Some, None, is_some, Result, Ok, Err, refl}
+use Rattle.std.specs.Prelude.{◌≡◌, ◌+◌, ℕ, ℤ, true, false, List, Option, Some, None, is_some, Result, Ok, Err, refl}
 use Rattle.sk_base.specs.Yields.{YieldsAll}
 use Rattle.sk_resp.specs.Spelling.{Bytes}
 use Rattle.sk_link.specs.Call.{Call}

@@ -1,5 +1,5 @@
 -- Turns in a thread, one after another, until one has a fault. `Turn a result b` says that a turn with this result led from one state to the other.
-use Rattle.std.specs.Prelude.{◌≡◌, ◌≤◌, ℕ, List, [], ◌∷◌, Result, Ok, Err}
+use Rattle.std.specs.Prelude.{◌≤◌, ℕ, List, [], ◌∷◌, Result, Ok, Err}
 
 -- Turns with these answers, the latest first, led from one state to the other.
 pub data Turns {S Answer Fault : Type 0} (Turn : S → Result Answer Fault → S → Type 0) (from : S) : List Answer → S → Type 0 where

@@ -1,5 +1,5 @@
 -- What goes on with its turns, and then goes on again, went on: a turn begins in no state that has ended, and one with a fault leads to such a state.
-use Rattle.std.specs.Prelude.{◌≡◌, ◌++◌, ℕ, Bool, true, false, List, [], ◌∷◌, Result, Ok, Err, refl}
+use Rattle.std.specs.Prelude.{◌≡◌, ◌++◌, Bool, true, false, List, [], ◌∷◌, Result, Ok, Err, refl}
 use Rattle.std.proofs.Common.{◌∙◌, sym, ap, subst}
 use Rattle.std.proofs.lemmas.Bool.{true≢false}
 use Rattle.sk_launcher.specs.Turning.{Turns, none, one_more, WentOn, whole, broken}

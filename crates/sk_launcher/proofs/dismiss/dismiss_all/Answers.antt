@@ -1,4 +1,4 @@
-use Rattle.std.proofs.Common.{◌∙◌, [], append-nil, arith, refl, rules, sym}
+use Rattle.std.proofs.Common.{◌∙◌, [], append-nil, refl, rules, sym}
 use Rattle.sk_launcher.specs.Connections.{none}
 use Rattle.sk_launcher.proofs.Leaving.{gone_more}
 use Rattle.sk_launcher.proofs.dismiss.dismiss_all.Goals as goal

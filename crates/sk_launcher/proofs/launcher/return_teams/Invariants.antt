@@ -1,4 +1,4 @@
-use Rattle.std.proofs.Common.{◌≡◌, ◌≤◌, ◌+◌, length, vec_len, vec_capacity}
+use Rattle.std.proofs.Common.{◌≡◌, ◌+◌, length, vec_len, vec_capacity}
 use Rattle.sk_launcher.proofs.launcher.return_teams.Given as goal
 
 abbrev pub invariant-loop-team : goal.invariant-loop-team
