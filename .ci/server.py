@@ -267,10 +267,14 @@ def a_process_that_is_killed(server):
             time.sleep(0.001)
         process.kill()
         process.wait()
-        time.sleep(0.2)
-        done = processed(server) - before
-        waiting, held = length('queue:killed'), length('sq:killed')
-        assert held <= 64 and 500 <= done + waiting + held <= 504, (done, waiting, held)
+        end = time.time() + 10
+        while True:                                 # (the server may still be doing what the dead process sent)
+            done = processed(server) - before
+            waiting, held = length('queue:killed'), length('sq:killed')
+            if held <= 64 and 500 <= done + waiting + held <= 504:
+                break
+            assert time.time() < end, (done, waiting, held)
+            time.sleep(0.1)
     return 500
 
 
