@@ -7,6 +7,8 @@ use std::io;
 pub enum Call {
     /// `run`: the top call.
     Top,
+    /// `small`: a server whose store takes so many rows, bytes and batches.
+    Small,
     /// `work`: a worker, by a line of `work`. It joins, takes the line's turns and leaves.
     Work,
     /// `poll`: a poller, by a line of `work`. It takes the line's turns.
@@ -22,6 +24,7 @@ impl Call {
     pub fn read(name: &str) -> io::Result<Call> {
         match name {
             "run" => Ok(Call::Top),
+            "small" => Ok(Call::Small),
             "work" => Ok(Call::Work),
             "poll" => Ok(Call::Poll),
             "order" => Ok(Call::Order),

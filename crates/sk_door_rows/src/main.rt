@@ -10,6 +10,7 @@ mod peer;
 mod play;
 mod poller;
 mod setting;
+mod small;
 mod text;
 mod worker;
 

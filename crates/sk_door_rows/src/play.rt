@@ -7,6 +7,7 @@ use crate::ending::ending;
 use crate::order::{decision, order};
 use crate::poller::poll;
 use crate::setting::Setting;
+use crate::small::serve_small;
 use crate::text::invalid;
 use crate::worker::{class, work};
 use sk_app::{Note, run};
@@ -84,6 +85,7 @@ pub fn play<R: Threads + Wait + Sync>(
 ) -> io::Result<String> {
     match setting.call {
         Call::Top => top_with_a_team(rt, alloc, setting),
+        Call::Small => serve_small(rt, alloc, setting),
         Call::Work => work(alloc, setting),
         Call::Poll => poll(alloc, setting),
         Call::Order => order(alloc, &mut setting),
