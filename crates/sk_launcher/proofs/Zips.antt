@@ -3,10 +3,6 @@ use Rattle.std.proofs.Common.{◌≡◌, ◌<◌, ℕ, suc, List, [], ◌∷◌,
 use Rattle.std.specs.List.{AllZip}
 use Rattle.sk_launcher.specs.Turning.{Advances}
 
-pub all_same : {X : Type 0} (R : X → X → Type 0) → ((a : X) → R a a) → (xs : List X) → AllZip R xs xs
-all_same R stays [] = tt
-all_same R stays (x ∷ xs) = (stays x, all_same R stays xs)
-
 pub all_on : {X : Type 0} (R : X → X → Type 0) → ((a b c : X) → R a b → R b c → R a c) → (xs ys zs : List X) → AllZip R xs ys → AllZip R ys zs → AllZip R xs zs
 all_on R on [] [] [] p q = tt
 all_on R on (x ∷ xs) (y ∷ ys) (z ∷ zs) p q = (on x y z p.0 q.0, all_on R on xs ys zs p.1 q.1)

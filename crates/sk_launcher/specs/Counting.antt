@@ -15,10 +15,6 @@ counted turn.Retried c = record c { retried = c.retried + 1 }
 counted turn.Buried c = record c { buried = c.buried + 1 }
 counted turn.Discarded c = record c { discarded = c.discarded + 1 }
 
-abbrev pub counts_of : List Turn → Counts
-counts_of [] = no_turns
-counts_of (t ∷ turns) = counted t (counts_of turns)
-
 -- the answers that are counted
 abbrev pub sum_of : Counts → ℕ
 sum_of c = c.done + c.retried + c.buried + c.discarded

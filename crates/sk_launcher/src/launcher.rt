@@ -1,5 +1,5 @@
 // The launcher: it makes the connections, starts the poller and the workers, lets them take their turns in threads, and gives everything back.
-ghost use Rattle.std.specs.Prelude.{◌≡◌, ◌≤◌, ◌<◌, ◌+◌, IfOk, length, map, true, vec_len, vec_capacity};
+ghost use Rattle.std.specs.Prelude.{◌≡◌, ◌≤◌, ◌<◌, ◌+◌, IfOk, None, length, map, true, vec_len, vec_capacity};
 ghost use Rattle.std.specs.List.{list_all};
 ghost use Rattle.sk_base.specs.declared.limits.TheConstants.{MOST_PREFETCH, MOST_WORKERS};
 ghost use Rattle.sk_cron.specs.Offset.{IsOffset};
@@ -128,7 +128,9 @@ fn start_poller<N: Door, C: Clock>(
     conn: N::Conn,
     clock: &C,
     dice: PcgDice,
-) -> PollerThread<WireLink<N::Conn>, C, PcgDice> {
+) -> PollerThread<WireLink<N::Conn>, C, PcgDice>
+    ensures { result.fault ≡ None → result.taken ≡ 1 }
+{
     let mut poller = PollerThread {
         poller,
         link: WireLink::new(alloc, conn),

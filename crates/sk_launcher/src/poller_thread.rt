@@ -29,7 +29,8 @@ impl<L: Link + Drop, C: Clock, D: Dice + Drop> PollerThread<L, C, D> {
     pub fn first(&mut self, alloc: Global)
         requires whole { self.old.fault ≡ None }
         requires few { self.old.taken ≡ 0 }
-        ensures { WentOn (PollerTurn (λ a b calls. L.carried a b calls) (λ a b. IsCause (L.faults a) (L.faults b) (L.has_ended a) (L.unread b)))
+        ensures taken { self.new.fault ≡ None → self.new.taken ≡ 1 }
+        ensures went_on { WentOn (PollerTurn (λ a b calls. L.carried a b calls) (λ a b. IsCause (L.faults a) (L.faults b) (L.has_ended a) (L.unread b)))
             (poll_state self.old.link (C.moments self.old.clock) (D.words self.old.dice) (watch self.old.poller.ident self.old.poller.loops.items self.old.poller.offset) self.old.taken self.old.fault)
             (poll_state self.new.link (C.moments self.new.clock) (D.words self.new.dice) (watch self.new.poller.ident self.new.poller.loops.items self.new.poller.offset) self.new.taken self.new.fault) }
     {
