@@ -1,14 +1,15 @@
 -- What calls of a source and a sink do to the bytes that these tell, and when a call may answer that it failed.
-use Rattle.std.specs.Prelude.{◌≡◌, ◌⊎◌, ◌<◌, ◌≤◌, ◌-◌, ◌^◌, ◌++◌, ℕ, List, Option, Some, None, Result, OnErr}
+use Rattle.std.specs.Prelude.{◌≡◌, ◌⊎◌, ◌<◌, ◌≤◌, ◌-◌, ◌^◌, ◌++◌, ℕ, List, Option, Some, None, Result, OnOk, OnErr}
 
 -- A count of faults rose. One that stands at the last value of a 64-bit counter counts as risen.
 abbrev pub Rose : ℕ → ℕ → Type 0
 Rose before now = (before < now) ⊎ (2 ^ 64 - 1 ≤ now)
 
--- The count of faults doesn't fall, and an error comes only where it rose.
+-- The count of faults doesn't fall. An error comes only where it rose, and without one it is as before.
 pub record HasCause {T E : Type 0} (before now : ℕ) (result : Result T E) : Type 0 where
   pub later : before ≤ now
   pub failed : OnErr result (Rose before now)
+  pub whole : OnOk result (now ≡ before)
 
 -- The source had these bytes in front, and has the rest left, where it tells what it has.
 abbrev pub Gives : Option (List ℕ) → List ℕ → Option (List ℕ) → Type 0

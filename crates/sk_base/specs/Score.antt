@@ -1,5 +1,5 @@
 -- Scores: decimal numbers, kept as whole millionths. Redis reads a double there; a score here is exact.
-use Rattle.std.specs.Prelude.{◌≡◌, ◌<◌, ◌≤◌, ◌+◌, ◌*◌, ◌-◌, ◌^◌, ◌++◌, ◌==◌, ℕ, ℤ, pos, List, [], ◌∷◌, length, take, drop, cond, codes, int_lt, unsigned_abs, neg_ℤ, ◌/◌, ◌%◌, ◌&&◌, Bool, true, false, Result, Ok, Err, MatchResult}
+use Rattle.std.specs.Prelude.{◌≡◌, ◌<◌, ◌≤◌, ◌+◌, ◌*◌, ◌^◌, ◌++◌, ◌==◌, ℕ, ℤ, pos, List, [], ◌∷◌, length, take, drop, cond, codes, int_lt, unsigned_abs, neg_ℤ, ◌/◌, ◌%◌, ◌&&◌, Bool, true, false, Result, Ok, Err, MatchResult}
 use Rattle.std.specs.Bool.{MatchBool}
 use Rattle.std.specs.Fmt.{decimal}
 use Rattle.std.specs.Str.{all_ascii_digits}

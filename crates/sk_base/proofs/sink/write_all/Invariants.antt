@@ -1,4 +1,4 @@
-use Rattle.std.proofs.Common.{◌≡◌, ◌≤◌, ℕ, List, ◌++◌, length}
+use Rattle.std.proofs.Common.{◌≡◌, ℕ, List, ◌++◌, length}
 use Rattle.sk_base.specs.Outside.{Takes}
 use Rattle.sk_base.proofs.sink.write_all.Given as goal
 
@@ -6,7 +6,7 @@ use Rattle.sk_base.proofs.sink.write_all.Given as goal
 abbrev pub invariant-loop-rest : goal.invariant-loop-rest
 invariant-loop-rest g l = record {
   front : (front : List ℕ) × (l.bytes ≡ front ++ l.rest) × Takes (g.K.Sink.taken l.fn.sink) front (g.K.Sink.taken l.sink);
-  count : g.K.Sink.write_faults l.fn.sink ≤ g.K.Sink.write_faults l.sink;
+  count : g.K.Sink.write_faults l.sink ≡ g.K.Sink.write_faults l.fn.sink;
   beside : g.K.Sink.beside_write l.sink ≡ g.K.Sink.beside_write l.fn.sink;
 }
 
