@@ -1,5 +1,5 @@
 -- A seat that turns once a step is closed may as well have turned at its begin, where the same jobs stay in the seats' hands.
-use Rattle.std.proofs.Common.{◌≡◌, ◌<◌, ◌∙◌, ℕ, ◌+◌, Bool, List, [], ◌∷◌, ap, ap₂, length, not, position, refl, subst, sym}
+use Rattle.std.proofs.Common.{◌≡◌, ◌<◌, ◌∙◌, ℕ, ◌+◌, Bool, List, [], ◌∷◌, ap, ap₂, length, not, refl, subst, sym}
 use Rattle.std.specs.Prelude.{Option, Some, None, Result, Ok, Err, IsErr, ◌&&◌, cond}
 use Rattle.std.specs.BTreeSet.{insert_key}
 use Rattle.sk_resp.specs.Reply.{wire}
@@ -27,8 +27,9 @@ use Rattle.sk_batch.specs.Notify.{fires_of}
 use Rattle.sk_batch.specs.declared.event.Event.{Event}
 use Rattle.sk_batch.specs.declared.event.Event.TheVariants.{Died}
 use Rattle.sk_batch.specs.declared.firing.Firing.{Firing}
-use Rattle.sk_seats.specs.Phases.{Phases, phase_in, some_has, staging, turned, works_of}
+use Rattle.sk_seats.specs.Phases.{Phases, phase_in, some_has, staging, staging_at, turned, works_of}
 use Rattle.sk_seats.specs.Works.{is_buried_as}
+use Rattle.sk_seats.proofs.Working.{staging_is}
 use Rattle.sk_seats.specs.declared.phase.Phase.{Phase}
 use Rattle.sk_seats.specs.declared.work.Stage.{Stage}
 use Rattle.sk_seats.specs.declared.work.Stage.TheVariants.{Put}
@@ -166,9 +167,10 @@ buried_turned w new next seat phase text answer same comes e =
 
 -- the seat turned as it would have at the begin of the step
 pub staged_is : (was now next : Phases) (seat at : ℕ) (test : Work → Bool) (stage : Stage) → now ≡ was → IsFound test (phase_in was seat) at
-    → ((t : Work → Bool) → position t (works_of (phase_in now seat)) ≡ Some at → next ≡ turned seat (staging t stage (phase_in now seat)) now) → next ≡ turned seat (staging test stage (phase_in was seat)) was
+    → next ≡ turned seat (staging_at at stage (phase_in now seat)) now → next ≡ turned seat (staging test stage (phase_in was seat)) was
 staged_is was now next seat at test stage same found staged =
-    subst (λ (p : Phases). (t : Work → Bool) → position t (works_of (phase_in p seat)) ≡ Some at → next ≡ turned seat (staging t stage (phase_in p seat)) p) same staged test found.is
+    subst (λ (p : Phases). next ≡ turned seat (staging_at at stage (phase_in p seat)) p) same staged
+    ∙ ap (λ ph. turned seat ph was) (staging_is test stage (phase_in was seat) at found.is)
 
 pub within_still : (was now : Phases) (seat at : ℕ) (test : Work → Bool) → now ≡ was → IsFound test (phase_in was seat) at → at < length (works_of (phase_in now seat))
 within_still was now seat at test same found = subst (λ (p : Phases). at < length (works_of (phase_in p seat))) (sym same) found.within

@@ -1,5 +1,5 @@
 -- What the seats are doing.
-use Rattle.std.specs.Prelude.{ℕ, List, [], ◌∷◌, ◌++◌, Option, Some, None, Bool, true, false, not, filter, cond}
+use Rattle.std.specs.Prelude.{ℕ, List, [], ◌∷◌, ◌++◌, Option, Some, None, Bool, true, false, not, filter, cond, remove}
 use Rattle.std.specs.Ordering.{nat_cmp}
 use Rattle.std.specs.Map.{lookup}
 use Rattle.std.specs.BTreeMap.{is_at, insert_entry}
@@ -10,7 +10,7 @@ use Rattle.sk_seats.specs.declared.phase.Phase.{Phase}
 use Rattle.sk_seats.specs.declared.phase.Phase.TheVariants.{Plain, Joined}
 use Rattle.sk_seats.specs.declared.work.Stage.{Stage}
 use Rattle.sk_seats.specs.declared.work.Work.{Work}
-use Rattle.sk_seats.specs.Works.{held, staged, without}
+use Rattle.sk_seats.specs.Works.{held, staged, staged_at, without}
 
 -- seats that aren't Plain, by their numbers
 abbrev pub Phases : Type 0
@@ -47,6 +47,14 @@ with_works works (Joined ident before) = Joined ident works
 -- it has fetched a job
 abbrev pub holding : Bytes → Phase → Phase
 holding payload phase = with_works (works_of phase ++ held payload ∷ []) phase
+
+-- the work at an index is at this stage from now on
+abbrev pub staging_at : ℕ → Stage → Phase → Phase
+staging_at at stage phase = with_works (staged_at at stage (works_of phase)) phase
+
+-- it lets go of the work at an index
+abbrev pub releasing_at : ℕ → Phase → Phase
+releasing_at at phase = with_works (remove (works_of phase) at) phase
 
 -- the first work that passes is at this stage from now on
 abbrev pub staging : (Work → Bool) → Stage → Phase → Phase

@@ -1,6 +1,6 @@
 -- The jobs in a worker's hands, in order of fetching. A command is always about the first that it fits.
-use Rattle.std.specs.Prelude.{ℕ, List, [], ◌∷◌, Option, Some, None, Bool, true, false, ◌&&◌, ◌||◌, not, cond, bytes_eq}
-use Rattle.std.specs.Option.{is_some}
+use Rattle.std.specs.Prelude.{ℕ, List, [], ◌∷◌, Option, Some, None, Bool, true, false, ◌&&◌, ◌||◌, not, cond, bytes_eq, set, slice_get}
+use Rattle.std.specs.Option.{is_some, option_map_or}
 use Rattle.sk_base.specs.declared.limits.TheConstants.{MOST_PREFETCH}
 use Rattle.sk_resp.specs.Spelling.{Bytes}
 use Rattle.sk_payload.specs.Follows.{follows}
@@ -42,6 +42,12 @@ is_buried_as text work = is_held work.stage && may_bury work.payload text
 -- one that was put back or is settled, of this text
 abbrev pub is_done_as : Bytes → Work → Bool
 is_done_as text work = not (is_held work.stage) && bytes_eq work.payload text
+
+-- ## By index
+
+-- the work there is at this stage from now on
+abbrev pub staged_at : ℕ → Stage → List Work → List Work
+staged_at at stage works = option_map_or (λ work. set works at (record work { stage = stage })) (slice_get works at) works
 
 -- ## The first that passes
 

@@ -1,9 +1,7 @@
 // What a seat is doing, and what becomes of the jobs in its hands.
-ghost use Rattle.std.specs.Prelude.{◌≡◌, ◌<◌, Bool, Some, length};
-ghost use Rattle.std.specs.List.{position};
-ghost use Rattle.sk_seats.specs.Phases.{holding, releasing, staging, works_of};
+ghost use Rattle.std.specs.Prelude.{◌≡◌, ◌<◌, length};
+ghost use Rattle.sk_seats.specs.Phases.{holding, releasing_at, staging_at, works_of};
 ghost use Rattle.sk_seats.specs.Works.{most_works};
-ghost use Rattle.sk_seats.specs.declared.work.Work.{Work};
 
 use crate::work::Stage;
 use crate::works::Works;
@@ -30,20 +28,20 @@ impl Phase {
         }
     }
 
-    /// A work in the seat's hands, the first that passes some test, is at this stage from now on. Takes no memory.
+    /// The work at an index of those in the seat's hands is at this stage from now on. Takes no memory.
     pub(crate) fn stage(&mut self, at: usize, stage: Stage)
         requires { at < length (works_of self.old) }
-        ensures { (test : Work → Bool) → position test (works_of self.old) ≡ Some at → self.new ≡ staging test stage self.old }
+        ensures { self.new ≡ staging_at at stage self.old }
     {
         if let Phase::Joined(_, works) = self {
             works.stage(at, stage);
         }
     }
 
-    /// The seat lets go of a work, the first that passes some test. Takes no memory.
+    /// The seat lets go of the work at an index of those in its hands. Takes no memory.
     pub(crate) fn release(&mut self, at: usize)
         requires { at < length (works_of self.old) }
-        ensures { (test : Work → Bool) → position test (works_of self.old) ≡ Some at → self.new ≡ releasing test self.old }
+        ensures { self.new ≡ releasing_at at self.old }
     {
         if let Phase::Joined(_, works) = self {
             works.release(at);

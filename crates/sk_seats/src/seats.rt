@@ -1,13 +1,11 @@
 // What the seats are doing. A worker's seat is kept with its phase, by its number; every other seat is Plain. The jobs in a seat's hands change
 // without memory.
-ghost use Rattle.std.specs.Prelude.{◌≡◌, ◌<◌, [], Bool, OnErr, OnOk, Some, false, length};
+ghost use Rattle.std.specs.Prelude.{◌≡◌, ◌<◌, [], OnErr, OnOk, false, length};
 ghost use Rattle.sk_payload.specs.Head.{names};
-ghost use Rattle.sk_seats.specs.Phases.{has, holding, is_plain, phase_in, releasing, staging, turned, works_of};
+ghost use Rattle.sk_seats.specs.Phases.{has, holding, is_plain, phase_in, releasing_at, staging_at, turned, works_of};
 ghost use Rattle.sk_seats.specs.Held.{held_by};
 ghost use Rattle.sk_seats.specs.Order.{InOrder};
 ghost use Rattle.sk_seats.specs.Works.{most_works};
-ghost use Rattle.std.specs.List.{position};
-ghost use Rattle.sk_seats.specs.declared.work.Work.{Work};
 
 use crate::phase::Phase;
 use crate::work::Stage;
@@ -100,10 +98,10 @@ impl Seats {
         }
     }
 
-    /// A work in a seat's hands, the first that passes some test, is at this stage from now on. Takes no memory.
+    /// The work at an index of those in a seat's hands is at this stage from now on. Takes no memory.
     pub fn stage(&mut self, seat: u32, at: usize, stage: Stage)
         requires { at < length (works_of (phase_in self.old seat)) }
-        ensures { (test : Work → Bool) → position test (works_of (phase_in self.old seat)) ≡ Some at → self.new ≡ turned seat (staging test stage (phase_in self.old seat)) self.old }
+        ensures { self.new ≡ turned seat (staging_at at stage (phase_in self.old seat)) self.old }
     {
         match self.phases.get_mut(&seat) {
             Some(phase) => phase.stage(at, stage),
@@ -111,10 +109,10 @@ impl Seats {
         }
     }
 
-    /// A seat lets go of a work, the first that passes some test. Takes no memory.
+    /// A seat lets go of the work at an index of those in its hands. Takes no memory.
     pub fn release(&mut self, seat: u32, at: usize)
         requires { at < length (works_of (phase_in self.old seat)) }
-        ensures { (test : Work → Bool) → position test (works_of (phase_in self.old seat)) ≡ Some at → self.new ≡ turned seat (releasing test (phase_in self.old seat)) self.old }
+        ensures { self.new ≡ turned seat (releasing_at at (phase_in self.old seat)) self.old }
     {
         match self.phases.get_mut(&seat) {
             Some(phase) => phase.release(at),

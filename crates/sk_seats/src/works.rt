@@ -1,8 +1,7 @@
 // The jobs in a worker's hands, in order of fetching. There is room for all of them from the first on, so that no edit takes memory.
-ghost use Rattle.std.specs.Prelude.{◌≡◌, ◌<◌, ◌≤◌, ◌++◌, ◌∷◌, [], Bool, IfOk, IfSome, Some, length, nat_lt, not};
-ghost use Rattle.sk_seats.specs.Works.{first, held, is_buried_as, is_done_as, is_held_as, is_held as is_held_stage, is_retried_as, may_bury, most_works, staged, without};
+ghost use Rattle.std.specs.Prelude.{◌≡◌, ◌<◌, ◌≤◌, ◌++◌, ◌∷◌, [], IfOk, IfSome, Some, length, nat_lt, not, remove, slice_get};
+ghost use Rattle.sk_seats.specs.Works.{held, is_buried_as, is_done_as, is_held_as, is_held as is_held_stage, is_retried_as, may_bury, most_works, staged_at};
 ghost use Rattle.std.specs.List.{position};
-ghost use Rattle.sk_seats.specs.declared.work.Work.{Work};
 
 use crate::work::{Stage, Work};
 use sk_base::limits::MOST_PREFETCH;
@@ -79,10 +78,10 @@ impl Works {
         &self.list
     }
 
-    /// The work at an index, the first that passes some test.
+    /// The work at an index.
     pub fn get(&self, at: usize) -> &Work
         requires { at < length self.now }
-        ensures { (test : Work → Bool) → position test self.now ≡ Some at → first test self.now ≡ Some result.now }
+        ensures { slice_get self.now at ≡ Some result.now }
     {
         &self.list[at]
     }
@@ -134,7 +133,7 @@ impl Works {
     /// The work at an index is at this stage from now on.
     pub(crate) fn stage(&mut self, at: usize, stage: Stage)
         requires { at < length self.old }
-        ensures { (test : Work → Bool) → position test self.old ≡ Some at → self.new ≡ staged test stage self.old }
+        ensures { self.new ≡ staged_at at stage self.old }
     {
         self.list[at].stage = stage;
     }
@@ -142,7 +141,7 @@ impl Works {
     /// The work at an index goes.
     pub(crate) fn release(&mut self, at: usize)
         requires { at < length self.old }
-        ensures { (test : Work → Bool) → position test self.old ≡ Some at → self.new ≡ without test self.old }
+        ensures { self.new ≡ remove self.old at }
     {
         self.list.remove(at);
     }

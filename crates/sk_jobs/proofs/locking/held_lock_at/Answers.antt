@@ -1,5 +1,6 @@
 use Rattle.std.proofs.Common.{◌∙◌, ap, sym}
 use Rattle.sk_seats.specs.Works.{is_held_as}
+use Rattle.sk_seats.proofs.Working.{first_is}
 use Rattle.sk_model.proofs.Tools.Outcomes.{if_ok}
 use Rattle.sk_model.specs.Unique.{unlocks}
 use Rattle.sk_model.specs.World.{phase_of}
@@ -12,5 +13,5 @@ returns c =
     let text = c.args.text.now in
     let phase = phase_of (world c.args.store.now) c.args.seat in
     let found = found_in phase c.in-Joined.field-0 c.in-Joined.works (is_held_as text) c.args.at (sym c.get.ensures.is ∙ c.in-Joined.is) c.requires in
-    let same = held_text text c.in-Joined.works c.get-in-Joined.result.now (c.get-in-Joined.ensures (is_held_as text) found) in
+    let same = held_text text c.in-Joined.works c.get-in-Joined.result.now (first_is (is_held_as text) c.in-Joined.works c.get-in-Joined.result.now c.args.at found c.get-in-Joined.ensures) in
     if_ok _ _ c.held_lock.result (λ lock is. is ∙ ap (unlocks c.args.until) same) c.held_lock.ensures

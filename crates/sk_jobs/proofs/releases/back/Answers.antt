@@ -7,8 +7,9 @@ use Rattle.sk_cmd.specs.declared.argument.Side.TheVariants.{Left, Right}
 use Rattle.sk_places.specs.Placed.{moved_if}
 use Rattle.sk_places.specs.declared.row.Place.TheVariants.{Private, Queue}
 use Rattle.sk_places.specs.Rows.{row_of, rows_at}
-use Rattle.sk_seats.specs.Phases.{phase_in}
+use Rattle.sk_seats.specs.Phases.{phase_in, turned}
 use Rattle.sk_seats.specs.Works.{is_held_as}
+use Rattle.sk_seats.proofs.Working.{releasing_is}
 use Rattle.sk_store.proofs.Steps.{placed_ready, seated_ready}
 use Rattle.sk_store.specs.Stored.{world}
 use Rattle.sk_jobs.specs.Seated.{ident_in}
@@ -36,6 +37,6 @@ returns c =
     let was = c.in_ok-was.ensures.answer ∙ ap (λ t. is_some (row t)) c.bytes.ensures in
     let new = ap (λ s. s.current) c.in_ok-was.ensures.ok ∙ ap₂ (λ t score. moved_if Left (row t) (Queue c.in-Some.queue) score Right p) c.bytes.ensures c.of_moment.ensures in
     rw c.one_if.ensures (
-      back_comes (world s) c.in_ok-was.was' p c.shift_text.new.self.current s.seats c.release.new.self c.args.seat text c.in-Ok.at (c.in-Some.ident, c.in-Some.queue) found way was new (c.release.ensures (is_held_as text) found.is),
+      back_comes (world s) c.in_ok-was.was' p c.shift_text.new.self.current s.seats c.release.new.self c.args.seat text c.in-Ok.at (c.in-Some.ident, c.in-Some.queue) found way was new (c.release.ensures ∙ ap (λ ph. turned c.args.seat ph s.seats) (releasing_is (is_held_as text) phase c.in-Ok.at found.is)),
       seated_ready (record s { places = c.shift_text.new.self }) c.release.new.self (placed_ready s c.shift_text.new.self c.requires (ap (λ s. s.saved) c.in_ok-was.ensures.ok)),
     )

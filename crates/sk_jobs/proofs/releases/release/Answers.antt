@@ -7,8 +7,9 @@ use Rattle.sk_places.specs.Placed.{without_row}
 use Rattle.sk_places.specs.declared.row.Place.TheVariants.{Private}
 use Rattle.sk_places.specs.Rows.{pair_of, row_at, row_of, rows_at}
 use Rattle.sk_seats.specs.declared.phase.Phase.TheVariants.{Joined}
-use Rattle.sk_seats.specs.Phases.{phase_in, works_of}
+use Rattle.sk_seats.specs.Phases.{phase_in, turned, works_of}
 use Rattle.sk_seats.specs.Works.{is_done_as}
+use Rattle.sk_seats.proofs.Working.{first_is, releasing_is}
 use Rattle.sk_model.specs.Workers.{release_of}
 use Rattle.sk_model.proofs.Tools.Outcomes.{refusal_comes}
 use Rattle.sk_store.specs.Stored.{world}
@@ -35,5 +36,7 @@ returns-clause-done c =
     let found : position (is_done_as text) works ≡ Some c.in-Some.at = sym (c.find_done.ensures.is ∙ ap (λ t. position (is_done_as t) works) c.bytes.ensures) ∙ c.in-Some.is in
     let was = c.is_some-was.ensures ∙ still_some _ pair_of c.find.result _ c.find.ensures ∙ ap (λ t. is_some (row_of t (rows_at list p.rows))) c.bytes-2.ensures in
     let gone = ap (λ s. s.current) c.take_copy.ensures ∙ ap (λ s. without_row Left (row_at list text) s.current) c.end_job.ensures in
-    let next = c.release.ensures (is_done_as text) (ap (λ phase. position (is_done_as text) (works_of phase)) joined ∙ found) in
-    rw c.one_if.ensures (release_comes (world s) c.is_some-was.result p c.take_copy.new.self.current s.seats c.release.new.self c.args.seat c.args.ident text works c.get-2.result.now c.in-Some.at joined found (c.get-2.ensures (is_done_as text) found) was gone next)
+    let at_first = ap (λ phase. position (is_done_as text) (works_of phase)) joined ∙ found in
+    let next = c.release.ensures ∙ ap (λ phase. turned c.args.seat phase s.seats) (releasing_is (is_done_as text) (phase_in s.seats c.args.seat) c.in-Some.at at_first) in
+    let there = first_is (is_done_as text) works c.get-2.result.now c.in-Some.at found c.get-2.ensures in
+    rw c.one_if.ensures (release_comes (world s) c.is_some-was.result p c.take_copy.new.self.current s.seats c.release.new.self c.args.seat c.args.ident text works c.get-2.result.now c.in-Some.at joined found there was gone next)
