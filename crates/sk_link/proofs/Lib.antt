@@ -1,6 +1,6 @@
-pub mod Carried
-pub mod Causes
+pub mod Comes
 pub mod Lines
 pub mod Reports
 pub mod Unread
 pub mod Walks
+pub mod Whole

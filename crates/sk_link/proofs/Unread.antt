@@ -1,13 +1,12 @@
 -- What is unread stays so while it is read into the buffer.
-use Rattle.std.proofs.Common.{◌≡◌, ◌++◌, ◌+◌, ◌-◌, ◌^◌, ◌<◌, ◌≤◌, ◌⊎◌, inl, inr, ℕ, [], false, Option, Some, None, length, take, drop, refl, sym, ap, subst, ◌∙◌, append_assoc, length-append, arith}
+use Rattle.std.proofs.Common.{◌≡◌, ◌++◌, ◌+◌, ◌-◌, ◌^◌, ◌<◌, ◌≤◌, inl, inr, ℕ, [], Option, Some, None, length, take, drop, refl, sym, ap, subst, ◌∙◌, append_assoc, length-append, arith}
 use Rattle.std.proofs.lemmas.List.{take-append-le, take-take, take-append-drop, take_rest, take_all}
 use Rattle.std.proofs.Math.Seq.{take-append-add, take-add}
 use Rattle.std.specs.Prelude.{IfSome, IfNone, codes}
 use Rattle.sk_base.specs.Outside.{Gives}
 use Rattle.sk_resp.specs.Spelling.{Bytes, line}
 use Rattle.sk_resp.specs.ReplyStream.{IsReplyPart, null_text}
-use Rattle.sk_link.specs.Fault.{IsCause, IsNoReply, IsStuck}
-use Rattle.sk_link.specs.declared.link.LinkFault.{LinkFault}
+use Rattle.sk_link.specs.Fault.{IsAtEnd, IsNoReply, IsReplyCause, IsStuck}
 use Rattle.sk_link.specs.declared.link.LinkFault.TheVariants.{Unreadable}
 use Rattle.sk_link.specs.Wire.{unread_of}
 
@@ -23,13 +22,13 @@ reply_leaves buffer text rest (Some left) is = (rest ++ left, ap (λ t. t ++ lef
 
 -- No reply can stand in front of what was read, whatever the source has left.
 pub stuck_cause : (before now : ℕ) (buffer kept : Bytes) (left : Option Bytes) → IsStuck buffer → kept ≡ take 64 buffer →
-    IsCause before now false (unread_of buffer left) (Unreadable kept)
+    IsReplyCause before now (unread_of buffer left) (Unreadable kept)
 stuck_cause before now buffer kept None stuck is = tt
 stuck_cause before now buffer kept (Some left) stuck is = record { read = buffer; left = left; unread_is = refl; no_reply = inl stuck; kept_is = is }
 
 -- Nor does one where the input has ended.
-pub ended_cause : (before now : ℕ) (buffer kept : Bytes) (left : Option Bytes) → IsNoReply buffer → IfSome left (λ bytes. bytes ≡ []) → kept ≡ take 64 buffer →
-    IsCause before now false (unread_of buffer left) (Unreadable kept)
+pub ended_cause : (before now : ℕ) (buffer kept : Bytes) (left : Option Bytes) → IsNoReply buffer → IsAtEnd left → kept ≡ take 64 buffer →
+    IsReplyCause before now (unread_of buffer left) (Unreadable kept)
 ended_cause before now buffer kept None none end is = tt
 ended_cause before now buffer kept (Some left) none end is = record { read = buffer; left = left; unread_is = refl; no_reply = inr (end, none); kept_is = is }
 

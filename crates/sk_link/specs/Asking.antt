@@ -6,9 +6,8 @@ use Rattle.sk_resp.specs.Spelling.{Bytes}
 use Rattle.sk_resp.specs.declared.reply.Reply.{Reply}
 use Rattle.sk_resp.specs.declared.reply.Reply.TheVariants as reply
 use Rattle.sk_resp.specs.declared.say.Say.TheVariants as say
-use Rattle.sk_link.specs.Call.{Call}
+use Rattle.sk_link.specs.Call.{Call, answered, lost}
 use Rattle.sk_link.specs.Report.{report_of}
-use Rattle.sk_link.specs.declared.link.LinkFault.{LinkFault}
 use Rattle.sk_link.specs.declared.asking.Answer.{Answer}
 use Rattle.sk_link.specs.declared.asking.Answer.TheVariants as answer
 use Rattle.sk_link.specs.declared.asking.AskFault.{AskFault}
@@ -54,14 +53,8 @@ answers answer.Report r = is_some (report_of r)
 
 -- ## Requests
 
--- The link carried the request and its answer. Refused: and a reply that is no answer. At a fault, which the link gave, it carried nothing.
-abbrev pub Asked : (LinkFault → Type 0) → (List Call → Type 0) → List Bytes → Answer → Result Reply AskFault → Type 0
-Asked Gave Carried request wanted (Ok r) = Carried (record { request = request; reply = r } ∷ []) × (answers wanted r ≡ true)
-Asked Gave Carried request wanted (Err (fault.Refused r)) = Carried (record { request = request; reply = r } ∷ []) × (answers wanted r ≡ false)
-Asked Gave Carried request wanted (Err (fault.Link f)) = Carried [] × Gave f
-
--- The link had a fault.
-abbrev pub is_lost : Result Reply AskFault → Bool
-is_lost (Ok r) = false
-is_lost (Err (fault.Refused r)) = false
-is_lost (Err (fault.Link f)) = true
+-- What came of a request over a link: an answer; a reply that is none; or it was lost by a fault of the link.
+abbrev pub Asked : (List Call → Type 0) → List Bytes → Answer → Result Reply AskFault → Type 0
+Asked Carried request wanted (Ok r) = Carried (answered request r ∷ []) × (answers wanted r ≡ true)
+Asked Carried request wanted (Err (fault.Refused r)) = Carried (answered request r ∷ []) × (answers wanted r ≡ false)
+Asked Carried request wanted (Err (fault.Link f)) = Carried (lost request f ∷ [])

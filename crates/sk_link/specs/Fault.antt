@@ -1,11 +1,16 @@
 -- When a link may answer each of its faults.
-use Rattle.std.specs.Prelude.{◌≡◌, ◌⊎◌, ◌++◌, ℕ, [], Bool, true, Option, IfSome, take}
+use Rattle.std.specs.Prelude.{◌≡◌, ◌⊎◌, ◌++◌, ℕ, [], Bool, true, false, Option, IfSome, take}
 use Rattle.sk_base.specs.Outside.{Rose}
 use Rattle.sk_base.specs.declared.limits.TheConstants.{LONGEST_SHOWN}
 use Rattle.sk_resp.specs.Spelling.{Bytes}
 use Rattle.sk_resp.specs.ReplyStream.{IsReplyText}
 use Rattle.sk_link.specs.declared.link.LinkFault.{LinkFault}
 use Rattle.sk_link.specs.declared.link.LinkFault.TheVariants.{Failed, Unreadable, Ended, Memory}
+
+-- It says that the link had ended before.
+abbrev pub is_ended : LinkFault → Bool
+is_ended Ended = true
+is_ended f = false
 
 -- No whole reply stands in front of these bytes.
 abbrev pub IsNoReply : Bytes → Type 0
@@ -24,16 +29,20 @@ pub record IsUnreadable (kept unread : Bytes) : Type 0 where
   pub no_reply : IsStuck read ⊎ ((left ≡ []) × IsNoReply read)
   pub kept_is : kept ≡ take LONGEST_SHOWN read
 
--- The cause of a fault, by the link's count of faults before and after the call, whether it had ended before, and what is unread after it.
-abbrev pub IsCause : ℕ → ℕ → Bool → Option Bytes → LinkFault → Type 0
-IsCause before now ended unread Failed = Rose before now
-IsCause before now ended unread (Unreadable kept) = IfSome unread (IsUnreadable kept)
-IsCause before now ended unread Ended = ended ≡ true
-IsCause before now ended unread Memory = Unit {0}
+-- Nothing is left, where that is told.
+abbrev pub IsAtEnd : Option Bytes → Type 0
+IsAtEnd left = IfSome left (λ bytes. bytes ≡ [])
 
--- The cause of a fault of reading and writing alone, by the count of faults before and after.
+-- The cause of a fault of one read or write, by the count of faults before and after: it failed, or there was no memory, and it wasn't tried.
 abbrev pub IsIoCause : ℕ → ℕ → LinkFault → Type 0
 IsIoCause before now Failed = Rose before now
 IsIoCause before now (Unreadable kept) = ⊥
 IsIoCause before now Ended = ⊥
-IsIoCause before now Memory = Unit {0}
+IsIoCause before now Memory = now ≡ before
+
+-- The cause of a fault at a reply, by the count of faults before and after, and what is unread after it.
+abbrev pub IsReplyCause : ℕ → ℕ → Option Bytes → LinkFault → Type 0
+IsReplyCause before now unread Failed = Rose before now
+IsReplyCause before now unread (Unreadable kept) = IfSome unread (IsUnreadable kept)
+IsReplyCause before now unread Ended = ⊥
+IsReplyCause before now unread Memory = now ≡ before

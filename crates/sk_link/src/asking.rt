@@ -1,7 +1,6 @@
 // A request that wants an answer of a kind. A readable reply of another kind is a refusal, as an error reply is.
-ghost use Rattle.std.specs.Prelude.{◌≡◌, ◌≤◌, true, Err};
-ghost use Rattle.sk_link.specs.Asking.{Asked, answers, is_okay as okay_reply, is_lost};
-ghost use Rattle.sk_link.specs.Fault.{IsCause};
+ghost use Rattle.std.specs.Prelude.{◌≡◌, true, Err};
+ghost use Rattle.sk_link.specs.Asking.{Asked, answers, is_okay as okay_reply};
 ghost use Rattle.sk_base.specs.Name.{is_name as name_test};
 
 use crate::{Link, LinkFault, Report};
@@ -77,11 +76,8 @@ pub fn ask<L: Link>(
     words: &Words,
     wanted: Answer,
 ) -> Result<Reply, AskFault>
-    ensures asked { Asked (IsCause (L.faults link.old) (L.faults link.new) (L.has_ended link.old) (L.unread link.new))
-        (λ calls. L.carried link.old link.new calls) words.now wanted result }
-    ensures later { L.faults link.old ≤ L.faults link.new }
+    ensures asked { Asked (λ calls. L.carried link.old link.new calls) words.now wanted result }
     ensures ended { L.has_ended link.old ≡ true → result ≡ Err (AskFault.Link LinkFault.Ended) }
-    ensures ends { L.has_ended link.new ≡ is_lost result }
 {
     match link.call(alloc, words) {
         Ok(reply) => {

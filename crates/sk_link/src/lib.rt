@@ -2,6 +2,7 @@
 #![tactic(auto)]
 
 mod asking;
+mod laws;
 mod link;
 mod receiving;
 mod report;
@@ -10,6 +11,7 @@ mod sending;
 mod wire_link;
 
 pub use asking::{Answer, AskFault, ask, is_answer};
+pub use laws::a_link_is_told_by_its_first_and_last_state;
 pub use link::{Link, LinkFault};
 pub use report::Report;
 pub use request::words_of;

@@ -1,8 +1,6 @@
 // What carries requests to a store, one after another, and brings the reply to each. It tells its calls as a relation between two of its states, so
 // that a link over a connection, which keeps no list of them, tells them too.
-ghost use Rattle.std.specs.Prelude.{◌≡◌, ◌≤◌, ◌++◌, ℕ, List, [], ◌∷◌, Bool, true, Option, Err, IfOk, IfErr};
-ghost use Rattle.std.specs.Result.{is_err};
-ghost use Rattle.sk_resp.specs.Spelling.{Bytes};
+ghost use Rattle.std.specs.Prelude.{◌≡◌, ◌++◌, List, [], ◌∷◌, Bool, true, Err};
 ghost use Rattle.sk_link.specs.Call.{Call};
 
 use crate::Memory;
@@ -45,32 +43,26 @@ impl<T: Drop> From<AllocFailed<T>> for LinkFault {
     }
 }
 
-/// Carries requests to a store, one after another, and brings the reply to each.
+/// Carries requests to a store, one after another, and brings the reply to each. After a call that had a fault it has ended.
 pub trait Link {
-    ghost use Rattle.sk_link.specs.Fault.{IsCause};
+    ghost use Rattle.std.specs.Prelude.{◌||◌};
+    ghost use Rattle.sk_link.specs.Call.{has_lost};
 
-    /// Between these two states it carried these calls, in order, as far as it tells them.
+    /// Between these two states it carried these calls, in order, as far as it tells them, and each fault among them had its cause.
     ghost carried: { Self → Self → List Call → Type 0 };
-
-    /// How often it has failed. The count never falls.
-    ghost faults: { Self → ℕ };
-
-    /// The bytes behind the last whole reply, where it tells them.
-    ghost unread: { Self → Option Bytes };
 
     /// An earlier call had a fault.
     ghost has_ended: { Self → Bool };
 
     /// Sends the request and waits for its reply.
     fn call(&mut self, alloc: Global, words: &Words) -> Result<Reply, LinkFault>
-        ensures ok { IfOk result (λ reply. carried self.old self.new (record { request = words.now; reply = reply } ∷ [])) }
-        ensures err { IfErr result (λ _. carried self.old self.new []) }
-        ensures later { faults self.old ≤ faults self.new }
-        ensures cause { IfErr result (IsCause (faults self.old) (faults self.new) (has_ended self.old) (unread self.new)) }
-        ensures ended { has_ended self.old ≡ true → result ≡ Err LinkFault.Ended }
-        ensures ends { has_ended self.new ≡ is_err result };
+        ensures carried { carried self.old self.new (record { request = words.now; reply = result } ∷ []) }
+        ensures ended { has_ended self.old ≡ true → result ≡ Err LinkFault.Ended };
 
     ghost carried_none: { (a : Self) → carried a a [] };
 
     ghost carried_more: { (a b c : Self) (xs ys : List Call) → carried a b xs → carried b c ys → carried a c (xs ++ ys) };
+
+    /// It has ended exactly where a call was lost.
+    ghost carried_ends: { (a b : Self) (calls : List Call) → carried a b calls → has_ended b ≡ (has_ended a || has_lost calls) };
 }

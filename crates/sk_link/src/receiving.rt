@@ -5,7 +5,7 @@ ghost use Rattle.sk_base.specs.Outside.{Gives};
 ghost use Rattle.sk_resp.specs.Spelling.{Bytes, IsPart};
 ghost use Rattle.sk_resp.specs.Reply.{wire};
 ghost use Rattle.sk_resp.specs.ReplyStream.{IsReplyPart, IsReplyText};
-ghost use Rattle.sk_link.specs.Fault.{IsCause, IsIoCause, IsNoReply, IsStuck};
+ghost use Rattle.sk_link.specs.Fault.{IsAtEnd, IsIoCause, IsNoReply, IsReplyCause, IsStuck};
 ghost use Rattle.sk_link.specs.Line.{IsLine};
 ghost use Rattle.sk_link.specs.Wire.{unread_of};
 
@@ -18,8 +18,8 @@ use std::alloc::Global;
 
 // Makes room for a read behind the bytes.
 fn grow(buffer: &mut Vec<u8>) -> Result<(), Memory>
-    ensures ok { OnOk result ((length buffer.new.items ≡ length buffer.old.items + CHUNK)
-        × (take (length buffer.old.items) buffer.new.items ≡ buffer.old.items)) }
+    ensures size { OnOk result (length buffer.new.items ≡ length buffer.old.items + CHUNK) }
+    ensures front { OnOk result (take (length buffer.old.items) buffer.new.items ≡ buffer.old.items) }
     ensures err { OnErr result (buffer.new.items ≡ buffer.old.items) }
 {
     buffer.resize(buffer.len() + CHUNK, 0)
@@ -40,8 +40,9 @@ fn read_more<S: Source>(source: &mut S, buffer: &mut Vec<u8>) -> Result<usize, L
     ensures more { IfOk result (λ n. length buffer.new.items ≡ length buffer.old.items + n) }
     ensures kept { IfOk result (λ n. take (length buffer.old.items) buffer.new.items ≡ buffer.old.items) }
     ensures same { unread_of buffer.new.items (S.left source.new) ≡ unread_of buffer.old.items (S.left source.old) }
-    ensures end { result ≡ Ok 0 → IfSome (S.left source.new) (λ left. left ≡ []) }
+    ensures end { result ≡ Ok 0 → IsAtEnd (S.left source.new) }
     ensures beside { S.beside_read source.new ≡ S.beside_read source.old }
+    ensures whole { OnOk result (S.read_faults source.new ≡ S.read_faults source.old) }
     ensures later { S.read_faults source.old ≤ S.read_faults source.new }
     ensures cause { IfErr result (IsIoCause (S.read_faults source.old) (S.read_faults source.new)) }
 {
@@ -168,9 +169,8 @@ fn shown(alloc: Global, bytes: &[u8]) -> Result<Word, Memory>
 
 // The fault of a stream of which these bytes were read, where they can't go on as a reply, or are all that there is and no whole one.
 fn unreadable(alloc: Global, bytes: &[u8]) -> LinkFault
-    ensures stuck { IsStuck bytes.now → (before now : ℕ) (left : Option Bytes) → IsCause before now false (unread_of bytes.now left) result }
-    ensures ended { IsNoReply bytes.now → (before now : ℕ) (left : Option Bytes) → IfSome left (λ rest. rest ≡ [])
-        → IsCause before now false (unread_of bytes.now left) result }
+    ensures stuck { IsStuck bytes.now → (count : ℕ) (left : Option Bytes) → IsReplyCause count count (unread_of bytes.now left) result }
+    ensures ended { IsNoReply bytes.now → (count : ℕ) (left : Option Bytes) → IsAtEnd left → IsReplyCause count count (unread_of bytes.now left) result }
 {
     match shown(alloc, bytes) {
         Ok(kept) => LinkFault::Unreadable(kept),
@@ -181,7 +181,7 @@ fn unreadable(alloc: Global, bytes: &[u8]) -> LinkFault
 // The fault of a link whose reader has stopped in these bytes.
 fn stopped(alloc: Global, bytes: &[u8], fault: ReplyFault) -> LinkFault
     requires { fault ≢ ReplyFault.Memory → IsStuck bytes.now }
-    ensures { (before now : ℕ) (left : Option Bytes) → IsCause before now false (unread_of bytes.now left) result }
+    ensures { (count : ℕ) (left : Option Bytes) → IsReplyCause count count (unread_of bytes.now left) result }
 {
     match fault {
         ReplyFault::Unreadable => unreadable(alloc, bytes),
@@ -196,13 +196,14 @@ pub fn receive<S: Source>(
     source: &mut S,
     buffer: &mut Vec<u8>,
 ) -> Result<Reply, LinkFault>
-    ensures ok { IfOk result (λ reply. Gives (unread_of buffer.old.items (S.left source.old)) (wire reply)
+    ensures ok { IfOk result (λ r. Gives (unread_of buffer.old.items (S.left source.old)) (wire r)
         (unread_of buffer.new.items (S.left source.new))) }
     ensures text { IfOk result (λ reply. IsReplyText (wire reply)) }
     ensures err { OnErr result (unread_of buffer.new.items (S.left source.new) ≡ unread_of buffer.old.items (S.left source.old)) }
     ensures beside { S.beside_read source.new ≡ S.beside_read source.old }
+    ensures whole { OnOk result (S.read_faults source.new ≡ S.read_faults source.old) }
     ensures later { S.read_faults source.old ≤ S.read_faults source.new }
-    ensures cause { IfErr result (IsCause (S.read_faults source.old) (S.read_faults source.new) false
+    ensures cause { IfErr result (IsReplyCause (S.read_faults source.old) (S.read_faults source.new)
         (unread_of buffer.new.items (S.left source.new))) }
 {
     no_reply_begins_another();

@@ -1,5 +1,5 @@
 // One request to a sink.
-ghost use Rattle.std.specs.Prelude.{◌≡◌, ◌≤◌, IfOk, IfErr, OnOk, OnErr};
+ghost use Rattle.std.specs.Prelude.{◌≡◌, ◌≤◌, Err, IfOk, IfErr, OnOk, OnErr};
 ghost use Rattle.sk_base.specs.Outside.{Takes, TakesFront};
 ghost use Rattle.sk_resp.specs.Request.{array};
 ghost use Rattle.sk_link.specs.Fault.{IsIoCause};
@@ -18,11 +18,13 @@ fn request_text(alloc: Global, words: &Words) -> Result<Vec<u8>, Memory>
     Ok(text)
 }
 
-/// Writes a request, whole. At a fault the sink has taken some of it, from its front.
+/// Writes a request, whole. At a fault the sink has taken some of it, from its front; and none of it where there was no memory for its text.
 pub fn send<K: Sink>(alloc: Global, sink: &mut K, words: &Words) -> Result<(), LinkFault>
     ensures ok { OnOk result (Takes (K.taken sink.old) (array words.now) (K.taken sink.new)) }
     ensures err { OnErr result (TakesFront (K.taken sink.old) (array words.now) (K.taken sink.new)) }
+    ensures memory { result ≡ Err LinkFault.Memory → K.taken sink.new ≡ K.taken sink.old }
     ensures beside { K.beside_write sink.new ≡ K.beside_write sink.old }
+    ensures whole { OnOk result (K.write_faults sink.new ≡ K.write_faults sink.old) }
     ensures later { K.write_faults sink.old ≤ K.write_faults sink.new }
     ensures cause { IfErr result (IsIoCause (K.write_faults sink.old) (K.write_faults sink.new)) }
 {

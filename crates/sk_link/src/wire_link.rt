@@ -1,12 +1,12 @@
 // A link over a connection. It reads nothing past the reply that it waits for but what comes in the same read, and that stays in its buffer.
-ghost use Rattle.std.specs.Prelude.{◌≡◌, ◌≤◌, ◌+◌, [], false, refl, IfOk, IfErr, OnOk, OnErr};
+ghost use Rattle.std.specs.Prelude.{◌≡◌, ◌≤◌, Err, [], false, refl, IfOk, IfErr, OnOk, OnErr};
 ghost use Rattle.sk_base.specs.Outside.{Gives, Takes, TakesFront};
 ghost use Rattle.sk_resp.specs.Reply.{wire};
 ghost use Rattle.sk_resp.specs.ReplyStream.{IsReplyText};
 ghost use Rattle.sk_resp.specs.Request.{array};
-ghost use Rattle.sk_link.specs.Fault.{IsCause, IsIoCause};
-ghost use Rattle.sk_link.specs.Wire.{Carries, unread_of};
-ghost use Rattle.sk_link.specs.WireLaws.{carries_none, carries_more};
+ghost use Rattle.sk_link.specs.Fault.{IsIoCause, IsReplyCause};
+ghost use Rattle.sk_link.specs.Wire.{WireCarries, WireComes, unread_of};
+ghost use Rattle.sk_link.specs.WireLaws.{carries_ends, carries_more};
 
 use crate::receiving::receive;
 use crate::sending::send;
@@ -17,7 +17,7 @@ use std::alloc::Global;
 use std::marker::Model;
 
 /// A link over a connection ([`Conn`](sk_base::Conn)). Where what comes is no reply, it says so as soon as that is certain, and tells the first 64 bytes
-/// of what it had read by then.
+/// of what it had read by then. At a fault it has ended, and the connection is left as it is.
 #[derive(Drop)]
 pub struct WireLink<C: Duplex> {
     conn: C,
@@ -39,8 +39,10 @@ impl<C: Duplex> Model for WireLink<C> {
 fn send_over<C: Duplex>(alloc: Global, conn: &mut C, words: &Words) -> Result<(), LinkFault>
     ensures ok { OnOk result (Takes (C.taken conn.old) (array words.now) (C.taken conn.new)) }
     ensures err { OnErr result (TakesFront (C.taken conn.old) (array words.now) (C.taken conn.new)) }
+    ensures memory { result ≡ Err LinkFault.Memory → C.taken conn.new ≡ C.taken conn.old }
     ensures left { C.left conn.new ≡ C.left conn.old }
     ensures reads { C.read_faults conn.new ≡ C.read_faults conn.old }
+    ensures whole { OnOk result (C.write_faults conn.new ≡ C.write_faults conn.old) }
     ensures later { C.write_faults conn.old ≤ C.write_faults conn.new }
     ensures cause { IfErr result (IsIoCause (C.write_faults conn.old) (C.write_faults conn.new)) }
 {
@@ -59,8 +61,9 @@ fn receive_over<C: Duplex>(
     ensures err { OnErr result (unread_of buffer.new.items (C.left conn.new) ≡ unread_of buffer.old.items (C.left conn.old)) }
     ensures taken { C.taken conn.new ≡ C.taken conn.old }
     ensures writes { C.write_faults conn.new ≡ C.write_faults conn.old }
+    ensures whole { OnOk result (C.read_faults conn.new ≡ C.read_faults conn.old) }
     ensures later { C.read_faults conn.old ≤ C.read_faults conn.new }
-    ensures cause { IfErr result (IsCause (C.read_faults conn.old) (C.read_faults conn.new) false (unread_of buffer.new.items (C.left conn.new))) }
+    ensures cause { IfErr result (IsReplyCause (C.read_faults conn.old) (C.read_faults conn.new) (unread_of buffer.new.items (C.left conn.new))) }
 {
     receive(alloc, conn, buffer)
 }
@@ -89,18 +92,11 @@ impl<C: Duplex> WireLink<C> {
         conn
     }
 
-    // Sends a request, and reads the reply to it.
+    // Sends a request, and reads the reply to it. At a fault the link is still to be ended.
     fn exchange(&mut self, alloc: Global, words: &Words) -> Result<Reply, LinkFault>
-        ensures sent { OnOk result (Takes (C.taken self.old.conn) (array words.now) (C.taken self.new.conn)) }
-        ensures given { IfOk result (λ reply. Gives (unread_of self.old.pending (C.left self.old.conn)) (wire reply)
-            (unread_of self.new.pending (C.left self.new.conn))) }
-        ensures text { IfOk result (λ reply. IsReplyText (wire reply)) }
-        ensures front { OnErr result (TakesFront (C.taken self.old.conn) (array words.now) (C.taken self.new.conn)) }
-        ensures kept { OnErr result (unread_of self.new.pending (C.left self.new.conn) ≡ unread_of self.old.pending (C.left self.old.conn)) }
-        ensures later { C.read_faults self.old.conn + C.write_faults self.old.conn ≤ C.read_faults self.new.conn + C.write_faults self.new.conn }
-        ensures cause { IfErr result (IsCause (C.read_faults self.old.conn + C.write_faults self.old.conn)
-            (C.read_faults self.new.conn + C.write_faults self.new.conn) false (unread_of self.new.pending (C.left self.new.conn))) }
-        ensures ended { self.new.ended ≡ self.old.ended }
+        requires { self.old.ended ≡ false }
+        ensures came { WireComes C.taken C.left C.read_faults C.write_faults self.old words.now result self.new }
+        ensures ended { self.new.ended ≡ false }
     {
         match send_over(alloc, &mut self.conn, words) {
             Ok(()) => receive_over(alloc, &mut self.conn, &mut self.buffer),
@@ -110,12 +106,7 @@ impl<C: Duplex> WireLink<C> {
 }
 
 impl<C: Duplex> Link for WireLink<C> {
-    ghost carried = { λ a b calls. Carries (record { ended = a.ended; taken = C.taken a.conn; unread = unread_of a.pending (C.left a.conn) })
-        (record { ended = b.ended; taken = C.taken b.conn; unread = unread_of b.pending (C.left b.conn) }) calls };
-
-    ghost faults = { λ a. C.read_faults a.conn + C.write_faults a.conn };
-
-    ghost unread = { λ a. unread_of a.pending (C.left a.conn) };
+    ghost carried = { WireCarries C.taken C.left C.read_faults C.write_faults };
 
     ghost has_ended = { λ a. a.ended };
 
@@ -132,7 +123,9 @@ impl<C: Duplex> Link for WireLink<C> {
         }
     }
 
-    ghost carried_none = { λ a. carries_none _ };
+    ghost carried_none = { λ a. refl };
 
     ghost carried_more = { λ a b c xs ys p q. carries_more _ _ _ xs ys p q };
+
+    ghost carried_ends = { λ a b calls p. carries_ends _ _ calls p };
 }

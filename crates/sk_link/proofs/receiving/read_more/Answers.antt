@@ -8,7 +8,7 @@ returns-in-Ok-clause-same g c =
     let old = c.args.buffer.now.items in
     let room = c.deref_mut.result.now in
     let len = c.len-len.result in
-    let k = c.in_ok-grow.ensures.ok in
+    let k = c.in_ok-grow.ensures in
     let a = c.len-len.ensures in
     let l = c.deref_mut.ensures.len in
     let w = c.in-Ok.ensures.within in
@@ -18,5 +18,5 @@ returns-in-Ok-clause-same g c =
     let v = ap (λ xs. length xs) c.deref_mut.ensures.value in
     read_same old c.truncate.new.self.items (take c.in-Ok.n c.read.new.buf) (g.S.Source.left c.args.source.now) (g.S.Source.left c.read.new.self)
     (written old room c.read.new.buf _ _ c.truncate.new.self.items len c.in-Ok.n c.grow.new.buffer.len c.truncate.ensures.items
-    (grind (arith, w, a, l, t, d, v, k.0)) (grind (arith, a, c.deref_mut.ensures.value, k.1)) (grind (arith, a)) (omega (arith, w, b)))
+    (grind (arith, w, a, l, t, d, v, k.size)) (grind (arith, a, c.deref_mut.ensures.value, k.front)) (grind (arith, a)) (omega (arith, w, b)))
     c.in-Ok.ensures.told

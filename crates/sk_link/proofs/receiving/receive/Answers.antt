@@ -1,8 +1,8 @@
-use Rattle.std.proofs.Common.{◌≡◌, ◌++◌, ℕ, Ok, false, refl, subst, sym, ap, ◌∙◌, arith}
+use Rattle.std.proofs.Common.{◌≡◌, ◌++◌, ℕ, Ok, refl, subst, sym, ap, ◌∙◌, arith}
 use Rattle.sk_base.specs.Outside.{Gives}
 use Rattle.sk_resp.specs.Reply.{wire}
 use Rattle.sk_resp.specs.ReplyStream.{IsReplyPart, IsReplyText, RepliesHeard}
-use Rattle.sk_link.specs.Fault.{IsCause, IsNoReply, IsStuck}
+use Rattle.sk_link.specs.Fault.{IsNoReply, IsReplyCause, IsStuck}
 use Rattle.sk_link.specs.Wire.{unread_of}
 use Rattle.sk_link.proofs.Lines.{part_alone}
 use Rattle.sk_link.proofs.Unread.{nothing_part, reply_leaves, nothing_read, some_gives, none_gives}
@@ -18,7 +18,7 @@ loop-found-init g c =
       part = subst (λ t. IsReplyPart t) (sym rest) nothing_part;
       same = refl {a = unread_of c.args.buffer.now.items (g.S.Source.left c.args.source.now)};
       beside = refl;
-      later = omega arith;
+      count = refl;
     }
 
 pub stopped-requires : goal.stopped-requires
@@ -39,7 +39,8 @@ returns-in-Err-clause-cause g c =
     let before = g.S.Source.read_faults c.args.source.now in
     let now = g.S.Source.read_faults c.loop-found.source in
     let left = g.S.Source.left c.loop-found.source in
-    subst (λ t. IsCause before now false (unread_of t left) c.stopped.result) c.deref.ensures.value (c.stopped.ensures before now left)
+    subst (λ n. IsReplyCause n now (unread_of c.take_reply.new.buffer.items left) c.stopped.result) c.loop-found.invariant.count
+    (subst (λ t. IsReplyCause now now (unread_of t left) c.stopped.result) c.deref.ensures.value (c.stopped.ensures now left))
 
 pub returns-then-more-eq0-clause-cause : goal.returns-then-more-eq0-clause-cause
 returns-then-more-eq0-clause-cause g c =
@@ -54,4 +55,6 @@ returns-then-more-eq0-clause-cause g c =
     let value = c.deref-then-more-eq0.ensures.value in
     let no_reply = subst (λ t. IsNoReply t) (sym value) (part_alone c.no_reply_begins_another.ensures buffer part) in
     let end = c.read_more.ensures.end (c.in-Ok-read_more.is ∙ ap (λ (n : ℕ). Ok n) c.if-more-eq0.true) in
-    subst (λ t. IsCause before now false (unread_of t left) c.unreadable.result) value (c.unreadable.ensures.ended no_reply before now left end)
+    let count : now ≡ before = read.whole ∙ c.loop-found.invariant.count in
+    subst (λ n. IsReplyCause n now (unread_of buffer left) c.unreadable.result) count
+    (subst (λ t. IsReplyCause now now (unread_of t left) c.unreadable.result) value (c.unreadable.ensures.ended no_reply now left end))

@@ -12,7 +12,7 @@ invariant-loop-found g l = record {
   part : IsReplyPart l.feeder.rest;
   same : unread_of l.buffer.items (g.S.Source.left l.source) ≡ unread_of l.fn.buffer.items (g.S.Source.left l.fn.source);
   beside : g.S.Source.beside_read l.source ≡ g.S.Source.beside_read l.fn.source;
-  later : g.S.Source.read_faults l.fn.source ≤ g.S.Source.read_faults l.source;
+  count : g.S.Source.read_faults l.source ≡ g.S.Source.read_faults l.fn.source;
 }
 
 -- a first part of a reply has fewer bytes than a reply may have
