@@ -9,12 +9,11 @@ use Rattle.std.specs.Option.{option_or}
 use Rattle.sk_resp.specs.Spelling.{Bytes}
 use Rattle.sk_payload.specs.Draft.{draft_fault, draft_text, is_named, is_shallow, is_retry, is_seconds, none_or, args_data, unless}
 use Rattle.sk_payload.specs.Member.{is_name, is_visible}
-use Rattle.sk_payload.specs.declared.head.Lock.{Lock}
 use Rattle.sk_payload.specs.Json.{is_whole}
 use Rattle.sk_payload.specs.declared.draft_fault.DraftFault.TheVariants as why
 use Rattle.sk_payload.specs.declared.draft.JobDraft.{JobDraft}
 use Rattle.sk_payload.specs.declared.draft_fault.DraftFault.{DraftFault}
-use Rattle.sk_client.specs.Drafts.{first_fault, AreBuilt, IsFirstFault, texts}
+use Rattle.sk_client.specs.Drafts.{first_fault, AreBuilt, texts}
 use Rattle.sk_client.specs.Making.{NotBuilt}
 use Rattle.sk_client.specs.Bulk.{queue_of}
 use Rattle.sk_client.specs.declared.client_fault.ClientFault.{ClientFault}

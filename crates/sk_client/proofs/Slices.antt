@@ -1,18 +1,19 @@
 -- Slices, one after another.
-use Rattle.std.proofs.Common.{◌≡◌, ◌≢◌, ◌<◌, ◌≤◌, ◌+◌, ◌-◌, ◌^◌, ℕ, Bool, true, false, List, [], ◌∷◌, ◌++◌, length, drop, get_or, Option, All, zero, suc, refl, sym, subst, ap, ◌∙◌, arith, length-append, length-take, length-drop, min, drop-cons, append-nil, take}
+use Rattle.std.proofs.Common.{◌≡◌, ◌<◌, ◌≤◌, ◌+◌, ◌-◌, ◌^◌, ℕ, true, false, List, [], ◌∷◌, ◌++◌, length, drop, get_or, Result, Ok, Err, All, zero, suc, refl, sym, subst, ap, ◌∙◌, arith, length-take, length-drop, drop-cons, append-nil, take}
 use Rattle.std.proofs.lemmas.Grind.{common_steps}
 use Rattle.std.proofs.lemmas.List.{take_more, get_or-take, drop-drop, take-append-drop}
 use Rattle.std.proofs.lemmas.List.Elements.{All-get_or}
 use Rattle.sk_resp.specs.Spelling.{Bytes, total_length}
 use Rattle.sk_resp.specs.declared.reply.Reply.{Reply}
 use Rattle.sk_link.specs.Asking.{is_number}
-use Rattle.sk_link.specs.Call.{Call}
+use Rattle.sk_link.specs.Call.{Call, answered}
 use Rattle.sk_link.specs.declared.asking.Answer.TheVariants as answer
+use Rattle.sk_link.specs.declared.link.LinkFault.{LinkFault}
 use Rattle.sk_resp.specs.declared.reply.Reply.TheVariants as reply
-use Rattle.sk_client.specs.Push.{Push, Accepted, Fails, accepts}
+use Rattle.sk_client.specs.Push.{Accepted, Fails, accepts}
 use Rattle.sk_client.specs.Making.{IsOfNoDraft, lpush_slice}
 use Rattle.sk_client.specs.Requests.{lpush_words}
-use Rattle.sk_client.specs.Bulk.{IsSlice, PushesSlices, PushesFirst, StopsAt, request_length}
+use Rattle.sk_client.specs.Bulk.{EndsAtSlice, IsSlice, PushesSlices, PushesFirst, StopsAt, is_counted, request_length}
 use Rattle.sk_client.specs.declared.client_fault.ClientFault.{ClientFault}
 use Rattle.sk_client.specs.declared.client_fault.ClientFault.TheVariants as fault
 
@@ -29,7 +30,7 @@ request_length-none queue = omega arith
 
 -- one more slice
 pub PushesSlices-more : (queue : Bytes) (most : ℕ) (texts : List Bytes) (calls : List Call) (left slice rest : List Bytes) (call : Call) →
-    PushesSlices queue most texts calls left → IsSlice queue most left slice rest → call.request ≡ lpush_words queue slice → is_number call.reply ≡ true →
+    PushesSlices queue most texts calls left → IsSlice queue most left slice rest → call.request ≡ lpush_words queue slice → is_counted call.reply ≡ true →
     PushesSlices queue most texts (calls ++ call ∷ []) rest
 PushesSlices-more queue most texts [] left slice rest call p next asked accepted =
     (slice, rest, subst (λ xs. IsSlice queue most xs slice rest) p next, asked, accepted, refl)
@@ -108,7 +109,7 @@ pub PushesFirst-more : (Before After Whole : List Call → Type 0) → ((xs ys :
     → PushesFirst Before queue most texts sent → IsSlice queue most left slice (drop n left) → Accepted After (lpush_slice queue slice)
     → PushesFirst Whole queue most texts (sent + n)
 PushesFirst-more Before After Whole join queue most sent n texts slice left is_left within p next accepted =
-    let call : Call = record { request = lpush_words queue slice; reply = accepted.0 } in
+    let call : Call = answered (lpush_words queue slice) accepted.0 in
     let behind : drop n left ≡ drop (sent + n) texts = ap (drop n) is_left ∙ drop-drop n sent texts in
     let front : IsSlice queue most (drop sent texts) slice (drop (sent + n) texts) =
     subst (λ xs. IsSlice queue most xs slice (drop (sent + n) texts)) is_left (subst (λ rest. IsSlice queue most left slice rest) behind next) in
@@ -119,24 +120,31 @@ PushesFirst-more Before After Whole join queue most sent n texts slice left is_l
       PushesSlices-more queue most texts p.0 (drop sent texts) slice (drop (sent + n) texts) call p.3 front refl (number_accepted accepted.0 accepted.1.2),
     )
 
--- The next slice wasn't accepted.
-pub StopsAt-next : (Before After Whole : List Call → Type 0) → ((xs ys : List Call) → Before xs → After ys → Whole (xs ++ ys))
-    → (queue : Bytes) (most sent n : ℕ) (texts slice left : List Bytes) → left ≡ drop sent texts → sent < length texts
-    → PushesFirst Before queue most texts sent → IsSlice queue most left slice (drop n left) → (f : ClientFault)
-    → IsOfNoDraft f → Fails After (lpush_slice queue slice) f → StopsAt Whole queue most texts sent f
-StopsAt-next Before After Whole join queue most sent n texts slice left is_left some p next (fault.Draft f) no_draft h = absurd no_draft
-StopsAt-next Before After Whole join queue most sent n texts slice left is_left some p next (fault.Link f) no_draft h =
-    (unchanged Before After Whole join queue most texts sent p h.1, some)
-StopsAt-next Before After Whole join queue most sent n texts slice left is_left some p next (fault.Refused r) no_draft h = record {
+-- what came of the request of the next slice
+at_slice : (Before After Whole : List Call → Type 0) → ((xs ys : List Call) → Before xs → After ys → Whole (xs ++ ys))
+    → (queue : Bytes) (most sent n : ℕ) (texts slice left : List Bytes) → left ≡ drop sent texts
+    → PushesFirst Before queue most texts sent → IsSlice queue most left slice (drop n left) → (reply : Result Reply LinkFault)
+    → After (record { request = lpush_words queue slice; reply = reply } ∷ []) → EndsAtSlice Whole queue most texts sent reply
+at_slice Before After Whole join queue most sent n texts slice left is_left p next reply came = record {
   calls = p.0;
   slice = slice;
   rest = drop n left;
   within = p.2;
   pushed = p.3;
   next = subst (λ xs. IsSlice queue most xs slice (drop n left)) is_left next;
-  carried = join p.0 _ p.1 h.1;
-  refused = h.2;
+  carried = join p.0 _ p.1 came;
 }
-StopsAt-next Before After Whole join queue most sent n texts slice left is_left some p next (fault.Held jid) no_draft h = absurd (let e : false ≡ true = h.2 in cc)
-StopsAt-next Before After Whole join queue most sent n texts slice left is_left some p next fault.Memory no_draft h =
+
+-- The next slice wasn't accepted.
+pub StopsAt-next : (Before After Whole : List Call → Type 0) → ((xs ys : List Call) → Before xs → After ys → Whole (xs ++ ys))
+    → (queue : Bytes) (most sent n : ℕ) (texts slice left : List Bytes) → left ≡ drop sent texts
+    → PushesFirst Before queue most texts sent → IsSlice queue most left slice (drop n left) → (f : ClientFault)
+    → IsOfNoDraft f → Fails After (lpush_slice queue slice) f → StopsAt Whole queue most texts sent f
+StopsAt-next Before After Whole join queue most sent n texts slice left is_left p next (fault.Draft f) no_draft h = absurd no_draft
+StopsAt-next Before After Whole join queue most sent n texts slice left is_left p next (fault.Link f) no_draft h =
+    at_slice Before After Whole join queue most sent n texts slice left is_left p next (Err f) h.1
+StopsAt-next Before After Whole join queue most sent n texts slice left is_left p next (fault.Refused r) no_draft h =
+    (at_slice Before After Whole join queue most sent n texts slice left is_left p next (Ok r) h.1, h.2)
+StopsAt-next Before After Whole join queue most sent n texts slice left is_left p next (fault.Held jid) no_draft h = absurd (let e : false ≡ true = h.2 in cc)
+StopsAt-next Before After Whole join queue most sent n texts slice left is_left p next fault.Memory no_draft h =
     unchanged Before After Whole join queue most texts sent p h

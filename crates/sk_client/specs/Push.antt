@@ -1,10 +1,9 @@
 -- What a client sends in one request, and what may come of it.
-use Rattle.std.specs.Prelude.{◌≡◌, ◌++◌, ℕ, Bool, true, false, List, [], ◌∷◌, Option, Result, Ok, Err}
+use Rattle.std.specs.Prelude.{◌≡◌, Bool, true, false, List, [], ◌∷◌}
 use Rattle.sk_resp.specs.Spelling.{Bytes}
 use Rattle.sk_resp.specs.declared.reply.Reply.{Reply}
 use Rattle.sk_resp.specs.declared.reply.Reply.TheVariants as reply
-use Rattle.sk_link.specs.Call.{Call}
-use Rattle.sk_link.specs.Fault.{IsCause}
+use Rattle.sk_link.specs.Call.{Call, answered, lost}
 use Rattle.sk_link.specs.Asking.{answers}
 use Rattle.sk_link.specs.declared.asking.Answer.{Answer}
 use Rattle.sk_payload.specs.declared.draft.JobDraft.{JobDraft}
@@ -28,7 +27,7 @@ accepts wanted r = answers wanted r
 
 -- The request with this reply is all that the link carried.
 abbrev pub Carries : (List Call → Type 0) → Push → Reply → Type 0
-Carries Carried push r = Carried (record { request = push.words; reply = r } ∷ [])
+Carries Carried push r = Carried (answered push.words r ∷ [])
 
 -- Every draft was built, and the reply accepts the request.
 abbrev pub AcceptedBy : (List Call → Type 0) → Push → Reply → Type 0
@@ -37,20 +36,11 @@ AcceptedBy Carried push r = AreBuilt push.drafts × Carries Carried push r × (a
 abbrev pub Accepted : (List Call → Type 0) → Push → Type 0
 Accepted Carried push = (r : Reply) × AcceptedBy Carried push r
 
--- What each fault says. Draft: the first draft that can't be built has it, and nothing was sent. Link: the request has no reply.
+-- What each fault says. Draft: the first draft that can't be built has it, and nothing was sent. Link: the request was lost by that fault.
 -- Refused: its reply is no answer. Held: its answer is the job that holds the lock. Memory: nothing was sent.
 abbrev pub Fails : (List Call → Type 0) → Push → ClientFault → Type 0
 Fails Carried push (fault.Draft f) = IsFirstFault push.drafts f × Carried []
-Fails Carried push (fault.Link f) = AreBuilt push.drafts × Carried []
+Fails Carried push (fault.Link f) = AreBuilt push.drafts × Carried (lost push.words f ∷ [])
 Fails Carried push (fault.Refused r) = AreBuilt push.drafts × Carries Carried push r × (answers push.wanted r ≡ false)
 Fails Carried push (fault.Held jid) = AreBuilt push.drafts × Carries Carried push (reply.Bulk jid) × (answers push.wanted (reply.Bulk jid) ≡ true)
 Fails Carried push fault.Memory = Carried []
-
--- A fault of the link has its cause: by the count of faults before and now, by whether the link had ended before, and by the bytes behind
--- the last whole reply.
-abbrev pub HasLinkCause : ℕ → ℕ → Bool → Option Bytes → ClientFault → Type 0
-HasLinkCause before now ended unread (fault.Draft f) = Unit {0}
-HasLinkCause before now ended unread (fault.Link f) = IsCause before now ended unread f
-HasLinkCause before now ended unread (fault.Refused r) = Unit {0}
-HasLinkCause before now ended unread (fault.Held jid) = Unit {0}
-HasLinkCause before now ended unread fault.Memory = Unit {0}

@@ -1,10 +1,10 @@
 -- The requests of a client, word by word.
-use Rattle.std.specs.Prelude.{ℤ, List, [], ◌∷◌, ◌++◌, Option, Some, None, codes, map, option_map, unwrap_or, length}
+use Rattle.std.specs.Prelude.{ℤ, List, [], ◌∷◌, ◌++◌, Option, codes, option_map, unwrap_or}
 use Rattle.std.specs.Option.{option_to_list}
 use Rattle.sk_base.specs.Score.{score_text}
 use Rattle.sk_resp.specs.Spelling.{Bytes}
 use Rattle.sk_payload.specs.Draft.{draft_text}
-use Rattle.sk_link.specs.declared.asking.Answer.TheVariants.{Okay, Number, List as Array, Unique}
+use Rattle.sk_link.specs.declared.asking.Answer.TheVariants.{Number, List as Array, Unique}
 use Rattle.sk_payload.specs.declared.draft.JobDraft.{JobDraft}
 use Rattle.sk_client.specs.Drafts.{texts}
 use Rattle.sk_client.specs.Push.{Push}

@@ -1,6 +1,6 @@
 // Batches: a new one with its callbacks and jobs, and more jobs for one that is open.
 ghost use Rattle.std.specs.Prelude.{◌≡◌, ◌<◌, IfOk, IfErr, OnOk, length};
-ghost use Rattle.sk_client.specs.Push.{Accepted, AcceptedBy, Fails, HasLinkCause};
+ghost use Rattle.sk_client.specs.Push.{Accepted, AcceptedBy, Fails};
 ghost use Rattle.sk_client.specs.Making.{Makes};
 ghost use Rattle.sk_client.specs.Requests.{bpush, badd};
 
@@ -52,7 +52,6 @@ impl BatchDraft {
     pub fn send<L: Link>(&self, alloc: Global, link: &mut L) -> Result<Reply, ClientFault>
         ensures ok { IfOk result (AcceptedBy (L.carried link.old link.new) (bpush self.now)) }
         ensures err { IfErr result (Fails (L.carried link.old link.new) (bpush self.now)) }
-        ensures cause { IfErr result (HasLinkCause (L.faults link.old) (L.faults link.new) (L.has_ended link.old) (L.unread link.new)) }
     {
         let words = self.words(alloc)?;
         request(alloc, link, &words, Answer::List)
@@ -78,7 +77,6 @@ pub fn batch_add<L: Link>(
     requires { 0 < length jobs.now }
     ensures ok { OnOk result (Accepted (L.carried link.old link.new) (badd bid.now jobs.now)) }
     ensures err { IfErr result (Fails (L.carried link.old link.new) (badd bid.now jobs.now)) }
-    ensures cause { IfErr result (HasLinkCause (L.faults link.old) (L.faults link.new) (L.has_ended link.old) (L.unread link.new)) }
 {
     let words = badd_words(alloc, bid, jobs)?;
     send(alloc, link, &words, Answer::Number)

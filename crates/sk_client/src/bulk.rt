@@ -1,7 +1,7 @@
 // Pushes of many jobs to one queue. All texts are built first, and then they are sent slice by slice, each slice as one request.
 ghost use Rattle.std.specs.Prelude.{◌≡◌, ◌<◌, ◌≤◌, ℕ, IfOk, IfErr, OnOk, All, length, take, drop, false, true};
 ghost use Rattle.sk_client.specs.Drafts.{AreBuilt, texts as texts_of};
-ghost use Rattle.sk_client.specs.Push.{Accepted, Fails, HasLinkCause};
+ghost use Rattle.sk_client.specs.Push.{Accepted, Fails};
 ghost use Rattle.sk_client.specs.Making.{IsOfNoDraft, lpush_slice};
 ghost use Rattle.sk_client.specs.Requests.{lpush_words};
 ghost use Rattle.sk_client.specs.Bulk.{NameOneQueue, IsSlice, StopsAt, PushesFirst, PushesAll, FailsAt};
@@ -67,10 +67,7 @@ fn push_slice<L: Link>(
 ) -> Result<(), ClientFault>
     ensures ok { OnOk result (Accepted (L.carried link.old link.new) (lpush_slice queue.now texts.now)) }
     ensures err { IfErr result (Fails (L.carried link.old link.new) (lpush_slice queue.now texts.now)) }
-    ensures cause { IfErr result (HasLinkCause (L.faults link.old) (L.faults link.new) (L.has_ended link.old) (L.unread link.new)) }
     ensures drafts { IfErr result IsOfNoDraft }
-    ensures later { L.faults link.old ≤ L.faults link.new }
-    ensures ends { OnOk result (L.has_ended link.new ≡ false) }
 {
     let words = slice_words(alloc, queue, texts)?;
     send(alloc, link, &words, Answer::Number)
@@ -89,7 +86,6 @@ fn push_slices<L: Link>(
     requires short { All (λ text. length text ≤ LONGEST_JOB) texts.now }
     ensures ok { IfOk result (λ _. PushesFirst (L.carried link.old link.new) queue.now most texts.now (length texts.now)) }
     ensures err { IfErr result (λ e. StopsAt (L.carried link.old link.new) queue.now most texts.now e.sent e.fault) }
-    ensures cause { IfErr result (λ e. HasLinkCause (L.faults link.old) (L.faults link.new) (L.has_ended link.old) (L.unread link.new) e.fault) }
 {
     let mut sent = 0;
     while sent < texts.len() {
@@ -118,7 +114,6 @@ pub fn push_bulk<L: Link>(
     requires few { slice ≤ MOST_SLICE }
     ensures ok { IfOk result (PushesAll (L.carried link.old link.new) drafts.now slice) }
     ensures err { IfErr result (λ e. FailsAt (L.carried link.old link.new) drafts.now slice e.sent e.fault) }
-    ensures cause { IfErr result (λ e. HasLinkCause (L.faults link.old) (L.faults link.new) (L.has_ended link.old) (L.unread link.new) e.fault) }
 {
     let mut texts = Vec::new(alloc);
     if let Err(fault) = add_drafts(alloc, drafts, &mut texts) {

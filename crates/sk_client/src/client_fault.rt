@@ -11,7 +11,7 @@ use std::alloc::{AllocError, AllocFailed};
 pub enum ClientFault {
     /// The first of the drafts that can't be built has this fault. Nothing was sent.
     Draft(DraftFault),
-    /// The link gave this fault in place of a reply. The store may have taken the request all the same.
+    /// The request was lost by this fault of the link, also by want of memory there. The store may have taken it all the same.
     Link(LinkFault),
     /// The store's reply is an error, or of a kind that it doesn't give to this request.
     Refused(Reply),

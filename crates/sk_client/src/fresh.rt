@@ -21,8 +21,8 @@ fn id_bytes(first: u64, second: u64) -> [u8; 12]
 
 /// The id of a new job: 24 lower-case hex digits, as Sidekiq's are. It draws two words, whether there is memory or not.
 pub fn fresh_jid<D: Dice>(alloc: Global, dice: &mut D) -> Result<Text, Memory>
-    ensures { (first second : ℕ) × YieldsAll (D.words dice.old) (first ∷ second ∷ []) (D.words dice.new)
-        × IfOk result (λ jid. jid ≡ jid_of_words first second) }
+    ensures { (one two : ℕ) × YieldsAll (D.words dice.old) (one ∷ two ∷ []) (D.words dice.new)
+        × IfOk result (λ jid. jid ≡ jid_of_words one two) }
 {
     let first = dice.word();
     let second = dice.word();

@@ -1,6 +1,6 @@
 // Pushes of one job: to its queue, into the schedule, or where no other job holds its lock. Each builds the text, and sends one request.
 ghost use Rattle.std.specs.Prelude.{IfErr, OnOk};
-ghost use Rattle.sk_client.specs.Push.{Accepted, Fails, HasLinkCause};
+ghost use Rattle.sk_client.specs.Push.{Accepted, Fails};
 ghost use Rattle.sk_client.specs.Making.{Makes};
 ghost use Rattle.sk_client.specs.Requests.{lpush, zadd, upush};
 
@@ -52,7 +52,6 @@ fn upush_words(alloc: Global, draft: &JobDraft, at: Option<Score>) -> Result<Wor
 pub fn push<L: Link>(alloc: Global, link: &mut L, draft: &JobDraft) -> Result<(), ClientFault>
     ensures ok { OnOk result (Accepted (L.carried link.old link.new) (lpush draft.now)) }
     ensures err { IfErr result (Fails (L.carried link.old link.new) (lpush draft.now)) }
-    ensures cause { IfErr result (HasLinkCause (L.faults link.old) (L.faults link.new) (L.has_ended link.old) (L.unread link.new)) }
 {
     let words = lpush_words(alloc, draft)?;
     send(alloc, link, &words, Answer::Number)
@@ -67,7 +66,6 @@ pub fn push_at<L: Link>(
 ) -> Result<(), ClientFault>
     ensures ok { OnOk result (Accepted (L.carried link.old link.new) (zadd draft.now at)) }
     ensures err { IfErr result (Fails (L.carried link.old link.new) (zadd draft.now at)) }
-    ensures cause { IfErr result (HasLinkCause (L.faults link.old) (L.faults link.new) (L.has_ended link.old) (L.unread link.new)) }
 {
     let words = zadd_words(alloc, draft, at)?;
     send(alloc, link, &words, Answer::Number)
@@ -83,7 +81,6 @@ pub fn push_unique<L: Link>(
 ) -> Result<(), ClientFault>
     ensures ok { OnOk result (Accepted (L.carried link.old link.new) (upush draft.now at)) }
     ensures err { IfErr result (Fails (L.carried link.old link.new) (upush draft.now at)) }
-    ensures cause { IfErr result (HasLinkCause (L.faults link.old) (L.faults link.new) (L.has_ended link.old) (L.unread link.new)) }
 {
     let words = upush_words(alloc, draft, at)?;
     send(alloc, link, &words, Answer::Unique)

@@ -1,7 +1,7 @@
 // One request and what its reply says.
 ghost use Rattle.std.specs.Prelude.{◌≡◌, ◌≢◌, ◌≤◌, Ok, IfOk, IfErr, OnOk, false};
 ghost use Rattle.std.specs.Str.{IsUtf8};
-ghost use Rattle.sk_client.specs.Push.{Push, Accepted, AcceptedBy, Fails, HasLinkCause};
+ghost use Rattle.sk_client.specs.Push.{Push, Accepted, AcceptedBy, Fails};
 ghost use Rattle.sk_client.specs.Making.{Makes, IsOfNoDraft};
 
 use crate::ClientFault;
@@ -30,10 +30,7 @@ pub fn request<L: Link>(
     requires { wanted ≢ Answer.Popped }
     ensures ok { (push : Push) → Makes push (Ok words.now) → push.wanted ≡ wanted → IfOk result (AcceptedBy (L.carried link.old link.new) push) }
     ensures err { (push : Push) → Makes push (Ok words.now) → push.wanted ≡ wanted → IfErr result (Fails (L.carried link.old link.new) push) }
-    ensures cause { IfErr result (HasLinkCause (L.faults link.old) (L.faults link.new) (L.has_ended link.old) (L.unread link.new)) }
     ensures drafts { IfErr result IsOfNoDraft }
-    ensures later { L.faults link.old ≤ L.faults link.new }
-    ensures ends { OnOk result (L.has_ended link.new ≡ false) }
 {
     match ask(alloc, link, words, wanted) {
         Ok(Reply::Bulk(jid)) => Err(held(jid)),
@@ -53,10 +50,7 @@ pub fn send<L: Link>(
     requires { wanted ≢ Answer.Popped }
     ensures ok { (push : Push) → Makes push (Ok words.now) → push.wanted ≡ wanted → OnOk result (Accepted (L.carried link.old link.new) push) }
     ensures err { (push : Push) → Makes push (Ok words.now) → push.wanted ≡ wanted → IfErr result (Fails (L.carried link.old link.new) push) }
-    ensures cause { IfErr result (HasLinkCause (L.faults link.old) (L.faults link.new) (L.has_ended link.old) (L.unread link.new)) }
     ensures drafts { IfErr result IsOfNoDraft }
-    ensures later { L.faults link.old ≤ L.faults link.new }
-    ensures ends { OnOk result (L.has_ended link.new ≡ false) }
 {
     match request(alloc, link, words, wanted) {
         Ok(_) => Ok(()),
