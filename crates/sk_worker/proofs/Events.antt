@@ -1,6 +1,5 @@
 -- What lists of events are to the objects that a turn meets.
-use Rattle.std.proofs.Common.{◌≡◌, ◌∙◌, ℕ, Bool, true, false, List, [], ◌∷◌, ◌++◌, map, refl, sym, subst, ap, Option, Some, None, MatchOption, IsSome, Result, Ok, Err, IfOk, append_assoc, append-nil}
-use Rattle.std.specs.Bool.{MatchBool}
+use Rattle.std.proofs.Common.{◌≡◌, ◌∙◌, ℕ, Bool, List, [], ◌∷◌, ◌++◌, map, refl, sym, subst, ap, Option, Some, None, MatchOption, IsSome, append_assoc, append-nil}
 use Rattle.std.specs.List.{AllByRecursion}
 use Rattle.sk_base.specs.Yields.{YieldsAll}
 use Rattle.sk_resp.specs.Spelling.{Bytes}
@@ -92,15 +91,12 @@ pub RulesAnswered-of : {R : Type 0} (Answers : R → ℕ → ℕ → Type 0) (cl
     RulesAnswered Answers classes xs plain cs → RulesAnswered Answers classes ys plain cs
 RulesAnswered-of Answers classes xs ys plain cs e answered = subst (λ zs. RulesAnswered Answers classes zs plain cs) e answered
 
-pub match_true : (b : Bool) (P Q : Type 0) → b ≡ true → P → MatchBool b P Q
-match_true b P Q e p = subst (λ b. MatchBool b P Q) (sym e) p
-
-pub match_false : (b : Bool) (P Q : Type 0) → b ≡ false → Q → MatchBool b P Q
-match_false b P Q e q = subst (λ b. MatchBool b P Q) (sym e) q
+pub by_test : (P : Bool → Type 0) (b t : Bool) → b ≡ t → P t → P b
+by_test P b t e p = subst P (sym e) p
 
 -- ## One list after another
 
-calls-append : (xs ys : List Event) → calls (xs ++ ys) ≡ calls xs ++ calls ys
+pub calls-append : (xs ys : List Event) → calls (xs ++ ys) ≡ calls xs ++ calls ys
 calls-append [] ys = refl
 calls-append (ordered drawn ∷ xs) ys = calls-append xs ys
 calls-append (asked call ∷ xs) ys = ap (λ cs. call ∷ cs) (calls-append xs ys)
@@ -173,7 +169,3 @@ parts_order {P} {W} drawn cs p w = record {
   dice = subst W (sym (ap (λ ws. drawn ++ ws) (words-asked cs) ∙ append-nil drawn)) w;
   rules = choices-asked cs;
 }
-
-pub if_ok_always : {T E : Type 0} (r : Result T E) (P : Type 0) → P → IfOk r (λ _. P)
-if_ok_always (Ok x) P p = p
-if_ok_always (Err e) P p = tt

@@ -6,3 +6,6 @@ pub mod Leaves
 pub mod Forms
 pub mod EmptyTurns
 pub mod Returned
+pub mod Lost
+pub mod Started
+pub mod Quiet

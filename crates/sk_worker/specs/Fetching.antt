@@ -1,12 +1,12 @@
 -- How a worker fetches, up to as many jobs as it may hold: the stages, what is asked in each, and where each event leads.
-use Rattle.std.specs.Prelude.{◌≡◌, ℕ, true, List, [], ◌∷◌, ◌++◌, length, nat_le, if◌then◌else◌, Result, Ok, Err}
+use Rattle.std.specs.Prelude.{◌≡◌, ◌⊎◌, ℕ, true, List, [], ◌∷◌, ◌++◌, length, nat_le, if◌then◌else◌, Result, Ok, Err, map, slice_index_or}
 use Rattle.sk_resp.specs.Spelling.{Bytes}
 use Rattle.sk_resp.specs.declared.reply.Reply.{Reply}
 use Rattle.sk_resp.specs.declared.reply.Reply.TheVariants as reply
 use Rattle.sk_link.specs.Asking.{answers}
 use Rattle.sk_link.specs.declared.asking.Answer.{Answer}
 use Rattle.sk_link.specs.declared.asking.Answer.TheVariants as answer
-use Rattle.sk_link.specs.declared.link.LinkFault.{LinkFault}
+use Rattle.sk_link.specs.Call.{Call, answered}
 use Rattle.sk_policy.specs.Order.{draws, queues_in}
 use Rattle.sk_worker.specs.Request.{fetch_words}
 use Rattle.sk_worker.specs.Event.{Event, ordered, asked}
@@ -14,6 +14,7 @@ use Rattle.sk_worker.specs.Stage.{Settings}
 use Rattle.sk_link.specs.Walk.{Walk}
 use Rattle.sk_worker.specs.Broken.{Broken}
 use Rattle.sk_worker.specs.declared.turn.WorkFault.{WorkFault}
+use Rattle.sk_worker.specs.declared.turn.WorkFault.TheVariants as fault
 
 pub data FetchStage : Type 0 where
   -- it holds these payloads, the oldest first, and an order is to be drawn
@@ -48,13 +49,34 @@ pub data FetchStep (w : Settings) : FetchStage → Event → FetchStage → Type
       FetchStep w (begins payloads) (ordered words) (next_queue (queues_in w.order words) payloads)
   fetches : (from : FetchStage) (request : List Bytes) (wanted : Answer) (next : Reply → FetchStage) (r : Reply) →
       FetchLine w from request wanted next → answers wanted r ≡ true →
-      FetchStep w from (asked (record { request = request; reply = r })) (next r)
+      FetchStep w from (asked (answered request r)) (next r)
 
 -- where a turn begins that holds these payloads
 abbrev pub fetch_start : Settings → List Bytes → FetchStage
 fetch_start w payloads = if_room w.prefetch payloads (begins payloads)
 
--- The events are those of the fetching, from this stage on: to its end, with these payloads held then, or as far as they came.
-abbrev pub FetchTranscript : (LinkFault → Type 0) → Settings → FetchStage → List Event → List Bytes → Result (Unit {0}) WorkFault → Type 0
-FetchTranscript Gave w from events payloads (Ok done) = Walk (FetchStep w) from events (fetched payloads)
-FetchTranscript Gave w from events payloads (Err f) = Broken Gave (FetchLine w) (FetchStep w) (λ _. ⊥) from events f
+-- the payloads that were held before or fetched, the oldest first
+abbrev pub in_hand : FetchStage → List Bytes
+in_hand (begins payloads) = payloads
+in_hand (asking queue queues payloads) = payloads
+in_hand (fetched payloads) = payloads
+
+-- After a fault these are held of the payloads in hand: all of them, but without the newest where there may have been no memory to hold it.
+abbrev pub Holds : WorkFault → List Bytes → List Bytes → Type 0
+Holds fault.Memory payloads held = (held ≡ payloads) ⊎ ((newest : Bytes) × (payloads ≡ held ++ newest ∷ []))
+Holds f payloads held = held ≡ payloads
+
+-- The events are those of the fetching, from this stage on, with these payloads held then: to its end, or as far as they came.
+abbrev pub FetchTranscript : Settings → FetchStage → List Event → List Bytes → Result (Unit {0}) WorkFault → Type 0
+FetchTranscript w from events held (Ok done) = Walk (FetchStep w) from events (fetched held)
+FetchTranscript w from events held (Err f) =
+    (stage : FetchStage) × Broken (FetchLine w) (FetchStep w) (λ _. ⊥) from events stage f × Holds f (in_hand stage) held
+
+-- the stage of a worker that holds these payloads, where the queues at these places are to be asked
+abbrev pub asking_at : ℕ → List Bytes → List ℕ → List Bytes → FetchStage
+asking_at prefetch names places held = if_room prefetch held (next_queue (map (λ place. slice_index_or names place []) places) held)
+
+-- The link carried the calls of the fetching, from this stage on, of a worker with this ident that may hold so many payloads, and holds these then.
+abbrev pub Fetches : (List Call → Type 0) → Bytes → ℕ → FetchStage → List Bytes → Result (Unit {0}) WorkFault → Type 0
+Fetches Carried ident prefetch from held result = (w : Settings) → w.ident ≡ ident → w.prefetch ≡ prefetch →
+    (cs : List Call) × Carried cs × FetchTranscript w from (map asked cs) held result

@@ -1,10 +1,11 @@
 -- The four forms of what a turn does with a job (super_fetch of Sidekiq Pro).
-use Rattle.std.specs.Prelude.{length, map, ◌≡◌, ◌%◌, ℕ, ℤ, List, [], ◌∷◌, Some, None, IsSome, codes}
+use Rattle.std.specs.Prelude.{length, map, ◌≡◌, ◌⊎◌, ◌%◌, ℕ, ℤ, true, List, [], ◌∷◌, Some, None, IsSome, Result, Ok, Err, codes}
 use Rattle.sk_resp.specs.Spelling.{Bytes}
 use Rattle.sk_resp.specs.declared.reply.Reply.{Reply}
 use Rattle.sk_resp.specs.declared.reply.Reply.TheVariants as reply
+use Rattle.sk_link.specs.Asking.{is_okay}
+use Rattle.sk_link.specs.Call.{answered}
 use Rattle.sk_payload.specs.Head.{head}
-use Rattle.sk_payload.specs.Failed.{failed as failed_text}
 use Rattle.sk_payload.specs.declared.head.Head.{Head}
 use Rattle.sk_policy.specs.Decision.{decision}
 use Rattle.sk_policy.specs.Order.{draws, queues_in}
@@ -12,21 +13,24 @@ use Rattle.sk_policy.specs.declared.decision.Decision.{Decision}
 use Rattle.sk_policy.specs.declared.decision.Decision.TheVariants as decide
 use Rattle.sk_worker.specs.Run.{place_of}
 use Rattle.sk_worker.specs.Request.{fetch_words, script_words, retry_words, release_words}
-use Rattle.sk_worker.specs.Event.{Event, ordered, asked, ran, chose}
-use Rattle.sk_worker.specs.Stage.{Settings, unknown}
+use Rattle.sk_worker.specs.Event.{Event, ordered, asked, ran, chose, runs}
+use Rattle.sk_worker.specs.Stage.{FailsTo, Settings, unknown}
 use Rattle.sk_worker.specs.declared.job.Raised.{Raised}
+use Rattle.sk_worker.specs.declared.job.Outcome.{Outcome}
 use Rattle.sk_worker.specs.declared.job.Outcome.TheVariants as outcome
 use Rattle.sk_worker.specs.declared.turn.Turn.{Turn}
 use Rattle.sk_worker.specs.declared.turn.Turn.TheVariants as turn
+use Rattle.sk_worker.specs.declared.turn.WorkFault.{WorkFault}
+use Rattle.sk_worker.specs.declared.turn.WorkFault.TheVariants as fault
 
 abbrev pub call : List Bytes → Reply → Event
-call request r = asked (record { request = request; reply = r })
+call request r = asked (answered request r)
 
 -- what is sent of a failed job, as it was decided
 pub data Fate (c : Bytes) (r : Raised) (now : ℕ) : Decision → List Bytes → Turn → Type 0 where
-  retried : (p : Bytes) (score : ℤ) → failed_text c now r.class r.message ≡ Some p →
+  retried : (p : Bytes) (score : ℤ) → FailsTo c now r p →
       Fate c r now (decide.Retry score) (retry_words score p) turn.Retried
-  buried : (p : Bytes) → failed_text c now r.class r.message ≡ Some p →
+  buried : (p : Bytes) → FailsTo c now r p →
       Fate c r now decide.Bury (script_words (codes "SK.BURY") p) turn.Buried
   discarded : Fate c r now decide.Discard (script_words (codes "SK.DROP") c) turn.Discarded
 
@@ -68,3 +72,17 @@ pub record ReturnedForm (w : Settings) (c said : Bytes) (events : List Event) : 
   pub registered : IsSome (place_of w.classes h.class)
   pub same : said ≡ c
   pub are : events ≡ call (script_words (codes "SK.START") c) start ∷ ran (record { head = h; outcome = outcome.Returned }) ∷ []
+
+-- The store took SK.START of this job by this reply, and its class has a job.
+pub record IsStarted (w : Settings) (c : Bytes) (h : Head) (start : Reply) : Type 0 where
+  pub is : head c ≡ Some h
+  pub registered : IsSome (place_of w.classes h.class)
+  pub taken : is_okay start ≡ true
+
+-- The job of this head ran once, or there was no memory, and it didn't run.
+abbrev pub RanOnce : Head → List Event → Result Turn WorkFault → Type 0
+RanOnce h events result = ((o : Outcome) × (runs events ≡ record { head = h; outcome = o } ∷ [])) ⊎ ((result ≡ Err fault.Memory) × (runs events ≡ []))
+
+-- The turn was empty, or there was no memory.
+abbrev pub IsEmptyOrMemory : Result Turn WorkFault → Type 0
+IsEmptyOrMemory result = (result ≡ Ok turn.Empty) ⊎ (result ≡ Err fault.Memory)

@@ -8,3 +8,4 @@ pub mod Turn
 pub mod Leaving
 pub mod Saying
 pub mod Forms
+pub mod Laws

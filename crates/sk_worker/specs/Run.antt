@@ -1,5 +1,5 @@
 -- What the jobs of a registry tell of their runs.
-use Rattle.std.specs.Prelude.{◌==◌, ℕ, false, List, Option, None, bytes_eq, filter, get_or, option_map, unwrap_or}
+use Rattle.std.specs.Prelude.{◌==◌, ◌∷◌, [], ℕ, false, List, Option, None, bytes_eq, filter, get_or, option_map, unwrap_or}
 use Rattle.std.specs.List.{position}
 use Rattle.sk_base.specs.Outside.{Takes}
 use Rattle.sk_resp.specs.Spelling.{Bytes}
@@ -22,3 +22,7 @@ runs_at classes i runs = filter (λ run. unwrap_or (option_map (λ k. k == i) (p
 -- Each job tells the runs of its class, in order, and no others.
 pub record RunsTold (classes : List Bytes) (runs : List Run) (before after : List (Option (List Run))) : Type 0 where
   pub each : (i : ℕ) → Takes (get_or before i None) (runs_at classes i runs) (get_or after i None)
+
+-- The one run of this head told by the job of its class, with its outcome.
+abbrev pub RunTold : List Bytes → Head → List (Option (List Run)) → List (Option (List Run)) → Outcome → Type 0
+RunTold classes h before after outcome = RunsTold classes (record { head = h; outcome = outcome } ∷ []) before after

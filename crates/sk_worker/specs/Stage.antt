@@ -1,5 +1,5 @@
 -- What a worker does with one job: the stages, what is asked in each, and where each event leads.
-use Rattle.std.specs.Prelude.{◌≡◌, ◌≢◌, ◌%◌, ℕ, ℤ, true, List, Some, None, IsSome, IsSomeAnd, Result, Ok, Err, codes}
+use Rattle.std.specs.Prelude.{◌≡◌, ◌≢◌, ◌%◌, ℕ, ℤ, true, List, Some, None, IsSome, IsSomeAnd, IfOk, Result, Ok, Err, codes, map}
 use Rattle.sk_base.specs.declared.limits.TheConstants.{LAST_GENERATION}
 use Rattle.sk_resp.specs.Spelling.{Bytes}
 use Rattle.sk_resp.specs.declared.reply.Reply.{Reply}
@@ -9,7 +9,7 @@ use Rattle.sk_payload.specs.declared.head.Head.{Head}
 use Rattle.sk_link.specs.Asking.{answers}
 use Rattle.sk_link.specs.declared.asking.Answer.{Answer}
 use Rattle.sk_link.specs.declared.asking.Answer.TheVariants as answer
-use Rattle.sk_link.specs.declared.link.LinkFault.{LinkFault}
+use Rattle.sk_link.specs.Call.{Call, answered}
 use Rattle.sk_policy.specs.Decision.{decision}
 use Rattle.sk_policy.specs.Order.{Order}
 use Rattle.sk_policy.specs.declared.decision.Decision.{Decision}
@@ -55,11 +55,19 @@ ended c h (outcome.Raised r) = raised c h r
 abbrev pub unknown : Head → Raised
 unknown h = record { class = codes "UnknownClass"; message = h.class }
 
+-- The job of this text failed as often as one may.
+abbrev pub IsLast : Bytes → Type 0
+IsLast c = IsSomeAnd (head c) (λ h. h.gen_ ≡ LAST_GENERATION)
+
+-- This is the text of the job after one more failed run, which it may have.
+abbrev pub FailsTo : Bytes → ℕ → Raised → Bytes → Type 0
+FailsTo c now r p = (failed_text c now r.class r.message ≡ Some p) × (IsLast c → ⊥)
+
 -- ## The table: stage, request, kind of answer, next stage
 
 pub data Line (w : Settings) : Stage → List Bytes → Answer → (Reply → Stage) → Type 0 where
   bury_bare : (c : Bytes) → head c ≡ None →
-      Line w (holding c) (script_words (codes "SK.BURY") c) answer.List (λ _. releasing c turn.Buried)
+      Line w (holding c) (script_words (codes "SK.BURY") c) answer.Report (λ _. releasing c turn.Buried)
   start : (c : Bytes) (h : Head) → head c ≡ Some h →
       Line w (holding c) (script_words (codes "SK.START") c) answer.Okay (λ _. started c h)
   finish : (c : Bytes) →
@@ -68,10 +76,10 @@ pub data Line (w : Settings) : Stage → List Bytes → Answer → (Reply → St
       Line w (raised c h r) (script_words (codes "SK.FAIL") c) answer.List (λ _. failed c h r)
   fail_unknown : (c : Bytes) (h : Head) → place_of w.classes h.class ≡ None →
       Line w (started c h) (script_words (codes "SK.FAIL") c) answer.List (λ _. failed c h (unknown h))
-  retry : (c p : Bytes) (r : Raised) (now : ℕ) (score : ℤ) → failed_text c now r.class r.message ≡ Some p →
+  retry : (c p : Bytes) (r : Raised) (now : ℕ) (score : ℤ) → FailsTo c now r p →
       Line w (decided c r now (decide.Retry score)) (retry_words score p) answer.Number (λ _. releasing c turn.Retried)
-  bury : (c p : Bytes) (r : Raised) (now : ℕ) → failed_text c now r.class r.message ≡ Some p →
-      Line w (decided c r now decide.Bury) (script_words (codes "SK.BURY") p) answer.List (λ _. releasing c turn.Buried)
+  bury : (c p : Bytes) (r : Raised) (now : ℕ) → FailsTo c now r p →
+      Line w (decided c r now decide.Bury) (script_words (codes "SK.BURY") p) answer.Report (λ _. releasing c turn.Buried)
   drop : (c : Bytes) (r : Raised) (now : ℕ) →
       Line w (decided c r now decide.Discard) (script_words (codes "SK.DROP") c) answer.Okay (λ _. releasing c turn.Discarded)
   release : (c : Bytes) (t : Turn) →
@@ -81,19 +89,28 @@ pub data Line (w : Settings) : Stage → List Bytes → Answer → (Reply → St
 pub data Step (w : Settings) : Stage → Event → Stage → Type 0 where
   asks : (from : Stage) (request : List Bytes) (wanted : Answer) (next : Reply → Stage) (r : Reply) →
       Line w from request wanted next → answers wanted r ≡ true →
-      Step w from (asked (record { request = request; reply = r })) (next r)
+      Step w from (asked (answered request r)) (next r)
   runs : (c : Bytes) (h : Head) (o : Outcome) → IsSome (place_of w.classes h.class) →
       Step w (started c h) (ran (record { head = h; outcome = o })) (ended c h o)
   chooses : (c : Bytes) (h : Head) (r : Raised) (moment word delay : ℕ) →
       Step w (failed c h r) (chose (record { class = h.class; count = h.gen_; moment = moment; word = word; delay = delay }))
       (decided c r moment (decision h moment (word % 10) delay))
 
--- It was decided that the job is retried or buried, and its generation is the last.
+-- It was decided that the job is retried or buried, and it failed as often as one may.
 abbrev pub AtLimit : Stage → Type 0
-AtLimit (decided c r now d) = (d ≢ decide.Discard) × IsSomeAnd (head c) (λ h. h.gen_ ≡ LAST_GENERATION)
+AtLimit (decided c r now d) = (d ≢ decide.Discard) × IsLast c
 AtLimit stage = ⊥
 
 -- The events are those of one job, from this stage on: to its end, or as far as they came.
-abbrev pub JobTranscript : (LinkFault → Type 0) → Settings → Stage → List Event → Result Turn WorkFault → Type 0
-JobTranscript Gave w from events (Ok t) = Walk (Step w) from events (over t)
-JobTranscript Gave w from events (Err f) = Broken Gave (Line w) (Step w) AtLimit from events f
+abbrev pub JobTranscript : Settings → Stage → List Event → Result Turn WorkFault → Type 0
+JobTranscript w from events (Ok t) = Walk (Step w) from events (over t)
+JobTranscript w from events (Err f) = (stage : Stage) × Broken (Line w) (Step w) AtLimit from events stage f
+
+-- The link carried the calls of one job, from this stage on, of a worker with this ident.
+abbrev pub Settles : (List Call → Type 0) → Bytes → Stage → Result Turn WorkFault → Type 0
+Settles Carried ident from result = (w : Settings) → w.ident ≡ ident → (cs : List Call) × Carried cs × JobTranscript w from (map asked cs) result
+
+-- The words are those of a line that leads from this stage to the release of this payload.
+abbrev pub Places : {E : Type 0} → Stage → Result (List Bytes) E → Answer → Bytes → Turn → Type 0
+Places from words wanted c t =
+    (request : List Bytes) × IfOk words (λ ws. ws ≡ request) × ((w : Settings) → Line w from request wanted (λ _. releasing c t))

@@ -1,32 +1,47 @@
 -- What a worker's turn is: it fetches, and then works on the oldest job that it holds.
-use Rattle.std.specs.Prelude.{◌≡◌, ℕ, List, [], ◌∷◌, ◌++◌, Result, Ok, Err, MatchOption, IfSome, IfOk, slice_get}
+use Rattle.std.specs.Prelude.{◌≡◌, ℕ, Bool, true, false, List, [], ◌∷◌, ◌++◌, Option, Result, Ok, Err, MatchOption, IfSome, slice_get, codes}
 use Rattle.std.specs.List.{AllByRecursion}
+use Rattle.sk_base.specs.Yields.{YieldsAll}
 use Rattle.sk_resp.specs.Spelling.{Bytes}
+use Rattle.sk_payload.specs.declared.head.Head.{Head}
 use Rattle.sk_link.specs.Call.{Call}
-use Rattle.sk_link.specs.declared.link.LinkFault.{LinkFault}
-use Rattle.sk_worker.specs.Event.{Event, Choice, calls, runs, moments, words, choices}
-use Rattle.sk_worker.specs.Fetching.{FetchStep, FetchLine, fetched, fetch_start}
-use Rattle.sk_worker.specs.Run.{Run, place_of}
-use Rattle.sk_worker.specs.Stage.{Settings, holding, JobTranscript}
 use Rattle.sk_link.specs.Walk.{Walk}
-use Rattle.sk_worker.specs.Broken.{Broken}
+use Rattle.sk_link.specs.declared.asking.Answer.TheVariants as answer
+use Rattle.sk_policy.specs.Order.{Order}
+use Rattle.sk_worker.specs.Event.{Event, Choice, calls, runs, moments, words, choices}
+use Rattle.sk_worker.specs.Fetching.{FetchStep, FetchTranscript, fetched, fetch_start}
+use Rattle.sk_worker.specs.Forms.{EmptyForm}
+use Rattle.sk_worker.specs.Request.{script_words}
+use Rattle.sk_worker.specs.Run.{Run, place_of}
+use Rattle.sk_worker.specs.Stage.{Settings, Stage, Line, failed, holding, JobTranscript}
+use Rattle.sk_worker.specs.declared.job.Raised.{Raised}
 use Rattle.sk_worker.specs.declared.turn.Turn.{Turn}
 use Rattle.sk_worker.specs.declared.turn.Turn.TheVariants as turn
 use Rattle.sk_worker.specs.declared.turn.WorkFault.{WorkFault}
+use Rattle.sk_worker.specs.declared.turn.WorkFault.TheVariants as fault
 
--- The events of a turn that began with these payloads in hand, and the payloads that are in hand where it has an answer.
-pub data TurnTranscript (Gave : LinkFault → Type 0) (w : Settings) (before : List Bytes) :
-    List Event → List Bytes → Result Turn WorkFault → Type 0 where
+-- what a worker holds after it worked on this job: the others, and where a fault broke that off, this job too
+abbrev pub left : Bytes → List Bytes → Result Turn WorkFault → List Bytes
+left c others (Ok t) = others
+left c others (Err f) = c ∷ others
+
+-- The events of a turn that began with these payloads in hand, and the payloads that are in hand after it: those that were held and fetched, and not
+-- released.
+pub data TurnTranscript (w : Settings) (before : List Bytes) : List Event → List Bytes → Result Turn WorkFault → Type 0 where
   -- broken off while it fetched
   unfetched : (events : List Event) (after : List Bytes) (f : WorkFault) →
-      Broken Gave (FetchLine w) (FetchStep w) (λ _. ⊥) (fetch_start w before) events f → TurnTranscript Gave w before events after (Err f)
-  -- nothing is held after fetching
-  empty : (events : List Event) →
-      Walk (FetchStep w) (fetch_start w before) events (fetched []) → TurnTranscript Gave w before events [] (Ok turn.Empty)
-  -- the oldest job, and the others stay in hand
+      FetchTranscript w (fetch_start w before) events after (Err f) → TurnTranscript w before events after (Err f)
+  -- it held nothing, and each queue was empty
+  empty : (events : List Event) → EmptyForm w before events → TurnTranscript w before events [] (Ok turn.Empty)
+  -- it works on the oldest job
   job : (first rest : List Event) (c : Bytes) (others after : List Bytes) (result : Result Turn WorkFault) →
-      Walk (FetchStep w) (fetch_start w before) first (fetched (c ∷ others)) → JobTranscript Gave w (holding c) rest result →
-      IfOk result (λ _. after ≡ others) → TurnTranscript Gave w before (first ++ rest) after result
+      Walk (FetchStep w) (fetch_start w before) first (fetched (c ∷ others)) → JobTranscript w (holding c) rest result →
+      after ≡ left c others result → TurnTranscript w before (first ++ rest) after result
+
+-- A worker that has ended does nothing in its turn.
+abbrev pub TurnOf : Bool → Settings → List Bytes → List Event → List Bytes → Result Turn WorkFault → Type 0
+TurnOf true w before events after result = (events ≡ []) × (after ≡ before) × (result ≡ Err fault.Ended)
+TurnOf false w before events after result = TurnTranscript w before events after result
 
 -- Each of the objects that a turn meets has its part in the events: the link, the jobs, the clock, the dice and the delay rules.
 pub record Parts (OfLink : List Call → Type 0) (OfJobs : List Run → Type 0) (OfClock OfDice : List ℕ → Type 0) (OfRules : List Choice → Type 0)
@@ -42,3 +57,31 @@ pub record RulesAnswered {R : Type 0} (Answers : R → ℕ → ℕ → Type 0) (
     (choices : List Choice) : Type 0 where
   pub each : AllByRecursion (λ choice. MatchOption (place_of classes choice.class) (Answers plain choice.count choice.delay)
       (λ i. IfSome (slice_get rules i) (λ rule. Answers rule choice.count choice.delay))) choices
+
+-- ## What functions promise, by what the objects did that they met
+
+-- Work on one job, from this stage on, of a worker with this ident and these classes.
+abbrev pub Works : (List Event → Type 0) → Bytes → List Bytes → Stage → Result Turn WorkFault → Type 0
+Works Met ident classes from result = (w : Settings) → w.ident ≡ ident → w.classes ≡ classes →
+    (events : List Event) × Met events × JobTranscript w from events result
+
+-- The same of a job whose run failed, for which no classes are looked at.
+abbrev pub Recovers : (List Event → Type 0) → Bytes → Stage → Result Turn WorkFault → Type 0
+Recovers Met ident from result = (w : Settings) → w.ident ≡ ident → (events : List Event) × Met events × JobTranscript w from events result
+
+-- The same from each stage on from which SK.FAIL of this job goes out.
+abbrev pub Fails : (List Event → Type 0) → Bytes → Bytes → Head → Raised → Result Turn WorkFault → Type 0
+Fails Met ident c h r result = (w : Settings) (from : Stage) → w.ident ≡ ident →
+    Line w from (script_words (codes "SK.FAIL") c) answer.List (λ _. failed c h r) → (events : List Event) × Met events × JobTranscript w from events result
+
+-- The fetching of a turn, with these payloads held before and after.
+abbrev pub Fills : (List Call → Type 0) → Option (ℕ → ℕ) → Option (ℕ → ℕ) → Bytes → Order → ℕ → List Bytes → List Bytes →
+    Result (Unit {0}) WorkFault → Type 0
+Fills Carried words words_after ident order prefetch before after result = (w : Settings) → w.ident ≡ ident → w.prefetch ≡ prefetch → w.order ≡ order →
+    (events : List Event)
+    × Parts Carried (λ rs. rs ≡ []) (λ ms. ms ≡ []) (λ ws. YieldsAll words ws words_after) (λ cs. cs ≡ []) events
+    × FetchTranscript w (fetch_start w before) events after result
+
+-- A turn, by whether the worker had ended, with these payloads held before and after.
+abbrev pub Took : (List Event → Type 0) → Bool → Settings → List Bytes → List Bytes → Result Turn WorkFault → Type 0
+Took Met ended w before after result = (events : List Event) × Met events × TurnOf ended w before events after result

@@ -1,13 +1,7 @@
 // How a worker fetches, and what it holds afterwards.
-ghost use Rattle.std.specs.Prelude.{◌≡◌, ◌<◌, ◌++◌, [], ◌∷◌, List, All, OnOk, length, map, slice_index_or};
-ghost use Rattle.sk_base.specs.Yields.{YieldsAll};
-ghost use Rattle.sk_link.specs.Call.{Call};
-ghost use Rattle.sk_link.specs.Fault.{IsCause};
-ghost use Rattle.sk_worker.specs.Event.{Event, asked};
-ghost use Rattle.sk_worker.specs.Fetching.{FetchTranscript, FetchStage, fetch_start, if_room, next_queue};
-ghost use Rattle.sk_link.specs.Walk.{GoesOn};
-ghost use Rattle.sk_worker.specs.Stage.{Settings};
-ghost use Rattle.sk_worker.specs.Turn.{Parts};
+ghost use Rattle.std.specs.Prelude.{◌≡◌, ◌<◌, ◌++◌, [], ◌∷◌, All, OnErr, OnOk, length};
+ghost use Rattle.sk_worker.specs.Fetching.{Fetches, asking_at};
+ghost use Rattle.sk_worker.specs.Turn.{Fills};
 
 use crate::Memory;
 use crate::say::{fetch_request, say};
@@ -31,11 +25,7 @@ fn fetch<L: Link>(
     held: &mut VecDeque<Payload>,
 ) -> Result<(), WorkFault>
     requires { All (λ place. place < length names.now) places.now }
-    ensures told { (w : Settings) → w.ident ≡ ident.now → w.prefetch ≡ prefetch → (cs : List Call) × L.carried link.old link.new cs
-        × FetchTranscript (IsCause (L.faults link.old) (L.faults link.new) (L.has_ended link.old) (L.unread link.new))
-        w (if_room prefetch held.old.items (next_queue (map (λ place. slice_index_or names.now place []) places.now) held.old.items))
-        (map asked cs) held.new.items result }
-    ensures on { OnOk result (GoesOn (L.faults link.old) (L.faults link.new) (L.has_ended link.old) (L.has_ended link.new)) }
+    ensures { Fetches (L.carried link.old link.new) ident.now prefetch (asking_at prefetch names.now places.now held.old.items) held.new.items result }
 {
     if held.len() >= prefetch {
         return Ok(());
@@ -59,7 +49,8 @@ fn fetch<L: Link>(
 
 // Holds what was fetched, as the newest.
 fn keep(alloc: Global, held: &mut VecDeque<Payload>, text: Word) -> Result<(), Memory>
-    ensures { OnOk result (held.new.items ≡ held.old.items ++ text ∷ []) }
+    ensures ok { OnOk result (held.new.items ≡ held.old.items ++ text ∷ []) }
+    ensures err { OnErr result (held.new.items ≡ held.old.items) }
 {
     held.push_back(Payload::of(alloc, text)?)?;
     Ok(())
@@ -75,12 +66,8 @@ pub(crate) fn fill<L: Link, D: Dice>(
     prefetch: usize,
     held: &mut VecDeque<Payload>,
 ) -> Result<(), WorkFault>
-    ensures told { (w : Settings) → w.ident ≡ ident.now → w.prefetch ≡ prefetch → w.order ≡ order.now → (events : List Event)
-        × Parts (λ cs. L.carried link.old link.new cs) (λ rs. rs ≡ []) (λ ms. ms ≡ [])
-        (λ ws. YieldsAll (D.words dice.old) ws (D.words dice.new)) (λ cs. cs ≡ []) events
-        × FetchTranscript (IsCause (L.faults link.old) (L.faults link.new) (L.has_ended link.old) (L.unread link.new))
-        w (fetch_start w held.old.items) events held.new.items result }
-    ensures on { OnOk result (GoesOn (L.faults link.old) (L.faults link.new) (L.has_ended link.old) (L.has_ended link.new)) }
+    ensures { Fills (L.carried link.old link.new) (D.words dice.old) (D.words dice.new)
+        ident.now order.now prefetch held.old.items held.new.items result }
 {
     if prefetch <= held.len() {
         return Ok(());

@@ -1,13 +1,8 @@
 // How a worker gives back what it holds.
-ghost use Rattle.std.specs.Prelude.{◌≡◌, ◌+◌, ◌<◌, ◌≤◌, ◌^◌, ◌∷◌, [], ℕ, List, OnOk, IfOk, None, map};
+ghost use Rattle.std.specs.Prelude.{◌≡◌, ◌+◌, ◌<◌, ◌≤◌, ◌^◌, ◌∷◌, IfOk, None};
 ghost use Rattle.std.specs.VecDeque.{deque_len};
-ghost use Rattle.sk_resp.specs.Spelling.{Bytes};
 ghost use Rattle.sk_payload.specs.Head.{head as head_of};
-ghost use Rattle.sk_link.specs.Call.{Call};
-ghost use Rattle.sk_link.specs.Fault.{IsCause};
-ghost use Rattle.sk_worker.specs.Event.{asked};
-ghost use Rattle.sk_worker.specs.Leaving.{LeaveTranscript, BackTranscript, buried, given_back, leaving};
-ghost use Rattle.sk_link.specs.Walk.{GoesOn};
+ghost use Rattle.sk_worker.specs.Leaving.{GivesBack, Leaves, buried, given_back, leaving};
 
 use crate::say::{release_request, say, script};
 use crate::turn::WorkFault;
@@ -24,10 +19,7 @@ fn release<L: Link>(
     ident: &Text,
     job: &Payload,
 ) -> Result<u64, WorkFault>
-    ensures told { (others : List Bytes) (count : ℕ) → (cs : List Call) × L.carried link.old link.new cs
-        × BackTranscript (IsCause (L.faults link.old) (L.faults link.new) (L.has_ended link.old) (L.unread link.new))
-        ident.now (buried job.now others count) others count (map asked cs) result }
-    ensures on { OnOk result (GoesOn (L.faults link.old) (L.faults link.new) (L.has_ended link.old) (L.has_ended link.new)) }
+    ensures told { GivesBack (λ cs. L.carried link.old link.new cs) ident.now job.now (buried job.now) result }
     ensures most { IfOk result (λ n. n ≤ 1) }
 {
     let words = release_request(alloc, ident, job);
@@ -40,14 +32,11 @@ fn release<L: Link>(
 // Buries a job without a head.
 fn bury<L: Link>(alloc: Global, link: &mut L, ident: &Text, job: &Payload) -> Result<u64, WorkFault>
     requires { head_of job.now ≡ None }
-    ensures told { (others : List Bytes) (count : ℕ) → (cs : List Call) × L.carried link.old link.new cs
-        × BackTranscript (IsCause (L.faults link.old) (L.faults link.new) (L.has_ended link.old) (L.unread link.new))
-        ident.now (leaving (job.now ∷ others) count) others count (map asked cs) result }
-    ensures on { OnOk result (GoesOn (L.faults link.old) (L.faults link.new) (L.has_ended link.old) (L.has_ended link.new)) }
+    ensures told { GivesBack (λ cs. L.carried link.old link.new cs) ident.now job.now (λ others count. leaving (job.now ∷ others) count) result }
     ensures most { IfOk result (λ n. n ≤ 1) }
 {
     let words = script(alloc, b"SK.BURY", job);
-    match say(alloc, link, words, Answer::List) {
+    match say(alloc, link, words, Answer::Report) {
         Ok(_) => release(alloc, link, ident, job),
         Err(fault) => Err(fault),
     }
@@ -71,10 +60,7 @@ fn give_back<L: Link>(
     ident: &Text,
     job: &Payload,
 ) -> Result<u64, WorkFault>
-    ensures told { (others : List Bytes) (count : ℕ) → (cs : List Call) × L.carried link.old link.new cs
-        × BackTranscript (IsCause (L.faults link.old) (L.faults link.new) (L.has_ended link.old) (L.unread link.new))
-        ident.now (leaving (job.now ∷ others) count) others count (map asked cs) result }
-    ensures on { OnOk result (GoesOn (L.faults link.old) (L.faults link.new) (L.has_ended link.old) (L.has_ended link.new)) }
+    ensures told { GivesBack (λ cs. L.carried link.old link.new cs) ident.now job.now (λ others count. leaving (job.now ∷ others) count) result }
     ensures most { IfOk result (λ n. n ≤ 1) }
 {
     let Some(_) = job.head() else {
@@ -96,16 +82,16 @@ pub(crate) fn give_back_all<L: Link>(
     count: u64,
 ) -> Result<u64, WorkFault>
     requires { count + deque_len held.old < 2 ^ 64 }
-    ensures told { (cs : List Call) × L.carried link.old link.new cs
-        × LeaveTranscript (IsCause (L.faults link.old) (L.faults link.new) (L.has_ended link.old) (L.unread link.new))
-        ident.now (leaving held.old.items count) (map asked cs) result }
-    ensures held { OnOk result (held.new.items ≡ []) }
+    ensures { Leaves (λ cs. L.carried link.old link.new cs) ident.now (leaving held.old.items count) held.new.items result }
 {
-    let Some(job) = held.pop_front() else {
-        return Ok(count);
-    };
-    match give_back(alloc, link, ident, &job) {
-        Ok(n) => give_back_all(alloc, link, ident, held, count + n),
-        Err(fault) => Err(fault),
+    match held.front() {
+        None => Ok(count),
+        Some(job) => match give_back(alloc, link, ident, job) {
+            Ok(n) => {
+                held.pop_front();
+                give_back_all(alloc, link, ident, held, count + n)
+            }
+            Err(fault) => Err(fault),
+        },
     }
 }

@@ -1,7 +1,7 @@
 // The jobs by class.
 ghost use Rattle.std.specs.Prelude.{◌≡◌, ◌<◌, ◌≤◌, ◌↔◌, ◌++◌, ℕ, List, [], ◌∷◌, Option, Some, None, Err, IfOk, OnOk, OnErr, IsSome, length, map, vec_len, bytes_eq};
 ghost use Rattle.sk_base.specs.Outside.{Takes};
-ghost use Rattle.sk_worker.specs.Run.{RunsTold, place_of};
+ghost use Rattle.sk_worker.specs.Run.{RunTold, RunsTold, place_of};
 
 use crate::Memory;
 use crate::job::{Job, Outcome};
@@ -147,8 +147,7 @@ pub fn run_at(
 ) -> Result<Outcome, Memory>
     requires there { place < length slots.old }
     requires place { place_of classes.now head.now.class ≡ Some place }
-    ensures ran { IfOk result (λ outcome. RunsTold classes.now (record { head = head.now; outcome = outcome } ∷ [])
-        (map (λ slot. runs slot.job) slots.old) (map (λ slot. runs slot.job) slots.new)) }
+    ensures ran { IfOk result (RunTold classes.now head.now (map (λ slot. runs slot.job) slots.old) (map (λ slot. runs slot.job) slots.new)) }
     ensures err { OnErr result (RunsTold classes.now [] (map (λ slot. runs slot.job) slots.old) (map (λ slot. runs slot.job) slots.new)) }
 {
     run_one(alloc, &mut slots[place], head)

@@ -1,15 +1,11 @@
 // The run of a job, and what a worker does after one that failed.
-ghost use Rattle.std.specs.Prelude.{◌≡◌, ◌≤◌, [], List, IfOk, codes, length, map};
+ghost use Rattle.std.specs.Prelude.{◌≡◌, ◌≤◌, [], IfOk, length, map};
 ghost use Rattle.std.specs.List.{AllByRecursion};
 ghost use Rattle.sk_base.specs.Yields.{YieldsAll};
-ghost use Rattle.sk_link.specs.Fault.{IsCause};
-ghost use Rattle.sk_link.specs.declared.asking.Answer.TheVariants as answer;
-ghost use Rattle.sk_worker.specs.Event.{Event};
-ghost use Rattle.sk_worker.specs.Request.{script_words};
-ghost use Rattle.sk_worker.specs.Run.{RunsTold};
-ghost use Rattle.sk_worker.specs.Stage.{JobTranscript, Line, Stage, Settings, failed, holding, started, unknown as unknown_class};
-ghost use Rattle.sk_worker.specs.Turn.{Parts, RulesAnswered};
 ghost use Rattle.sk_base.specs.declared.limits.TheConstants.{LAST_GENERATION};
+ghost use Rattle.sk_worker.specs.Run.{RunsTold};
+ghost use Rattle.sk_worker.specs.Stage.{failed, holding, started, unknown as unknown_class};
+ghost use Rattle.sk_worker.specs.Turn.{Fails, Parts, Recovers, RulesAnswered, Works};
 
 use crate::Memory;
 use crate::job::{Outcome, Raised};
@@ -37,13 +33,11 @@ fn choose<L: Link, C: Clock, D: Dice>(
     raised: &Raised,
 ) -> Result<Turn, WorkFault>
     requires { head.now.gen_ ≤ LAST_GENERATION }
-    ensures { (w : Settings) → w.ident ≡ ident.now → (events : List Event)
-        × Parts (λ cs. L.carried link.old link.new cs) (λ rs. rs ≡ [])
+    ensures { Recovers (λ events. Parts (λ cs. L.carried link.old link.new cs) (λ rs. rs ≡ [])
         (λ ms. YieldsAll (C.moments clock.old) ms (C.moments clock.new)) (λ ws. YieldsAll (D.words dice.old) ws (D.words dice.new))
         (λ cs. AllByRecursion (λ choice. (choice.class ≡ head.now.class)
-        × ⟦<Box<dyn Fn(u32) -> u64 + Send> as Fn(u32) -> u64>⟧.post rule.now.rule choice.count choice.delay) cs) events
-        × JobTranscript (IsCause (L.faults link.old) (L.faults link.new) (L.has_ended link.old) (L.unread link.new))
-        w (failed held.now head.now raised.now) events result }
+        × ⟦<Box<dyn Fn(u32) -> u64 + Send> as Fn(u32) -> u64>⟧.post rule.now.rule choice.count choice.delay) cs) events)
+        ident.now (failed held.now head.now raised.now) result }
 {
     let now = clock.now();
     let word = dice.word();
@@ -65,14 +59,11 @@ fn fail<L: Link, C: Clock, D: Dice>(
     raised: &Raised,
 ) -> Result<Turn, WorkFault>
     requires { head.now.gen_ ≤ LAST_GENERATION }
-    ensures { (w : Settings) (from : Stage) → w.ident ≡ ident.now
-        → Line w from (script_words (codes "SK.FAIL") held.now) answer.List (λ _. failed held.now head.now raised.now) → (events : List Event)
-        × Parts (λ cs. L.carried link.old link.new cs) (λ rs. rs ≡ [])
+    ensures { Fails (λ events. Parts (λ cs. L.carried link.old link.new cs) (λ rs. rs ≡ [])
         (λ ms. YieldsAll (C.moments clock.old) ms (C.moments clock.new)) (λ ws. YieldsAll (D.words dice.old) ws (D.words dice.new))
         (λ cs. AllByRecursion (λ choice. (choice.class ≡ head.now.class)
-        × ⟦<Box<dyn Fn(u32) -> u64 + Send> as Fn(u32) -> u64>⟧.post rule.now.rule choice.count choice.delay) cs) events
-        × JobTranscript (IsCause (L.faults link.old) (L.faults link.new) (L.has_ended link.old) (L.unread link.new))
-        w from events result }
+        × ⟦<Box<dyn Fn(u32) -> u64 + Send> as Fn(u32) -> u64>⟧.post rule.now.rule choice.count choice.delay) cs) events)
+        ident.now held.now head.now raised.now result }
 {
     let words = script(alloc, b"SK.FAIL", held);
     match say(alloc, link, words, Answer::List) {
@@ -108,14 +99,12 @@ fn attend<L: Link, C: Clock, D: Dice>(
     requires count { head.now.gen_ ≤ LAST_GENERATION }
     requires slots { length classes.now ≡ length slots.old }
     requires rules { length classes.now ≡ length rules.now }
-    ensures { (w : Settings) → w.ident ≡ ident.now → w.classes ≡ classes.now → (events : List Event)
-        × Parts (λ cs. L.carried link.old link.new cs)
+    ensures { Works (λ events. Parts (λ cs. L.carried link.old link.new cs)
         (λ rs. RunsTold classes.now rs (map (λ slot. runs slot.job) slots.old) (map (λ slot. runs slot.job) slots.new))
         (λ ms. YieldsAll (C.moments clock.old) ms (C.moments clock.new)) (λ ws. YieldsAll (D.words dice.old) ws (D.words dice.new))
         (λ cs. RulesAnswered (λ rule count delay. ⟦<Box<dyn Fn(u32) -> u64 + Send> as Fn(u32) -> u64>⟧.post rule.rule count delay)
-        classes.now rules.now plain.now cs) events
-        × JobTranscript (IsCause (L.faults link.old) (L.faults link.new) (L.has_ended link.old) (L.unread link.new))
-        w (started held.now head.now) events result }
+        classes.now rules.now plain.now cs) events)
+        ident.now classes.now (started held.now head.now) result }
 {
     match classes.find(&head.class) {
         None => match unknown(alloc, head) {
@@ -153,14 +142,12 @@ pub(crate) fn work<L: Link, C: Clock, D: Dice>(
 ) -> Result<Turn, WorkFault>
     requires slots { length classes.now ≡ length slots.old }
     requires rules { length classes.now ≡ length rules.now }
-    ensures { (w : Settings) → w.ident ≡ ident.now → w.classes ≡ classes.now → (events : List Event)
-        × Parts (λ cs. L.carried link.old link.new cs)
+    ensures { Works (λ events. Parts (λ cs. L.carried link.old link.new cs)
         (λ rs. RunsTold classes.now rs (map (λ slot. runs slot.job) slots.old) (map (λ slot. runs slot.job) slots.new))
         (λ ms. YieldsAll (C.moments clock.old) ms (C.moments clock.new)) (λ ws. YieldsAll (D.words dice.old) ws (D.words dice.new))
         (λ cs. RulesAnswered (λ rule count delay. ⟦<Box<dyn Fn(u32) -> u64 + Send> as Fn(u32) -> u64>⟧.post rule.rule count delay)
-        classes.now rules.now plain.now cs) events
-        × JobTranscript (IsCause (L.faults link.old) (L.faults link.new) (L.has_ended link.old) (L.unread link.new))
-        w (holding held.now) events result }
+        classes.now rules.now plain.now cs) events)
+        ident.now classes.now (holding held.now) result }
 {
     let Some(head) = held.head() else {
         return bury_bare(alloc, link, ident, held);

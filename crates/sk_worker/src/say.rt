@@ -1,9 +1,7 @@
 // The requests of a worker, and how it asks them.
 ghost use Rattle.std.specs.Prelude.{◌≡◌, ◌++◌, List, IfOk, OnOk, map};
 ghost use Rattle.sk_resp.specs.Spelling.{Bytes};
-ghost use Rattle.sk_link.specs.Fault.{IsCause};
 ghost use Rattle.sk_worker.specs.Request.{fetch_words, join_words, release_words, retry_words, script_words};
-ghost use Rattle.sk_link.specs.Walk.{GoesOn};
 ghost use Rattle.sk_worker.specs.Saying.{Says};
 
 use crate::Memory;
@@ -80,10 +78,8 @@ pub(crate) fn say<L: Link>(
     words: Result<Words, Memory>,
     wanted: Answer,
 ) -> Result<Reply, WorkFault>
-    ensures says { (request : List Bytes) → IfOk words (λ words. words ≡ request)
-        → Says (IsCause (L.faults link.old) (L.faults link.new) (L.has_ended link.old) (L.unread link.new))
-        (λ calls. L.carried link.old link.new calls) request wanted result }
-    ensures on { OnOk result (GoesOn (L.faults link.old) (L.faults link.new) (L.has_ended link.old) (L.has_ended link.new)) }
+    ensures { (request : List Bytes) → IfOk words (λ words. words ≡ request)
+        → Says (λ calls. L.carried link.old link.new calls) request wanted result }
 {
     let Ok(words) = words else {
         return Err(WorkFault::Memory);

@@ -1,11 +1,7 @@
 // What a worker does with a job that it holds. Each function asks once and hands on to the next.
-ghost use Rattle.std.specs.Prelude.{◌≡◌, List, None, IfOk, map};
-ghost use Rattle.sk_resp.specs.Spelling.{Bytes};
+ghost use Rattle.std.specs.Prelude.{◌≡◌, None};
 ghost use Rattle.sk_payload.specs.Head.{head as head_of};
-ghost use Rattle.sk_link.specs.Call.{Call};
-ghost use Rattle.sk_link.specs.Fault.{IsCause};
-ghost use Rattle.sk_worker.specs.Event.{asked};
-ghost use Rattle.sk_worker.specs.Stage.{JobTranscript, Line, Stage, Settings, decided, holding, releasing, returned};
+ghost use Rattle.sk_worker.specs.Stage.{Places, Settles, Stage, decided, holding, releasing, returned};
 
 use crate::Memory;
 use crate::job::Raised;
@@ -25,9 +21,7 @@ fn release<L: Link>(
     held: &Payload,
     turn: Turn,
 ) -> Result<Turn, WorkFault>
-    ensures { (w : Settings) → w.ident ≡ ident.now → (cs : List Call) × L.carried link.old link.new cs
-        × JobTranscript (IsCause (L.faults link.old) (L.faults link.new) (L.has_ended link.old) (L.unread link.new))
-        w (releasing held.now turn) (map asked cs) result }
+    ensures { Settles (λ cs. L.carried link.old link.new cs) ident.now (releasing held.now turn) result }
 {
     let words = release_request(alloc, ident, held);
     match say(alloc, link, words, Answer::Number) {
@@ -46,11 +40,7 @@ fn place<L: Link>(
     wanted: Answer,
     turn: Turn,
 ) -> Result<Turn, WorkFault>
-    ensures { (w : Settings) (from : Stage) (request : List Bytes) → w.ident ≡ ident.now → IfOk words (λ words. words ≡ request)
-        → Line w from request wanted (λ _. releasing held.now turn)
-        → (cs : List Call) × L.carried link.old link.new cs
-        × JobTranscript (IsCause (L.faults link.old) (L.faults link.new) (L.has_ended link.old) (L.unread link.new))
-        w from (map asked cs) result }
+    ensures { (from : Stage) → Places from words wanted held.now turn → Settles (λ cs. L.carried link.old link.new cs) ident.now from result }
 {
     match say(alloc, link, words, wanted) {
         Ok(_) => release(alloc, link, ident, held, turn),
@@ -66,12 +56,18 @@ pub(crate) fn bury_bare<L: Link>(
     held: &Payload,
 ) -> Result<Turn, WorkFault>
     requires { head_of held.now ≡ None }
-    ensures { (w : Settings) → w.ident ≡ ident.now → (cs : List Call) × L.carried link.old link.new cs
-        × JobTranscript (IsCause (L.faults link.old) (L.faults link.new) (L.has_ended link.old) (L.unread link.new))
-        w (holding held.now) (map asked cs) result }
+    ensures { Settles (λ cs. L.carried link.old link.new cs) ident.now (holding held.now) result }
 {
     let words = script(alloc, b"SK.BURY", held);
-    place(alloc, link, ident, held, words, Answer::List, Turn::Buried)
+    place(
+        alloc,
+        link,
+        ident,
+        held,
+        words,
+        Answer::Report,
+        Turn::Buried,
+    )
 }
 
 /// Tells the store that the run returned.
@@ -81,9 +77,7 @@ pub(crate) fn finish<L: Link>(
     ident: &Text,
     held: &Payload,
 ) -> Result<Turn, WorkFault>
-    ensures { (w : Settings) → w.ident ≡ ident.now → (cs : List Call) × L.carried link.old link.new cs
-        × JobTranscript (IsCause (L.faults link.old) (L.faults link.new) (L.has_ended link.old) (L.unread link.new))
-        w (returned held.now) (map asked cs) result }
+    ensures { Settles (λ cs. L.carried link.old link.new cs) ident.now (returned held.now) result }
 {
     let words = script(alloc, b"SK.OK", held);
     place(alloc, link, ident, held, words, Answer::List, Turn::Done)
@@ -99,9 +93,7 @@ pub(crate) fn put_away<L: Link>(
     now: u64,
     decision: Decision,
 ) -> Result<Turn, WorkFault>
-    ensures { (w : Settings) → w.ident ≡ ident.now → (cs : List Call) × L.carried link.old link.new cs
-        × JobTranscript (IsCause (L.faults link.old) (L.faults link.new) (L.has_ended link.old) (L.unread link.new))
-        w (decided held.now raised.now now decision) (map asked cs) result }
+    ensures { Settles (λ cs. L.carried link.old link.new cs) ident.now (decided held.now raised.now now decision) result }
 {
     match decision {
         Decision::Discard => {
@@ -120,7 +112,15 @@ pub(crate) fn put_away<L: Link>(
             match held.failed(alloc, now, raised.class.text(), raised.message.text()) {
                 Ok(next) => {
                     let words = script(alloc, b"SK.BURY", &next);
-                    place(alloc, link, ident, held, words, Answer::List, Turn::Buried)
+                    place(
+                        alloc,
+                        link,
+                        ident,
+                        held,
+                        words,
+                        Answer::Report,
+                        Turn::Buried,
+                    )
                 }
                 Err(EditFault::GenLimit) => Err(WorkFault::GenLimit),
                 Err(_) => Err(WorkFault::Memory),

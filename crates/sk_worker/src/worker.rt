@@ -1,17 +1,13 @@
 // A worker: who it is, the queues that it asks, the jobs that it holds, and whether it has ended.
-ghost use Rattle.std.specs.Prelude.{◌≡◌, ◌≤◌, [], List, false, Err, OnOk, map};
-ghost use Rattle.std.specs.Bool.{MatchBool};
+ghost use Rattle.std.specs.Prelude.{◌≡◌, ◌≤◌, ◌||◌, [], false, map};
 ghost use Rattle.std.specs.Result.{is_err};
 ghost use Rattle.sk_base.specs.Yields.{YieldsAll};
-ghost use Rattle.sk_link.specs.Call.{Call};
-ghost use Rattle.sk_link.specs.Fault.{IsCause};
-ghost use Rattle.sk_worker.specs.Event.{Event, asked};
-ghost use Rattle.sk_worker.specs.Leaving.{LeaveTranscript, leaving};
-ghost use Rattle.sk_worker.specs.Run.{RunsTold};
-ghost use Rattle.sk_worker.specs.Saying.{Joins};
-ghost use Rattle.sk_worker.specs.Stage.{Settings};
-ghost use Rattle.sk_worker.specs.Turn.{Parts, RulesAnswered, TurnTranscript};
 ghost use Rattle.sk_base.specs.declared.limits.TheConstants.{MOST_PREFETCH};
+ghost use Rattle.sk_worker.specs.Broken.{is_lost};
+ghost use Rattle.sk_worker.specs.Leaving.{LeaveOf};
+ghost use Rattle.sk_worker.specs.Run.{RunsTold};
+ghost use Rattle.sk_worker.specs.Saying.{JoinOf};
+ghost use Rattle.sk_worker.specs.Turn.{Parts, RulesAnswered, Took};
 
 use crate::fetch::fill;
 use crate::leave::give_back_all;
@@ -37,10 +33,12 @@ pub struct Worker {
     pub plain: DelayRule,
     /// How many jobs it holds at most, from 1 to 16.
     pub prefetch: usize,
-    /// The jobs that it fetched and didn't work on yet, the oldest first. They stand in its private list.
+    /// The jobs that it fetched and didn't release yet, the oldest first. They stand in its private list.
     pub held: VecDeque<Payload>,
     /// It had a fault.
     pub ended: bool,
+    ghost some: { 1 ≤ prefetch },
+    ghost most: { prefetch ≤ MOST_PREFETCH },
 }
 
 // A turn of a worker that hasn't ended.
@@ -56,32 +54,36 @@ fn take<L: Link, C: Clock, D: Dice>(
     prefetch: usize,
     held: &mut VecDeque<Payload>,
 ) -> Result<Turn, WorkFault>
-    ensures told { (events : List Event)
-        × Parts (λ cs. L.carried link.old link.new cs)
+    requires { 1 ≤ prefetch }
+    ensures told { Took (λ events. Parts (λ cs. L.carried link.old link.new cs)
         (λ rs. RunsTold registry.old.classes rs
         (map (λ slot. runs slot.job) registry.old.slots.items) (map (λ slot. runs slot.job) registry.new.slots.items))
         (λ ms. YieldsAll (C.moments clock.old) ms (C.moments clock.new)) (λ ws. YieldsAll (D.words dice.old) ws (D.words dice.new))
         (λ cs. RulesAnswered (λ rule count delay. ⟦<Box<dyn Fn(u32) -> u64 + Send> as Fn(u32) -> u64>⟧.post rule.rule count delay)
-        registry.old.classes registry.old.rules.items plain.now cs) events
-        × TurnTranscript (IsCause (L.faults link.old) (L.faults link.new) (L.has_ended link.old) (L.unread link.new))
-        (record { ident = ident.now; order = order.now; prefetch = prefetch; classes = registry.old.classes })
-        held.old.items events held.new.items result }
+        registry.old.classes registry.old.rules.items plain.now cs) events)
+        false (record { ident = ident.now; order = order.now; prefetch = prefetch; classes = registry.old.classes })
+        held.old.items held.new.items result }
     ensures classes { registry.new.classes ≡ registry.old.classes }
+    ensures rules { registry.new.rules ≡ registry.old.rules }
 {
     match fill(alloc, link, dice, ident, order, prefetch, held) {
         Ok(()) => {}
         Err(fault) => return Err(fault),
     }
-    match held.pop_front() {
-        Some(job) => {
-            let classes = &registry.classes;
-            let rules = &registry.rules;
-            let slots = &mut registry.slots;
-            work(
-                alloc, link, clock, dice, classes, slots, rules, plain, ident, &job,
-            )
-        }
+    let classes = &registry.classes;
+    let rules = &registry.rules;
+    let slots = &mut registry.slots;
+    match held.front() {
         None => Ok(Turn::Empty),
+        Some(job) => match work(
+            alloc, link, clock, dice, classes, slots, rules, plain, ident, job,
+        ) {
+            Ok(turn) => {
+                held.pop_front();
+                Ok(turn)
+            }
+            Err(fault) => Err(fault),
+        },
     }
 }
 
@@ -116,10 +118,14 @@ impl Worker {
     /// `SK.JOIN ident`: the seat behind this link becomes this worker's. After a fault the worker has ended.
     pub fn join<L: Link>(&mut self, alloc: Global, link: &mut L) -> Result<(), WorkFault>
         requires { 0 ≤ 1 }
-        ensures told { MatchBool self.old.ended (L.carried link.old link.new [] × (result ≡ Err WorkFault.Ended))
-            (Joins (IsCause (L.faults link.old) (L.faults link.new) (L.has_ended link.old) (L.unread link.new))
-            (λ calls. L.carried link.old link.new calls) self.old.ident result) }
-        ensures ends { self.new ≡ record self.old { ended = is_err result } }
+        ensures told { JoinOf self.old.ended (λ calls. L.carried link.old link.new calls) self.old.ident result }
+        ensures ends { self.new.ended ≡ is_err result }
+        ensures held { self.new.held.items ≡ self.old.held.items }
+        ensures link { L.has_ended link.new ≡ (L.has_ended link.old || is_lost result) }
+        ensures ident { self.new.ident ≡ self.old.ident }
+        ensures order { self.new.order ≡ self.old.order }
+        ensures plain { self.new.plain ≡ self.old.plain }
+        ensures prefetch { self.new.prefetch ≡ self.old.prefetch }
     {
         if self.ended {
             return Err(WorkFault::Ended);
@@ -141,7 +147,8 @@ impl Worker {
     /// runs the job of the head's class. After a run that returned it says SK.OK. After one that raised an error it says SK.FAIL, reads the clock,
     /// draws one word for the jitter, and puts the job where [`sk_policy::decide`] says: by `ZADD retry`, SK.BURY or SK.DROP. A class without a job
     /// counts as raised, with the class `UnknownClass`, the job's class as message, and the plain rule. At last it takes the job out of its private
-    /// list by LREM. After a fault the worker has ended.
+    /// list by LREM. After a fault the worker has ended. It holds then what it held and fetched and didn't release, the oldest first; only where
+    /// there was no memory the payload that it fetched last may be missing. The registry's classes and delay rules stay as they are.
     pub fn turn<L: Link, C: Clock, D: Dice>(
         &mut self,
         alloc: Global,
@@ -151,20 +158,22 @@ impl Worker {
         dice: &mut D,
     ) -> Result<Turn, WorkFault>
         requires { 0 ≤ 1 }
-        ensures told { (events : List Event)
-            × Parts (λ cs. L.carried link.old link.new cs)
+        ensures told { Took (λ events. Parts (λ cs. L.carried link.old link.new cs)
             (λ rs. RunsTold registry.old.classes rs
             (map (λ slot. runs slot.job) registry.old.slots.items) (map (λ slot. runs slot.job) registry.new.slots.items))
             (λ ms. YieldsAll (C.moments clock.old) ms (C.moments clock.new)) (λ ws. YieldsAll (D.words dice.old) ws (D.words dice.new))
             (λ cs. RulesAnswered (λ rule count delay. ⟦<Box<dyn Fn(u32) -> u64 + Send> as Fn(u32) -> u64>⟧.post rule.rule count delay)
-            registry.old.classes registry.old.rules.items self.old.plain cs) events
-            × MatchBool self.old.ended ((events ≡ []) × (result ≡ Err WorkFault.Ended))
-            (TurnTranscript (IsCause (L.faults link.old) (L.faults link.new) (L.has_ended link.old) (L.unread link.new))
-            (record { ident = self.old.ident; order = self.old.order; prefetch = self.old.prefetch; classes = registry.old.classes })
-            self.old.held.items events self.new.held.items result) }
+            registry.old.classes registry.old.rules.items self.old.plain cs) events)
+            self.old.ended (record { ident = self.old.ident; order = self.old.order; prefetch = self.old.prefetch; classes = registry.old.classes })
+            self.old.held.items self.new.held.items result }
         ensures classes { registry.new.classes ≡ registry.old.classes }
+        ensures rules { registry.new.rules ≡ registry.old.rules }
         ensures ends { self.new.ended ≡ is_err result }
-        ensures same { self.new ≡ record self.old { held = self.new.held; ended = self.new.ended } }
+        ensures link { L.has_ended link.new ≡ (L.has_ended link.old || is_lost result) }
+        ensures ident { self.new.ident ≡ self.old.ident }
+        ensures order { self.new.order ≡ self.old.order }
+        ensures plain { self.new.plain ≡ self.old.plain }
+        ensures prefetch { self.new.prefetch ≡ self.old.prefetch }
     {
         if self.ended {
             return Err(WorkFault::Ended);
@@ -186,16 +195,17 @@ impl Worker {
     }
 
     /// Gives back the jobs that it holds, the oldest first, by SK.BACK, and answers how many went back. A job that a rescue took away doesn't, and one
-    /// without a head is buried and taken out of the private list. After a fault the worker has ended.
+    /// without a head is buried and taken out of the private list. After a fault the worker has ended, and holds the jobs that it didn't give back or
+    /// take out.
     pub fn leave<L: Link>(&mut self, alloc: Global, link: &mut L) -> Result<u64, WorkFault>
         requires { 0 ≤ 1 }
-        ensures told { MatchBool self.old.ended (L.carried link.old link.new [] × (result ≡ Err WorkFault.Ended))
-            ((cs : List Call) × L.carried link.old link.new cs
-            × LeaveTranscript (IsCause (L.faults link.old) (L.faults link.new) (L.has_ended link.old) (L.unread link.new))
-            self.old.ident (leaving self.old.held.items 0) (map asked cs) result) }
-        ensures held { OnOk result (self.new.held.items ≡ []) }
+        ensures told { LeaveOf (λ cs. L.carried link.old link.new cs) self.old.ended self.old.ident self.old.held.items self.new.held.items result }
         ensures ends { self.new.ended ≡ is_err result }
-        ensures same { self.new ≡ record self.old { held = self.new.held; ended = self.new.ended } }
+        ensures link { L.has_ended link.new ≡ (L.has_ended link.old || is_lost result) }
+        ensures ident { self.new.ident ≡ self.old.ident }
+        ensures order { self.new.order ≡ self.old.order }
+        ensures plain { self.new.plain ≡ self.old.plain }
+        ensures prefetch { self.new.prefetch ≡ self.old.prefetch }
     {
         if self.ended {
             return Err(WorkFault::Ended);

@@ -1,19 +1,22 @@
-use Rattle.std.proofs.Common.{◌≡◌, ◌∙◌, ◌<◌, [], ◌∷◌, map, refl, sym, subst, ap, arith}
-use Rattle.sk_link.specs.Fault.{IsCause}
+use Rattle.std.proofs.Common.{◌≡◌, ◌∙◌, ◌<◌, [], ◌∷◌, inl, map, refl, sym, subst, ap, arith}
 use Rattle.sk_policy.specs.Order.{draws, queues_in}
 use Rattle.sk_worker.specs.Event.{asked, ordered}
 use Rattle.sk_worker.specs.Fetching.{FetchStep, FetchTranscript, begins, next_queue, if_room, fetch_start, orders}
-use Rattle.sk_worker.proofs.Events.{parts_order}
-use Rattle.sk_worker.proofs.Fetches.{named, fetch_after, room}
-use Rattle.sk_link.proofs.Walks.{stays_on}
+use Rattle.sk_worker.proofs.Events.{parts_calls, parts_order}
+use Rattle.sk_worker.proofs.Fetches.{hand_start, named, fetch_after, room}
 use Rattle.sk_worker.proofs.fetch.fill.Goals as goal
 
-pub returns-in-Ok-clause-told : goal.returns-in-Ok-clause-told
-returns-in-Ok-clause-told g c = λ w e p o.
+pub returns-in-Err : goal.returns-in-Err
+returns-in-Err g c = λ w e p o.
+    let held = c.args.held.now.items in
+    ([], parts_calls [] (g.met.L.Link.carried_none _) refl refl c.in-Err.ensures.err refl, (fetch_start w held, refl, inl (sym (hand_start w held))))
+
+pub returns-in-Ok : goal.returns-in-Ok
+returns-in-Ok g c = λ w e p o.
     let order = c.args.order.now in
     let held = c.args.held.now.items in
     let turn = c.in-Ok.ensures.ok in
-    let u = c.fetch.ensures.told w e p in
+    let u = c.fetch.ensures w e p in
     let has_room : c.len.result < c.args.prefetch = c.if-prefetch-len.false in
     let names = c.names.result.now in
     let places_ = c.deref.result.now in
@@ -26,8 +29,6 @@ returns-in-Ok-clause-told g c = λ w e p o.
     subst (λ stage. FetchStep w (begins held) (ordered turn.0) stage) (ap (λ d. next_queue (queues_in d turn.0) held) o ∙ sym asks) (orders turn.0 held (turn.2 ∙ ap draws (sym o))) in (
       ordered turn.0 ∷ map asked u.0,
       parts_order turn.0 u.0 u.1 turn.1,
-      subst (λ stage. FetchTranscript (IsCause (g.L.Link.faults c.args.link.now) (g.L.Link.faults c.fetch.new.link) (g.L.Link.has_ended c.args.link.now) (g.L.Link.unread c.fetch.new.link)) w stage
-          (ordered turn.0 ∷ map asked u.0) c.fetch.new.held.items c.fetch.result) starts
-          (fetch_after w (begins held) from (ordered turn.0 ∷ []) (map asked u.0) c.fetch.new.held.items c.fetch.result
-          _ _ (g.L.Link.faults c.fetch.new.link) _ _ (g.L.Link.unread c.fetch.new.link) (stays_on (g.L.Link.faults c.args.link.now) (g.L.Link.has_ended c.args.link.now)) (from, step, refl) u.2),
+      subst (λ stage. FetchTranscript w stage (ordered turn.0 ∷ map asked u.0) c.fetch.new.held.items c.fetch.result) starts
+          (fetch_after w (begins held) from (ordered turn.0 ∷ []) (map asked u.0) c.fetch.new.held.items c.fetch.result (from, step, refl) u.2),
     )

@@ -1,5 +1,5 @@
-use Rattle.sk_worker.proofs.EmptyTurns.{an_empty_turn}
+use Rattle.sk_worker.proofs.Quiet.{empty_turn}
 use Rattle.sk_worker.proofs.laws.an_empty_turn_found_each_queue_empty.Goals as goal
 
 pub returns : goal.returns
-returns c = an_empty_turn
+returns c = empty_turn

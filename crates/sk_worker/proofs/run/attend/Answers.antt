@@ -1,8 +1,6 @@
 use Rattle.std.proofs.Common.{◌≡◌, ◌∙◌, [], ◌∷◌, map, refl, subst, sym, ap, codes, length, Some, None, slice_get, bytes_eq}
 use Rattle.std.proofs.lemmas.List.Quantifiers.{position-Some}
 use Rattle.std.proofs.lemmas.Option.{slice_get_read}
-use Rattle.sk_link.specs.Fault.{IsCause}
-use Rattle.sk_link.specs.declared.link.LinkFault.{LinkFault}
 use Rattle.sk_link.specs.declared.asking.Answer.TheVariants as answer
 use Rattle.sk_worker.specs.Run.{Run, place_of}
 use Rattle.sk_worker.specs.Request.{script_words}
@@ -38,15 +36,12 @@ pub returns-in-Returned : goal.returns-in-Returned
 returns-in-Returned g c = λ w e k.
     let here : place_of c.args.classes.now c.args.head.now.class ≡ Some c.in-Some.place = sym c.in-Some.ensures in
     let run : Run = record { head = c.args.head.now; outcome = c.in-Ok-run_at.outcome } in
-    let t = c.finish.ensures w e in
-    let before = c.args.link.now in
-    let after = c.finish.new.link in
-    let Gave : LinkFault → Type 0 = IsCause (g.L.Link.faults before) (g.L.Link.faults after) (g.L.Link.has_ended before) (g.L.Link.unread after) in (
+    let t = c.finish.ensures w e in (
       ran run ∷ map asked t.0,
       parts_ran run t.0 t.1 c.in-Ok-run_at.ensures.ran refl refl (record { each = tt }),
-      job_later Gave w (started c.args.held.now c.args.head.now) (ended c.args.held.now c.args.head.now c.in-Ok-run_at.outcome) (ran run ∷ []) (map asked t.0) c.finish.result
+      job_later w (started c.args.held.now c.args.head.now) (ended c.args.held.now c.args.head.now c.in-Ok-run_at.outcome) (ran run ∷ []) (map asked t.0) c.finish.result
           (_, runs c.args.held.now c.args.head.now c.in-Ok-run_at.outcome (is_some _ c.in-Some.place (subst (λ cl. place_of cl c.args.head.now.class ≡ Some c.in-Some.place) (sym k) here)), refl)
-          (subst (λ o. JobTranscript Gave w (ended c.args.held.now c.args.head.now o) (map asked t.0) c.finish.result) (sym c.in-Returned.is) t.2),
+          (subst (λ o. JobTranscript w (ended c.args.held.now c.args.head.now o) (map asked t.0) c.finish.result) (sym c.in-Returned.is) t.2),
     )
 
 pub returns-in-Raised : goal.returns-in-Raised
@@ -54,9 +49,6 @@ returns-in-Raised g c = λ w e k.
     let here : place_of c.args.classes.now c.args.head.now.class ≡ Some c.in-Some.place = sym c.in-Some.ensures in
     let run : Run = record { head = c.args.head.now; outcome = c.in-Ok-run_at.outcome } in
     let t = c.fail-in-Raised.ensures w (raised c.args.held.now c.args.head.now c.in-Raised.raised) e (fail_row c.args.held.now c.args.head.now c.in-Raised.raised) in
-    let before = c.args.link.now in
-    let after = c.fail-in-Raised.new.link in
-    let Gave : LinkFault → Type 0 = IsCause (g.L.Link.faults before) (g.L.Link.faults after) (g.L.Link.has_ended before) (g.L.Link.unread after) in
     let below = (position-Some (bytes_eq c.args.head.now.class) c.args.classes.now c.in-Some.place [] here).0 in (
       ran run ∷ t.0,
       parts_run run t.0
@@ -67,7 +59,7 @@ returns-in-Raised g c = λ w e k.
                 (match_some _ _ (slice_get c.args.rules.now c.in-Some.place) c.index-rules-place.result (slice_get_read c.args.rules.now (length c.args.classes.now) c.in-Some.place c.index-rules-place.result c.requires.rules below c.index-rules-place.is) p.1)) (choices t.0) h;
           })
           t.1,
-      job_later Gave w (started c.args.held.now c.args.head.now) (ended c.args.held.now c.args.head.now c.in-Ok-run_at.outcome) (ran run ∷ []) t.0 c.fail-in-Raised.result
+      job_later w (started c.args.held.now c.args.head.now) (ended c.args.held.now c.args.head.now c.in-Ok-run_at.outcome) (ran run ∷ []) t.0 c.fail-in-Raised.result
           (_, runs c.args.held.now c.args.head.now c.in-Ok-run_at.outcome (is_some _ c.in-Some.place (subst (λ cl. place_of cl c.args.head.now.class ≡ Some c.in-Some.place) (sym k) here)), refl)
-          (subst (λ o. JobTranscript Gave w (ended c.args.held.now c.args.head.now o) t.0 c.fail-in-Raised.result) (sym c.in-Raised.is) t.2),
+          (subst (λ o. JobTranscript w (ended c.args.held.now c.args.head.now o) t.0 c.fail-in-Raised.result) (sym c.in-Raised.is) t.2),
     )

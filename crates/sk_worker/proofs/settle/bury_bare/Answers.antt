@@ -4,4 +4,4 @@ use Rattle.sk_worker.specs.Stage.{holding, bury_bare as the_row}
 use Rattle.sk_worker.proofs.settle.bury_bare.Goals as goal
 
 pub returns : goal.returns
-returns g c = λ w e. c.place.ensures w (holding c.args.held.now) (script_words (codes "SK.BURY") c.args.held.now) e c.script-words.ensures (the_row c.args.held.now c.requires)
+returns g c = c.place.ensures (holding c.args.held.now) (script_words (codes "SK.BURY") c.args.held.now, c.script-words.ensures, λ w. the_row c.args.held.now c.requires)

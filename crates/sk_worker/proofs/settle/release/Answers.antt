@@ -1,5 +1,5 @@
 use Rattle.std.proofs.Common.{[], ◌∷◌}
-use Rattle.sk_link.specs.Fault.{IsCause}
+use Rattle.sk_link.specs.Call.{answered}
 use Rattle.sk_link.specs.declared.asking.Answer.TheVariants as answer
 use Rattle.sk_worker.specs.Request.{release_words}
 use Rattle.sk_worker.specs.Stage.{releasing, over}
@@ -9,8 +9,8 @@ use Rattle.sk_worker.proofs.settle.release.Goals as goal
 pub returns-in-Ok : goal.returns-in-Ok
 returns-in-Ok g c = λ w e.
     let request = release_words c.args.ident.now c.args.held.now in
-    let s = c.in-Ok.ensures.says request c.release_request-words.ensures in (
-      record { request = request; reply = c.in-Ok.field-0 } ∷ [],
+    let s = c.in-Ok.ensures request c.release_request-words.ensures in (
+      answered request c.in-Ok.field-0 ∷ [],
       s.0,
       said w (releasing c.args.held.now c.args.turn) request answer.Number _ c.in-Ok.field-0 (released w _ _ _ e) s.1,
     )
@@ -18,8 +18,6 @@ returns-in-Ok g c = λ w e.
 pub returns : goal.returns
 returns g c = λ w e.
     let request = release_words c.args.ident.now c.args.held.now in
-    let before = c.args.link.now in
-    let after = c.say.new.link in
-    job_unsaid (IsCause (g.L.Link.faults before) (g.L.Link.faults after) (g.L.Link.has_ended before) (g.L.Link.unread after)) (λ cs. g.L.Link.carried before after cs) w
+    job_unsaid (λ cs. g.L.Link.carried c.args.link.now c.say.new.link cs) w
     (releasing c.args.held.now c.args.turn) request answer.Number (λ _. over c.args.turn) c.in-Err.fault (released w _ _ _ e)
-    (c.in-Err.ensures.says request c.release_request-words.ensures)
+    (c.in-Err.ensures request c.release_request-words.ensures)
