@@ -1,2 +1,4 @@
+pub mod Reports
 pub mod Polls
+pub mod TurnForms
 pub mod Drafts

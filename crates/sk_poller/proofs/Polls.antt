@@ -1,128 +1,40 @@
--- How the turn of a poller goes on, and how a fault ends it.
-use Rattle.std.proofs.Common.{◌&&◌, ◌≡◌, ◌∙◌, ◌≤◌, ◌-◌, ℕ, Bool, true, false, List, [], ◌∷◌, ◌++◌, map, take, drop, length, get_or, refl, sym, subst, ap, Option, Some, None, Result, Ok, Err, append_assoc, arith}
-use Rattle.sk_base.specs.Yields.{YieldsAll}
+-- How a turn of a poller goes on, event by event, and how it ends.
+use Rattle.std.proofs.Common.{◌≡◌, ◌∙◌, ◌≤◌, ◌<◌, ◌+◌, ◌*◌, ◌^◌, ◌||◌, ℕ, Bool, true, false, List, [], ◌∷◌, ◌++◌, length, refl, sym, subst, ap, Option, Some, None, Result, Ok, Err, arith, option_map, if◌then◌else◌}
+use Rattle.std.specs.Prelude.{ok_or}
+use Rattle.std.specs.Result.{IsErr, IsErrAnd, is_err}
+use Rattle.sk_base.specs.Yields.{Yields, YieldsAll}
 use Rattle.sk_resp.specs.Spelling.{Bytes}
 use Rattle.sk_resp.specs.declared.reply.Reply.{Reply}
-use Rattle.sk_link.proofs.Walks.{walk-append, cause_before}
+use Rattle.sk_link.proofs.Walks.{walk-append}
 use Rattle.sk_link.specs.Asking.{is_okay}
-use Rattle.sk_link.specs.Call.{Call}
-use Rattle.sk_link.specs.Fault.{IsCause}
+use Rattle.sk_link.specs.Call.{Call, answered, has_lost, lost}
 use Rattle.sk_link.specs.Report.{report_of}
-use Rattle.sk_link.specs.Walk.{GoesOn, Walk}
+use Rattle.sk_link.specs.Walk.{Walk}
 use Rattle.sk_link.specs.declared.link.LinkFault.{LinkFault}
+use Rattle.sk_link.specs.declared.report.Report.{Report}
+use Rattle.sk_poller.proofs.Reports.{reported}
+use Rattle.sk_poller.specs.Counts.{nothing, add_due, add_rescued, add_pushed}
 use Rattle.sk_poller.specs.Event.{Event, asked, read, slot, drew, calls, moments, words}
+use Rattle.sk_poller.specs.Loop.{Remaining, job_text}
 use Rattle.sk_poller.specs.Passed.{is_passed, lead_of}
-use Rattle.sk_poller.specs.Stage.{Watch, Stage, Step, Leads, asks, request_of, Refuses, PollTranscript, Parts, Sends, over, beating, scheduled, retries, rescuing, leading, pushing, looking, next_loop, beat, promote, retry, rescue, lead, follow, push, pass}
+use Rattle.sk_poller.specs.Stage.{Watch, Step, reads, asks, looks, draws, after, request_at, resting, next_loop, Ends, PollTranscript, Parts, PollTurn, Answers, HasRoom, is_lost}
 use Rattle.sk_poller.specs.declared.poller.Loop.{Loop}
 use Rattle.sk_poller.specs.declared.report.PollFault.{PollFault}
 use Rattle.sk_poller.specs.declared.report.PollFault.TheVariants as fault
 use Rattle.sk_poller.specs.declared.report.PollReport.{PollReport}
-use Rattle.std.specs.List.{list_all}
-use Rattle.std.proofs.lemmas.Grind.{common_steps}
-use Rattle.std.proofs.lemmas.Bool.{true≢false}
-
--- A request with a reply that leads on.
-pub answered : (w : Watch) (from : Stage) (request : List Bytes) (r : Reply) (next : Stage) → request_of w from ≡ Some request → Leads w from r next →
-    Walk (Step w) from (asked (record { request = request; reply = r }) ∷ []) next
-answered w from request r next is leads = (next, asks from request r next is leads, refl)
-
--- A request that had no reply.
-pub unsent : (Gave : LinkFault → Type 0) (P : List Call → Type 0) (w : Watch) (from : Stage) (request : List Bytes) (f : PollFault) →
-    Sends Gave P request (Err f) → (cs : List Call) × P cs × PollTranscript Gave w from (map asked cs) (Err f)
-unsent Gave P w from request (fault.Link l) s = ([], s.0, (from, refl, s.1))
-unsent Gave P w from request (fault.Refused r) s = absurd s
-unsent Gave P w from request fault.Memory s = ([], s, (from, refl))
-
--- A reply that leads nowhere.
-pub refused : (w : Watch) (from : Stage) (request : List Bytes) (r : Reply) → request_of w from ≡ Some request → ((next : Stage) → Leads w from r next → ⊥) →
-    Refuses w from (asked (record { request = request; reply = r }) ∷ []) r
-refused w from request r is none = record { done = []; stage = from; walk = refl; request = request; asks_it = is; refused = none; are = refl }
-
--- What is told from a stage on is told from an earlier one, with the events that lead there, after calls without a fault.
-pub poll_after : (w : Watch) (from mid : Stage) (xs ys : List Event) (result : Result PollReport PollFault) (before between now_ : ℕ) (ended mid_ended : Bool) (unread : Option Bytes) →
-    GoesOn before between ended mid_ended → Walk (Step w) from xs mid →
-    PollTranscript (IsCause between now_ mid_ended unread) w mid ys result → PollTranscript (IsCause before now_ ended unread) w from (xs ++ ys) result
-poll_after w from mid xs ys (Ok n) before between now_ ended mid_ended unread on p q = walk-append (Step w) from mid (over n) xs ys p q
-poll_after w from mid xs ys (Err (fault.Link l)) before between now_ ended mid_ended unread on p q =
-    (q.0, walk-append (Step w) from mid q.0 xs ys p q.1, cause_before before between now_ ended mid_ended unread on l q.2)
-poll_after w from mid xs ys (Err (fault.Refused r)) before between now_ ended mid_ended unread on p q = record {
-  done = xs ++ q.done;
-  stage = q.stage;
-  walk = walk-append (Step w) from mid q.stage xs q.done p q.walk;
-  request = q.request;
-  asks_it = q.asks_it;
-  refused = q.refused;
-  are = ap (λ es. xs ++ es) q.are ∙ sym (append_assoc xs q.done _);
-}
-poll_after w from mid xs ys (Err fault.Memory) before between now_ ended mid_ended unread on p q = (q.0, walk-append (Step w) from mid q.0 xs ys p q.1)
-
--- ## Replies that lead nowhere
-
-pub no_beat : (w : Watch) (now_ : ℕ) (r : Reply) → is_okay r ≡ false → (next : Stage) → Leads w (beating now_) r next → ⊥
-no_beat w now_ r never next (beat now0 r0 ok) = true≢false (sym ok ∙ never)
-
-pub no_promote : (w : Watch) (now_ : ℕ) (n : PollReport) (r : Reply) → report_of r ≡ None → (next : Stage) → Leads w (scheduled now_ n) r next → ⊥
-no_promote w now_ n r never next (promote now0 n0 r0 report is) = let bad : Some report ≡ None = sym is ∙ never in cc
-
-pub no_retry : (w : Watch) (now_ : ℕ) (n : PollReport) (r : Reply) → report_of r ≡ None → (next : Stage) → Leads w (retries now_ n) r next → ⊥
-no_retry w now_ n r never next (retry now0 n0 r0 report is) = let bad : Some report ≡ None = sym is ∙ never in cc
-
-pub no_rescue : (w : Watch) (now_ : ℕ) (n : PollReport) (r : Reply) → report_of r ≡ None → (next : Stage) → Leads w (rescuing now_ n) r next → ⊥
-no_rescue w now_ n r never next (rescue now0 n0 r0 report is) = let bad : Some report ≡ None = sym is ∙ never in cc
-
-pub no_lead : (w : Watch) (now_ : ℕ) (n : PollReport) (r : Reply) → lead_of r ≡ None → (next : Stage) → Leads w (leading now_ n) r next → ⊥
-no_lead w now_ n r never next (lead now0 n0 r0 is) = let bad : Some true ≡ None = sym is ∙ never in cc
-no_lead w now_ n r never next (follow now0 n0 r0 is) = let bad : Some false ≡ None = sym is ∙ never in cc
-
-pub no_push : (w : Watch) (now_ : ℕ) (request : List Bytes) (loops : List Loop) (n : PollReport) (r : Reply) → is_okay r ≡ false → is_passed r ≡ false →
-    (next : Stage) → Leads w (pushing now_ request loops n) r next → ⊥
-no_push w now_ request loops n r okay passed next (push now0 request0 loops0 n0 r0 ok) = true≢false (sym ok ∙ okay)
-no_push w now_ request loops n r okay passed next (pass now0 request0 loops0 n0 r0 ok) = true≢false (sym ok ∙ passed)
+use Rattle.sk_poller.specs.declared.stage.Stage.{Stage}
+use Rattle.sk_poller.specs.declared.stage.Stage.TheVariants.{Resting, Beating, Scheduled, Retries, Rescuing, Leading, Looking, Due, Pushing, Over}
 
 -- ## What events are to each object
 
-pub calls-asked : (cs : List Call) → calls (map asked cs) ≡ cs
-calls-asked [] = refl
-calls-asked (c ∷ cs) = ap (λ es. c ∷ es) (calls-asked cs)
-
-pub moments-asked : (cs : List Call) → moments (map asked cs) ≡ []
-moments-asked [] = refl
-moments-asked (c ∷ cs) = moments-asked cs
-
-pub words-asked : (cs : List Call) → words (map asked cs) ≡ []
-words-asked [] = refl
-words-asked (c ∷ cs) = words-asked cs
-
--- calls alone
-pub parts_calls : {P : List Call → Type 0} {W : List ℕ → Type 0} (cs : List Call) → P cs → W [] → Parts P (λ ms. ms ≡ []) W (map asked cs)
-parts_calls {P} {W} cs p w = record { link = subst P (sym (calls-asked cs)) p; clock = moments-asked cs; dice = subst W (sym (words-asked cs)) w }
-
--- a call in front
-pub parts_call : {P P' : List Call → Type 0} {K W : List ℕ → Type 0} (call : Call) (es : List Event) → ((cs : List Call) → P' cs → P (call ∷ cs)) →
-    Parts P' K W es → Parts P K W (asked call ∷ es)
-parts_call call es more d = record { link = more (calls es) d.link; clock = d.clock; dice = d.dice }
-
--- a look at a loop's last slot in front
-pub parts_slot : {P : List Call → Type 0} {K W : List ℕ → Type 0} (last : Option ℕ) (es : List Event) → Parts P K W es → Parts P K W (slot last ∷ es)
-parts_slot last es d = record { link = d.link; clock = d.clock; dice = d.dice }
-
--- two words in front
-pub parts_drew : {P : List Call → Type 0} {K W W' : List ℕ → Type 0} (first second : ℕ) (es : List Event) → ((ws : List ℕ) → W' ws → W (first ∷ second ∷ ws)) →
-    Parts P K W' es → Parts P K W (drew first second ∷ es)
-parts_drew first second es more d = record { link = d.link; clock = d.clock; dice = more (words es) d.dice }
-
--- the moment in front
-pub parts_read : {P : List Call → Type 0} {K W : List ℕ → Type 0} (now_ : ℕ) (es : List Event) → K (now_ ∷ []) → Parts P (λ ms. ms ≡ []) W es → Parts P K W (read now_ ∷ es)
-parts_read {P} {K} {W} now_ es k d = record { link = d.link; clock = subst (λ ms. K (now_ ∷ ms)) (sym d.clock) k; dice = d.dice }
-
-calls-append : (xs ys : List Event) → calls (xs ++ ys) ≡ calls xs ++ calls ys
+pub calls-append : (xs ys : List Event) → calls (xs ++ ys) ≡ calls xs ++ calls ys
 calls-append [] ys = refl
 calls-append (read now_ ∷ xs) ys = calls-append xs ys
 calls-append (asked call ∷ xs) ys = ap (λ cs. call ∷ cs) (calls-append xs ys)
 calls-append (slot last ∷ xs) ys = calls-append xs ys
 calls-append (drew first second ∷ xs) ys = calls-append xs ys
 
-moments-append : (xs ys : List Event) → moments (xs ++ ys) ≡ moments xs ++ moments ys
+pub moments-append : (xs ys : List Event) → moments (xs ++ ys) ≡ moments xs ++ moments ys
 moments-append [] ys = refl
 moments-append (read now_ ∷ xs) ys = ap (λ ms. now_ ∷ ms) (moments-append xs ys)
 moments-append (asked call ∷ xs) ys = moments-append xs ys
@@ -136,45 +48,301 @@ words-append (asked call ∷ xs) ys = words-append xs ys
 words-append (slot last ∷ xs) ys = words-append xs ys
 words-append (drew first second ∷ xs) ys = ap (λ ws. first ∷ second ∷ ws) (words-append xs ys)
 
-pub yields-append : (before : Option (ℕ → ℕ)) (xs : List ℕ) (mid : Option (ℕ → ℕ)) (ys : List ℕ) (after : Option (ℕ → ℕ)) →
-    YieldsAll before xs mid → YieldsAll mid ys after → YieldsAll before (xs ++ ys) after
-yields-append before [] mid ys after p q = subst (λ m. YieldsAll m ys after) p q
-yields-append before (x ∷ xs) mid ys after p q = (p.0, p.1, yields-append p.0 xs mid ys after p.2 q)
+yields-append : (before : Option (ℕ → ℕ)) (xs : List ℕ) (mid : Option (ℕ → ℕ)) (ys : List ℕ) (after_ : Option (ℕ → ℕ)) →
+    YieldsAll before xs mid → YieldsAll mid ys after_ → YieldsAll before (xs ++ ys) after_
+yields-append before [] mid ys after_ p q = subst (λ m. YieldsAll m ys after_) p q
+yields-append before (x ∷ xs) mid ys after_ p q = (p.0, p.1, yields-append p.0 xs mid ys after_ p.2 q)
 
--- events after others, neither of which read the clock
-pub parts_then : {P P' P'' : List Call → Type 0} {W W' W'' : List ℕ → Type 0} (xs ys : List Event) →
-    ((cs ds : List Call) → P' cs → P'' ds → P (cs ++ ds)) → ((ws vs : List ℕ) → W' ws → W'' vs → W (ws ++ vs)) →
-    Parts P' (λ ms. ms ≡ []) W' xs → Parts P'' (λ ms. ms ≡ []) W'' ys → Parts P (λ ms. ms ≡ []) W (xs ++ ys)
-parts_then {P} {P'} {P''} {W} {W'} {W''} xs ys links dices p q = record {
-  link = subst P (sym (calls-append xs ys)) (links (calls xs) (calls ys) p.link q.link);
-  clock = moments-append xs ys ∙ (ap (λ ms. ms ++ moments ys) p.clock ∙ q.clock);
-  dice = subst W (sym (words-append xs ys)) (dices (words xs) (words ys) p.dice q.dice);
+-- What link, clock and dice did for these events.
+pub record Met (Carried : List Call → Type 0) (k k' d d' : Option (ℕ → ℕ)) (events : List Event) : Type 0 where
+  pub link : Carried (calls events)
+  pub clock : YieldsAll k (moments events) k'
+  pub dice : YieldsAll d (words events) d'
+
+pub met_more : {P P' P'' : List Call → Type 0} {k k' k'' d d' d'' : Option (ℕ → ℕ)} (xs ys : List Event) →
+    ((cs ds : List Call) → P cs → P' ds → P'' (cs ++ ds)) → Met P k k' d d' xs → Met P' k' k'' d' d'' ys → Met P'' k k'' d d'' (xs ++ ys)
+met_more {P} {P'} {P''} {k} {k'} {k''} {d} {d'} {d''} xs ys more p q = record {
+  link = subst P'' (sym (calls-append xs ys)) (more (calls xs) (calls ys) p.link q.link);
+  clock = subst (λ ms. YieldsAll k ms k'') (sym (moments-append xs ys)) (yields-append k (moments xs) k' (moments ys) k'' p.clock q.clock);
+  dice = subst (λ ws. YieldsAll d ws d'') (sym (words-append xs ys)) (yields-append d (words xs) d' (words ys) d'' p.dice q.dice);
 }
 
--- ## Loops
+-- ## Replies that lead on
 
-pub first_loop : (now_ : ℕ) (loops : List Loop) (n : PollReport) (l : Loop) → 1 ≤ length loops → l ≡ get_or loops 0 l → next_loop now_ loops n ≡ looking now_ l (drop 1 loops) n
-first_loop now_ [] n l h e = let no : ⊥ = omega (arith, h) in absurd no
-first_loop now_ (m ∷ loops) n l h e = ap (λ k. looking now_ k loops n) (sym e)
+if_some : {A : Type 0} (b : Bool) (x y : A) → (if b then Some x else None) ≡ Some y → (b ≡ true) × (y ≡ x)
+if_some true x y e = let f : Some x ≡ Some y = e in (refl, cc)
+if_some false x y e = let f : None ≡ Some y = e in absurd (cc f)
 
-pub rest_is : {X : Type 0} (xs : List X) → take (length xs - 1) (drop 1 xs) ≡ drop 1 xs
-rest_is xs = grind (arith, common_steps)
+mapped : {A B : Type 0} (f : A → B) (o : Option A) (y : B) → option_map f o ≡ Some y → (a : A) × (o ≡ Some a) × (y ≡ f a)
+mapped f None y e = let g : None ≡ Some y = e in absurd (cc g)
+mapped f (Some a) y e = let g : Some (f a) ≡ Some y = e in (a, refl, cc)
 
-and_left : (a b : Bool) → (a && b) ≡ true → a ≡ true
-and_left true b h = refl
-and_left false b h = h
+-- Where a reply leads, by the stage that it is a reply to.
+pub data Leads (w : Watch) : Stage → Reply → Stage → Type 0 where
+  beat : (now_ : ℕ) (r : Reply) → is_okay r ≡ true → Leads w (Beating now_) r (Scheduled now_ nothing)
+  promote : (now_ : ℕ) (n : PollReport) (r : Reply) (report : Report) → report_of r ≡ Some report → Leads w (Scheduled now_ n) r (Retries now_ (add_due n report))
+  retry : (now_ : ℕ) (n : PollReport) (r : Reply) (report : Report) → report_of r ≡ Some report → Leads w (Retries now_ n) r (Rescuing now_ (add_due n report))
+  rescue : (now_ : ℕ) (n : PollReport) (r : Reply) (report : Report) → report_of r ≡ Some report → Leads w (Rescuing now_ n) r (Leading now_ (add_rescued n report))
+  lead : (now_ : ℕ) (n : PollReport) (r : Reply) → lead_of r ≡ Some true → Leads w (Leading now_ n) r (next_loop now_ w.loops n)
+  follow : (now_ : ℕ) (n : PollReport) (r : Reply) → lead_of r ≡ Some false → Leads w (Leading now_ n) r (Over n)
+  push : (now_ last : ℕ) (job : Bytes) (loops : Remaining) (n : PollReport) (r : Reply) → is_okay r ≡ true →
+      Leads w (Pushing now_ last job loops n) r (next_loop now_ loops.rest (add_pushed n))
+  pass : (now_ last : ℕ) (job : Bytes) (loops : Remaining) (n : PollReport) (r : Reply) → is_okay r ≡ false → is_passed r ≡ true →
+      Leads w (Pushing now_ last job loops n) r (next_loop now_ loops.rest n)
 
-and_right : (a b : Bool) → (a && b) ≡ true → b ≡ true
-and_right true b h = h
-and_right false b h = absurd (true≢false (sym h))
+lead_leads : (w : Watch) (now_ : ℕ) (n : PollReport) (r : Reply) (leads : Bool) → lead_of r ≡ Some leads →
+    Leads w (Leading now_ n) r (if leads then next_loop now_ w.loops n else Over n)
+lead_leads w now_ n r true e = lead now_ n r e
+lead_leads w now_ n r false e = follow now_ n r e
 
-pub first_passes : {X : Type 0} (p : X → Bool) (xs : List X) (x : X) → list_all p xs ≡ true → 1 ≤ length xs → x ≡ get_or xs 0 x → p x ≡ true
-first_passes p [] x all some is = let no : ⊥ = omega (arith, some) in absurd no
-first_passes p (y ∷ ys) x all some is = subst (λ z. p z ≡ true) (sym is) (and_left (p y) (list_all p ys) all)
+push_leads : (w : Watch) (now_ last : ℕ) (job : Bytes) (loops : Remaining) (n : PollReport) (r : Reply) (next : Stage) (okay passed : Bool) →
+    is_okay r ≡ okay → is_passed r ≡ passed →
+    (if okay then Some (next_loop now_ loops.rest (add_pushed n)) else if passed then Some (next_loop now_ loops.rest n) else None) ≡ Some next →
+    Leads w (Pushing now_ last job loops n) r next
+push_leads w now_ last job loops n r next true passed is is' e =
+    let f : Some (next_loop now_ loops.rest (add_pushed n)) ≡ Some next = e in
+    let same : next_loop now_ loops.rest (add_pushed n) ≡ next = cc f in
+    subst (λ s. Leads w (Pushing now_ last job loops n) r s) same (push now_ last job loops n r is)
+push_leads w now_ last job loops n r next false true is is' e =
+    let f : Some (next_loop now_ loops.rest n) ≡ Some next = e in
+    let same : next_loop now_ loops.rest n ≡ next = cc f in
+    subst (λ s. Leads w (Pushing now_ last job loops n) r s) same (pass now_ last job loops n r is is')
+push_leads w now_ last job loops n r next false false is is' e = let f : None ≡ Some next = e in absurd (cc f)
 
-others_pass : {X : Type 0} (p : X → Bool) (xs : List X) → list_all p xs ≡ true → list_all p (drop 1 xs) ≡ true
-others_pass p [] all = refl
-others_pass p (y ∷ ys) all = and_right (p y) (list_all p ys) all
+pub leads_on : (w : Watch) (from next : Stage) (r : Reply) → after w.loops from r ≡ Some next → Leads w from r next
+leads_on w Resting next r e = let f : None ≡ Some next = e in absurd (cc f)
+leads_on w (Beating now_) next r e =
+    let h = if_some (is_okay r) (Scheduled now_ nothing) next e in
+    subst (λ s. Leads w (Beating now_) r s) (sym h.1) (beat now_ r h.0)
+leads_on w (Scheduled now_ n) next r e =
+    let m = mapped (λ (report : Report). Retries now_ (add_due n report)) (report_of r) next e in
+    subst (λ s. Leads w (Scheduled now_ n) r s) (sym m.2) (promote now_ n r m.0 m.1)
+leads_on w (Retries now_ n) next r e =
+    let m = mapped (λ (report : Report). Rescuing now_ (add_due n report)) (report_of r) next e in
+    subst (λ s. Leads w (Retries now_ n) r s) (sym m.2) (retry now_ n r m.0 m.1)
+leads_on w (Rescuing now_ n) next r e =
+    let m = mapped (λ (report : Report). Leading now_ (add_rescued n report)) (report_of r) next e in
+    subst (λ s. Leads w (Rescuing now_ n) r s) (sym m.2) (rescue now_ n r m.0 m.1)
+leads_on w (Leading now_ n) next r e =
+    let m = mapped (λ (leads : Bool). if leads then next_loop now_ w.loops n else Over n) (lead_of r) next e in
+    subst (λ s. Leads w (Leading now_ n) r s) (sym m.2) (lead_leads w now_ n r m.0 m.1)
+leads_on w (Looking now_ loops n) next r e = let f : None ≡ Some next = e in absurd (cc f)
+leads_on w (Due now_ last loops n) next r e = let f : None ≡ Some next = e in absurd (cc f)
+leads_on w (Pushing now_ last job loops n) next r e = push_leads w now_ last job loops n r next (is_okay r) (is_passed r) refl refl e
+leads_on w (Over n) next r e = let f : None ≡ Some next = e in absurd (cc f)
 
-pub rest_passes : {X : Type 0} (p : X → Bool) (xs : List X) → list_all p xs ≡ true → list_all p (take (length xs - 1) (drop 1 xs)) ≡ true
-rest_passes p xs all = subst (λ ys. list_all p ys ≡ true) (sym (rest_is xs)) (others_pass p xs all)
+-- ## Measures and bounds
+
+-- how many events are left at most, where there are so many loops
+abbrev pub left : ℕ → Stage → ℕ
+left most Resting = 3 * most + 6
+left most (Beating now_) = 3 * most + 5
+left most (Scheduled now_ n) = 3 * most + 4
+left most (Retries now_ n) = 3 * most + 3
+left most (Rescuing now_ n) = 3 * most + 2
+left most (Leading now_ n) = 3 * most + 1
+left most (Looking now_ loops n) = 3 * length loops.rest + 3
+left most (Due now_ last loops n) = 3 * length loops.rest + 2
+left most (Pushing now_ last job loops n) = 3 * length loops.rest + 1
+left most (Over n) = 0
+
+next_left : (most now_ : ℕ) (loops : List Loop) (n : PollReport) → left most (next_loop now_ loops n) ≤ 3 * length loops
+next_left most now_ [] n = omega arith
+next_left most now_ (l ∷ loops) n = omega arith
+
+after_left : (w : Watch) (from next : Stage) (r : Reply) → Leads w from r next → left (length w.loops) next < left (length w.loops) from
+after_left w from next r (beat now_ r' okay) = omega arith
+after_left w from next r (promote now_ n r' report is) = omega arith
+after_left w from next r (retry now_ n r' report is) = omega arith
+after_left w from next r (rescue now_ n r' report is) = omega arith
+after_left w from next r (lead now_ n r' is) = let h = next_left (length w.loops) now_ w.loops n in omega (arith, h)
+after_left w from next r (follow now_ n r' is) = omega arith
+after_left w from next r (push now_ last job loops n r' is) = let h = next_left (length w.loops) now_ loops.rest (add_pushed n) in omega (arith, h)
+after_left w from next r (pass now_ last job loops n r' is is') = let h = next_left (length w.loops) now_ loops.rest n in omega (arith, h)
+
+pub step_left : (w : Watch) (from to : Stage) (event : Event) → Step w from event to → left (length w.loops) to < left (length w.loops) from
+step_left w from to event (reads now_) = omega arith
+step_left w from to event (asks from' next request r is leads) = after_left w from' next r (leads_on w from' next r leads)
+step_left w from to event (looks now_ loops n None is) = let h = next_left (length w.loops) now_ loops.rest n in omega (arith, h)
+step_left w from to event (looks now_ loops n (Some last) is) = omega arith
+step_left w from to event (draws now_ last loops n first second) = omega arith
+
+next_room : (now_ : ℕ) (loops : List Loop) (n : PollReport) → n.pushed + length loops < 2 ^ 64 → HasRoom (next_loop now_ loops n)
+next_room now_ [] n room = tt
+next_room now_ (l ∷ loops) n room = omega (arith, room)
+
+after_room : (w : Watch) (from next : Stage) (r : Reply) → length w.loops < 2 ^ 64 → Leads w from r next → HasRoom from → HasRoom next
+after_room w from next r few (beat now_ r' okay) room = refl
+after_room w from next r few (promote now_ n r' report is) room =
+    let h = reported r' report is in
+    let none : n ≡ nothing = room in
+    let promoted : n.promoted ≡ 0 = ap (λ m. m.promoted) none in
+    let buried : n.buried ≡ 0 = ap (λ m. m.buried) none in
+    (omega (arith, h.0, promoted), omega (arith, h.1, buried), ap (λ m. m.rescued) none, ap (λ m. m.pushed) none)
+after_room w from next r few (retry now_ n r' report is) room = let h = reported r' report is in (omega (arith, h.1, room.1), room.2, room.3)
+after_room w from next r few (rescue now_ n r' report is) room = room.2
+after_room w from next r few (lead now_ n r' is) room = next_room now_ w.loops n (omega (arith, few, room))
+after_room w from next r few (follow now_ n r' is) room = tt
+after_room w from next r few (push now_ last job loops n r' is) room = next_room now_ loops.rest (add_pushed n) (omega (arith, room))
+after_room w from next r few (pass now_ last job loops n r' is is') room = next_room now_ loops.rest n (omega (arith, room))
+
+pub step_room : (w : Watch) (from to : Stage) (event : Event) → length w.loops < 2 ^ 64 → Step w from event to → HasRoom from → HasRoom to
+step_room w from to event few (reads now_) room = tt
+step_room w from to event few (asks from' next request r is leads) room = after_room w from' next r few (leads_on w from' next r leads) room
+step_room w from to event few (looks now_ loops n None is) room = next_room now_ loops.rest n (omega (arith, room))
+step_room w from to event few (looks now_ loops n (Some last) is) room = room
+step_room w from to event few (draws now_ last loops n first second) room = room
+
+-- ## So far
+
+-- what a turn has done when it comes to a stage
+pub record SoFar (Carried : List Call → Type 0) (k k' d d' : Option (ℕ → ℕ)) (w : Watch) (stage : Stage) : Type 0 where
+  pub events : List Event
+  pub met : Met Carried k k' d d' events
+  pub walk : Walk (Step w) resting events stage
+  pub room : HasRoom stage
+
+pub at_stage : {P : List Call → Type 0} {k k' d d' : Option (ℕ → ℕ)} {w : Watch} {from stage : Stage} → from ≡ stage → SoFar P k k' d d' w from → SoFar P k k' d d' w stage
+at_stage {P} {k} {k'} {d} {d'} {w} is so_far = subst (λ s. SoFar P k k' d d' w s) is so_far
+
+pub begun : {P : List Call → Type 0} (w : Watch) (k d : Option (ℕ → ℕ)) → P [] → SoFar P k k d d w resting
+begun w k d none = record { events = []; met = record { link = none; clock = refl; dice = refl }; walk = refl; room = tt }
+
+one_more : {P P' P'' : List Call → Type 0} {k k' k'' d d' d'' : Option (ℕ → ℕ)} (w : Watch) (from to : Stage) (event : Event) →
+    length w.loops < 2 ^ 64 → ((cs ds : List Call) → P cs → P' ds → P'' (cs ++ ds)) → SoFar P k k' d d' w from →
+    Met P' k' k'' d' d'' (event ∷ []) → Step w from event to → SoFar P'' k k'' d d'' w to
+one_more w from to event few more so_far met step = record {
+  events = so_far.events ++ event ∷ [];
+  met = met_more so_far.events (event ∷ []) more so_far.met met;
+  walk = walk-append (Step w) resting from to so_far.events (event ∷ []) so_far.walk (to, step, refl);
+  room = step_room w from to event few step so_far.room;
+}
+
+append-none : {A : Type 0} (xs : List A) → xs ++ [] ≡ xs
+append-none [] = refl
+append-none (x ∷ xs) = ap (λ ys. x ∷ ys) (append-none xs)
+
+-- no call more
+without_calls : (P : List Call → Type 0) (cs ds : List Call) → P cs → ds ≡ [] → P (cs ++ ds)
+without_calls P cs ds p e = subst (λ es. P (cs ++ es)) (sym e) (subst P (sym (append-none cs)) p)
+
+pub after_read : {P : List Call → Type 0} {k k' k'' d d' : Option (ℕ → ℕ)} (w : Watch) (now_ : ℕ) → length w.loops < 2 ^ 64 →
+    SoFar P k k' d d' w Resting → Yields k' now_ k'' → SoFar P k k'' d d' w (Beating now_)
+after_read {P} w now_ few so_far yields =
+    one_more {P' = λ ds. ds ≡ []} w Resting (Beating now_) (read now_) few (without_calls P) so_far
+    (record { link = refl; clock = (_, yields, refl); dice = refl }) (reads now_)
+
+pub after_look : {P : List Call → Type 0} {k k' d d' : Option (ℕ → ℕ)} (w : Watch) (from to : Stage) → length w.loops < 2 ^ 64 →
+    SoFar P k k' d d' w from → (last : Option ℕ) × Step w from (slot last) to → SoFar P k k' d d' w to
+after_look {P} w from to few so_far (last, step) =
+    one_more {P' = λ ds. ds ≡ []} w from to (slot last) few (without_calls P) so_far (record { link = refl; clock = refl; dice = refl }) step
+
+pub after_draw : {P : List Call → Type 0} {k k' d d' d'' : Option (ℕ → ℕ)} (w : Watch) (now_ last : ℕ) (loops : Remaining) (n : PollReport) (first second : ℕ) →
+    length w.loops < 2 ^ 64 → SoFar P k k' d d' w (Due now_ last loops n) → YieldsAll d' (first ∷ second ∷ []) d'' →
+    SoFar P k k' d d'' w (Pushing now_ last (job_text loops.first first second now_) loops n)
+after_draw {P} w now_ last loops n first second few so_far yields =
+    one_more {P' = λ ds. ds ≡ []} w (Due now_ last loops n) (Pushing now_ last (job_text loops.first first second now_) loops n) (drew first second) few (without_calls P)
+    so_far (record { link = refl; clock = refl; dice = yields }) (draws now_ last loops n first second)
+
+pub after_answer : {P P' P'' : List Call → Type 0} {k k' d d' : Option (ℕ → ℕ)} (w : Watch) (from to : Stage) → length w.loops < 2 ^ 64 →
+    ((cs ds : List Call) → P cs → P' ds → P'' (cs ++ ds)) → SoFar P k k' d d' w from → Answers P' w from (Ok to) → SoFar P'' k k' d d' w to
+after_answer w from to few more so_far (request, r, step, carried) =
+    one_more w from to (asked (answered request r)) few more so_far (record { link = carried; clock = refl; dice = refl }) step
+
+-- What came of the request, where it was answered.
+pub answer : (P : List Call → Type 0) (w : Watch) (from : Stage) (request : List Bytes) (r : Reply) (next : Option Stage) → request_at w.ident from ≡ Some request →
+    after w.loops from r ≡ next → P (answered request r ∷ []) → Answers P w from (ok_or next (fault.Refused r))
+answer P w from request r (Some next) is leads carried = (request, r, asks from next request r is leads, carried)
+answer P w from request r None is nowhere carried = (request, is, nowhere, carried)
+
+-- ## How it ends
+
+pub whole : {P : List Call → Type 0} {k k' d d' : Option (ℕ → ℕ)} (w : Watch) (n : PollReport) → SoFar P k k' d d' w (Over n) → PollTurn P k k' d d' w (Ok n)
+whole w n so_far = record { events = so_far.events; parts = record { link = so_far.met.link; clock = so_far.met.clock; dice = so_far.met.dice }; told = so_far.walk }
+
+pub without_memory : {P : List Call → Type 0} {k k' d d' : Option (ℕ → ℕ)} (w : Watch) (stage : Stage) → SoFar P k k' d d' w stage → PollTurn P k k' d d' w (Err fault.Memory)
+without_memory w stage so_far = record {
+  events = so_far.events;
+  parts = record { link = so_far.met.link; clock = so_far.met.clock; dice = so_far.met.dice };
+  told = (stage, so_far.walk);
+}
+
+-- the last request, and what came of it
+last_call : {P P' P'' : List Call → Type 0} {k k' d d' : Option (ℕ → ℕ)} (w : Watch) (from : Stage) (call : Call) →
+    ((cs ds : List Call) → P cs → P' ds → P'' (cs ++ ds)) → (so_far : SoFar P k k' d d' w from) → P' (call ∷ []) →
+    Parts P'' (λ ms. YieldsAll k ms k') (λ ws. YieldsAll d ws d') (so_far.events ++ asked call ∷ [])
+last_call {P} {P'} {P''} {k} {k'} {d} {d'} w from call more so_far carried =
+    let last : Met P' k' k' d' d' (asked call ∷ []) = record { link = carried; clock = refl; dice = refl } in
+    let met = met_more {P'' = P''} so_far.events (asked call ∷ []) more so_far.met last in
+    record { link = met.link; clock = met.clock; dice = met.dice }
+
+pub broken_off : {P P' P'' : List Call → Type 0} {k k' d d' : Option (ℕ → ℕ)} (w : Watch) (from : Stage) (f : PollFault) →
+    ((cs ds : List Call) → P cs → P' ds → P'' (cs ++ ds)) → SoFar P k k' d d' w from → Answers P' w from (Err f) → PollTurn P'' k k' d d' w (Err f)
+broken_off w from (fault.Link f) more so_far (request, is, carried) = record {
+  events = so_far.events ++ asked (lost request f) ∷ [];
+  parts = last_call w from (lost request f) more so_far carried;
+  told = record { done = so_far.events; stage = from; walk = so_far.walk; request = request; asks_it = is; refused = tt; are = refl };
+}
+broken_off w from (fault.Refused r) more so_far (request, is, nowhere, carried) = record {
+  events = so_far.events ++ asked (answered request r) ∷ [];
+  parts = last_call w from (answered request r) more so_far carried;
+  told = record { done = so_far.events; stage = from; walk = so_far.walk; request = request; asks_it = is; refused = nowhere; are = refl };
+}
+broken_off {P} {P'} {P''} w from fault.Memory more so_far carried = record {
+  events = so_far.events;
+  parts = record {
+    link = subst P'' (append-none (calls so_far.events)) (more (calls so_far.events) [] so_far.met.link carried);
+    clock = so_far.met.clock;
+    dice = so_far.met.dice;
+  };
+  told = (from, so_far.walk);
+}
+
+-- the fault that a `?` hands on
+pub handed_on : {A E : Type 0} (result : Result A E) (Q : E → Type 0) → IsErr result → IsErrAnd result Q → (e : E) × (result ≡ Err e) × Q e
+handed_on (Ok x) Q is gives = let f : false ≡ true = is in absurd (cc f)
+handed_on (Err e) Q is gives = (e, refl, gives)
+
+-- ## Lost requests
+
+or_assoc : (a b c : Bool) → (a || (b || c)) ≡ ((a || b) || c)
+or_assoc true b c = refl
+or_assoc false b c = refl
+
+lost-append : (xs ys : List Call) → has_lost (xs ++ ys) ≡ (has_lost xs || has_lost ys)
+lost-append [] ys = refl
+lost-append (call ∷ xs) ys = ap (λ b. is_err call.reply || b) (lost-append xs ys) ∙ or_assoc (is_err call.reply) (has_lost xs) (has_lost ys)
+
+step_loses : (w : Watch) (from to : Stage) (event : Event) → Step w from event to → has_lost (calls (event ∷ [])) ≡ false
+step_loses w from to event (reads now_) = refl
+step_loses w from to event (asks from' next request r is leads) = refl
+step_loses w from to event (looks now_ loops n last is) = refl
+step_loses w from to event (draws now_ last loops n first second) = refl
+
+walk_loses : (w : Watch) (from to : Stage) (events : List Event) → Walk (Step w) from events to → has_lost (calls events) ≡ false
+walk_loses w from to [] walk = refl
+walk_loses w from to (event ∷ events) (next, step, walk) =
+    ap has_lost (calls-append (event ∷ []) events) ∙ lost-append (calls (event ∷ [])) (calls events)
+    ∙ cc (step_loses w from next event step, walk_loses w next to events walk)
+
+or_false : (b : Bool) → (b || false) ≡ b
+or_false true = refl
+or_false false = refl
+
+ends_lost : (w : Watch) (from : Stage) (events : List Event) (reply : Result Reply LinkFault) → Ends w from events reply → has_lost (calls events) ≡ is_err reply
+ends_lost w from events reply ends =
+    let call : Call = record { request = ends.request; reply = reply } in
+    ap (λ es. has_lost (calls es)) ends.are ∙ ap has_lost (calls-append ends.done (asked call ∷ [])) ∙ lost-append (calls ends.done) (call ∷ [])
+    ∙ ap (λ b. b || (is_err reply || false)) (walk_loses w from ends.stage ends.done ends.walk) ∙ or_false (is_err reply)
+
+pub turn_loses : (w : Watch) (from : Stage) (events : List Event) (result : Result PollReport PollFault) → PollTranscript w from events result →
+    has_lost (calls events) ≡ is_lost result
+turn_loses w from events (Ok n) told = walk_loses w from (Over n) events told
+turn_loses w from events (Err (fault.Link f)) told = ends_lost w from events (Err f) told
+turn_loses w from events (Err (fault.Refused r)) told = ends_lost w from events (Ok r) told
+turn_loses w from events (Err fault.Memory) (stage, walk) = walk_loses w from stage events walk
+
+pub has_ended_by : {P : List Call → Type 0} {k k' d d' : Option (ℕ → ℕ)} (w : Watch) (result : Result PollReport PollFault) (ended ended_now : Bool) →
+    ((cs : List Call) → P cs → ended_now ≡ (ended || has_lost cs)) → PollTurn P k k' d d' w result → ended_now ≡ (ended || is_lost result)
+has_ended_by w result ended ended_now ends turn =
+    ends (calls turn.events) turn.parts.link ∙ ap (λ b. ended || b) (turn_loses w resting turn.events result turn.told)

@@ -3,9 +3,6 @@ use Rattle.std.specs.Prelude.{ℕ, List, [], ◌∷◌, codes}
 use Rattle.std.specs.Fmt.{decimal}
 use Rattle.sk_base.specs.declared.limits.TheConstants.{DUE_A_TURN}
 use Rattle.sk_resp.specs.Spelling.{Bytes}
-use Rattle.sk_client.specs.Jid.{jid_of_words}
-use Rattle.sk_payload.specs.Draft.{draft_text}
-use Rattle.sk_poller.specs.Loop.{draft_of}
 use Rattle.sk_poller.specs.declared.poller.Loop.{Loop}
 
 -- a heartbeat
@@ -22,7 +19,6 @@ rescue_words = codes "SK.RESCUE" ∷ []
 abbrev pub lead_words : Bytes → List Bytes
 lead_words ident = codes "SK.LEAD" ∷ ident ∷ []
 
--- a periodic job for a slot, with the id that two words of the dice make
-abbrev pub cron_words : Bytes → Loop → ℕ → ℕ → ℕ → ℕ → List Bytes
-cron_words ident l slot first second now_ =
-    codes "SK.CRON" ∷ ident ∷ l.name ∷ decimal slot ∷ draft_text (draft_of l (jid_of_words first second) now_) ∷ []
+-- the job of a loop for a slot
+abbrev pub cron_words : Bytes → Loop → ℕ → Bytes → List Bytes
+cron_words ident l slot job = codes "SK.CRON" ∷ ident ∷ l.name ∷ decimal slot ∷ job ∷ []

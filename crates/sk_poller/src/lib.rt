@@ -2,12 +2,15 @@
 #![tactic(auto)]
 
 mod ask;
-mod loops;
+mod laws;
 mod poller;
+mod remaining;
 mod report;
 mod request;
+mod stage;
 mod turn;
 
+pub use laws::{a_whole_turn_is_this_list, each_loop_is_marked_once_at_most};
 pub use poller::{Loop, Poller};
 pub use report::{PollFault, PollReport};
 pub use std::alloc::AllocError as Memory;

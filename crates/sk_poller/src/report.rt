@@ -1,4 +1,5 @@
 // What a turn of a poller answers.
+use crate::Memory;
 use sk_link::LinkFault;
 use sk_resp::Reply;
 
@@ -18,10 +19,32 @@ pub struct PollReport {
 /// Why a turn of a poller has no report.
 #[derive(Drop)]
 pub enum PollFault {
-    /// The link had this fault.
+    /// The last request was lost by this fault of the link. The store may have taken it all the same.
     Link(LinkFault),
     /// A request had this reply, which is an error or of another kind than the request wants.
     Refused(Reply),
-    /// There was no memory.
+    /// There was no memory for the next request, or for the job in it. Each request that went out was answered.
     Memory,
+}
+
+impl From<LinkFault> for PollFault {
+    ghost use Rattle.std.specs.Prelude.{◌≡◌};
+    ghost use Rattle.sk_poller.specs.declared.report.PollFault.TheVariants.{Link};
+
+    ghost from_gives = { λ f e. e ≡ Link f };
+
+    fn from(fault: LinkFault) -> Self {
+        PollFault::Link(fault)
+    }
+}
+
+impl From<Memory> for PollFault {
+    ghost use Rattle.std.specs.Prelude.{◌≡◌};
+    ghost use Rattle.sk_poller.specs.declared.report.PollFault.TheVariants.{Memory};
+
+    ghost from_gives = { λ _ e. e ≡ Memory };
+
+    fn from(_: Memory) -> Self {
+        PollFault::Memory
+    }
 }

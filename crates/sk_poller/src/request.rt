@@ -1,10 +1,9 @@
 // The words of a poller's requests.
-ghost use Rattle.std.specs.Prelude.{◌≡◌, ◌∷◌, [], IfOk, codes, map, true};
-ghost use Rattle.std.specs.Fmt.{decimal};
+ghost use Rattle.std.specs.Prelude.{◌≡◌, IfOk, map, true};
 ghost use Rattle.sk_base.specs.Name.{is_name};
 ghost use Rattle.sk_payload.specs.Draft.{draft_text};
 ghost use Rattle.sk_poller.specs.Loop.{draft_of, is_loop};
-ghost use Rattle.sk_poller.specs.Request.{beat_words, due_words, lead_words, rescue_words};
+ghost use Rattle.sk_poller.specs.Request.{beat_words, cron_words, due_words, lead_words, rescue_words};
 ghost use Rattle.sk_base.specs.declared.limits.TheConstants.{LONGEST_ID};
 
 use crate::{Loop, Memory};
@@ -49,8 +48,8 @@ pub(crate) fn lead_request(alloc: Global, ident: &Text) -> Result<Words, Memory>
     request(alloc, &[b"SK.LEAD", ident.text().as_bytes()])
 }
 
-// The job of a loop, as it is pushed.
-fn job_of(alloc: Global, job: &Loop, jid: Text, now: u64) -> Result<Payload, Memory>
+/// The job of a loop with this id, as it is pushed.
+pub(crate) fn job_of(alloc: Global, job: &Loop, jid: Text, now: u64) -> Result<Payload, Memory>
     requires names { is_loop job.now ≡ true }
     requires id { is_name LONGEST_ID jid ≡ true }
     ensures { IfOk result (λ payload. payload ≡ draft_text (draft_of job.now jid now)) }
@@ -79,30 +78,25 @@ fn job_of(alloc: Global, job: &Loop, jid: Text, now: u64) -> Result<Payload, Mem
     }
 }
 
-/// `SK.CRON ident loop slot payload`
-pub(crate) fn cron_request(
+/// `SK.CRON ident name slot job`
+pub(crate) fn cron_request<'a>(
     alloc: Global,
-    ident: &Text,
-    job: &Loop,
+    ident: &'a Text,
+    of: &'a Loop,
     slot: u64,
-    jid: Text,
-    now: u64,
+    job: &'a Payload,
 ) -> Result<Words, Memory>
-    requires names { is_loop job.now ≡ true }
-    requires id { is_name LONGEST_ID jid ≡ true }
-    ensures { IfOk result (λ words.
-        words ≡ codes "SK.CRON" ∷ ident.now ∷ job.now.name ∷ decimal slot ∷ draft_text (draft_of job.now jid now) ∷ []) }
+    ensures { IfOk result (λ words. words ≡ cron_words ident.now of.now slot job.now) }
 {
-    let payload = job_of(alloc, job, jid, now)?;
     let slot = slot.to_string(alloc)?;
     request(
         alloc,
         &[
             b"SK.CRON",
             ident.text().as_bytes(),
-            job.name.text().as_bytes(),
+            of.name.text().as_bytes(),
             slot.as_bytes(),
-            payload.text().bytes(),
+            job.text().bytes(),
         ],
     )
 }

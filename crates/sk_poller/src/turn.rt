@@ -1,216 +1,84 @@
-// The requests of a turn, one after another. Each function asks once and hands on to the next.
-ghost use Rattle.std.specs.Prelude.{◌≡◌, ◌≤◌, ◌+◌, ◌^◌, [], ℕ, List, true};
+// The turn of a poller: one loop over its table, which meets the link, the clock and the dice.
+ghost use Rattle.std.specs.Prelude.{◌≡◌, ◌||◌, ℕ, Option, Some, true, is_some};
 ghost use Rattle.std.specs.List.{list_all};
-ghost use Rattle.sk_cron.specs.Offset.{IsOffset};
-ghost use Rattle.sk_base.specs.Yields.{YieldsAll};
-ghost use Rattle.sk_link.specs.Fault.{IsCause};
-ghost use Rattle.sk_poller.specs.Event.{Event};
+ghost use Rattle.sk_poller.specs.Event.{slot};
 ghost use Rattle.sk_poller.specs.Loop.{is_loop};
-ghost use Rattle.sk_poller.specs.Stage.{Parts, PollTranscript, Watch, beating, leading, nothing, rescuing, resting, retries as retry_stage, scheduled as schedule_stage};
+ghost use Rattle.sk_poller.specs.Stage.{Answers, Draws, HasRoom, Polls, Step, is_lost, request_at, watch_of};
+ghost use Rattle.sk_poller.specs.declared.stage.Stage.TheVariants.{Looking};
 
-use crate::ask::{lead_of, send};
-use crate::loops::push_loops;
-use crate::request::{beat_request, due_request, lead_request, rescue_request};
-use crate::{Loop, PollFault, PollReport};
+use crate::remaining::RemainingLoops;
+use crate::request::job_of;
+use crate::stage::{Stage, after, looked, request_of};
+use crate::{Loop, Memory, PollFault, PollReport, Poller};
 use sk_base::{Clock, Dice};
-use sk_link::{Answer, Link, Report, is_answer};
-use sk_resp::Text;
+use sk_client::fresh_jid;
+use sk_link::Link;
+use sk_payload::Payload;
 use std::alloc::Global;
 
-// Asks for the lead, and pushes periodic jobs where it has it.
-fn lead<L: Link, D: Dice>(
-    alloc: Global,
-    link: &mut L,
-    dice: &mut D,
-    ident: &Text,
-    loops: &[Loop],
-    offset: i32,
-    now: u64,
-    n: PollReport,
-) -> Result<PollReport, PollFault>
-    requires named { list_all is_loop loops.now ≡ true }
-    requires offset { IsOffset offset }
-    requires none { n.pushed ≡ 0 }
-    ensures { (w : Watch) → w.ident ≡ ident.now → w.loops ≡ loops.now → w.offset ≡ offset → (events : List Event)
-        × Parts (λ cs. L.carried link.old link.new cs) (λ ms. ms ≡ []) (λ ws. YieldsAll (D.words dice.old) ws (D.words dice.new)) events
-        × PollTranscript (IsCause (L.faults link.old) (L.faults link.new) (L.has_ended link.old) (L.unread link.new))
-        w (leading now n) events result }
+// The job of a loop, with an id of two words that are drawn for it.
+fn draw_job<D: Dice>(alloc: Global, dice: &mut D, of: &Loop, now: u64) -> Result<Payload, Memory>
+    requires { is_loop of.now ≡ true }
+    ensures { Draws (D.words dice.old) (D.words dice.new) of.now now result }
 {
-    let words = lead_request(alloc, ident);
-    let reply = match send(alloc, link, words) {
-        Ok(reply) => reply,
-        Err(fault) => return Err(fault),
-    };
-    let Some(leads) = lead_of(&reply) else {
-        return Err(PollFault::Refused(reply));
-    };
-    if leads {
-        push_loops(alloc, link, dice, ident, loops, offset, now, n)
-    } else {
-        Ok(n)
+    let jid = fresh_jid(alloc, dice)?;
+    job_of(alloc, of, jid, now)
+}
+
+impl Poller {
+    // Where the last slot of the loop at hand leads.
+    fn look<'a>(&self, now: u64, loops: RemainingLoops<'a>, n: PollReport) -> Stage<'a>
+        ensures { (last : Option ℕ) × Step (watch_of self.now) (Looking now loops.entry n) (slot last) result }
+    {
+        let last = loops.first().cron.last_slot(now, self.offset);
+        looked(now, loops, n, last)
     }
-}
 
-// Gives the jobs of dead processes back.
-fn rescue<L: Link, D: Dice>(
-    alloc: Global,
-    link: &mut L,
-    dice: &mut D,
-    ident: &Text,
-    loops: &[Loop],
-    offset: i32,
-    now: u64,
-    n: PollReport,
-) -> Result<PollReport, PollFault>
-    requires named { list_all is_loop loops.now ≡ true }
-    requires offset { IsOffset offset }
-    requires few { n.buried ≤ 2 ^ 63 }
-    requires none { (n.rescued ≡ 0) × (n.pushed ≡ 0) }
-    ensures { (w : Watch) → w.ident ≡ ident.now → w.loops ≡ loops.now → w.offset ≡ offset → (events : List Event)
-        × Parts (λ cs. L.carried link.old link.new cs) (λ ms. ms ≡ []) (λ ws. YieldsAll (D.words dice.old) ws (D.words dice.new)) events
-        × PollTranscript (IsCause (L.faults link.old) (L.faults link.new) (L.has_ended link.old) (L.unread link.new))
-        w (rescuing now n) events result }
-{
-    let words = rescue_request(alloc);
-    let reply = match send(alloc, link, words) {
-        Ok(reply) => reply,
-        Err(fault) => return Err(fault),
-    };
-    let Some(report) = Report::read(&reply) else {
-        return Err(PollFault::Refused(reply));
-    };
-    let n = PollReport {
-        rescued: n.rescued + report.moved,
-        buried: n.buried + report.buried,
-        ..n
-    };
-    lead(alloc, link, dice, ident, loops, offset, now, n)
-}
-
-// Promotes retries that are due.
-fn retries<L: Link, D: Dice>(
-    alloc: Global,
-    link: &mut L,
-    dice: &mut D,
-    ident: &Text,
-    loops: &[Loop],
-    offset: i32,
-    now: u64,
-    n: PollReport,
-) -> Result<PollReport, PollFault>
-    requires named { list_all is_loop loops.now ≡ true }
-    requires offset { IsOffset offset }
-    requires promoted { n.promoted ≤ 2 ^ 62 }
-    requires buried { n.buried ≤ 2 ^ 62 }
-    requires none { (n.rescued ≡ 0) × (n.pushed ≡ 0) }
-    ensures { (w : Watch) → w.ident ≡ ident.now → w.loops ≡ loops.now → w.offset ≡ offset → (events : List Event)
-        × Parts (λ cs. L.carried link.old link.new cs) (λ ms. ms ≡ []) (λ ws. YieldsAll (D.words dice.old) ws (D.words dice.new)) events
-        × PollTranscript (IsCause (L.faults link.old) (L.faults link.new) (L.has_ended link.old) (L.unread link.new))
-        w (retry_stage now n) events result }
-{
-    let words = due_request(alloc, b"retry");
-    let reply = match send(alloc, link, words) {
-        Ok(reply) => reply,
-        Err(fault) => return Err(fault),
-    };
-    let Some(report) = Report::read(&reply) else {
-        return Err(PollFault::Refused(reply));
-    };
-    let n = PollReport {
-        promoted: n.promoted + report.moved,
-        buried: n.buried + report.buried,
-        ..n
-    };
-    rescue(alloc, link, dice, ident, loops, offset, now, n)
-}
-
-// Promotes jobs of the schedule that are due.
-fn scheduled<L: Link, D: Dice>(
-    alloc: Global,
-    link: &mut L,
-    dice: &mut D,
-    ident: &Text,
-    loops: &[Loop],
-    offset: i32,
-    now: u64,
-    n: PollReport,
-) -> Result<PollReport, PollFault>
-    requires named { list_all is_loop loops.now ≡ true }
-    requires offset { IsOffset offset }
-    requires none { n ≡ nothing }
-    ensures { (w : Watch) → w.ident ≡ ident.now → w.loops ≡ loops.now → w.offset ≡ offset → (events : List Event)
-        × Parts (λ cs. L.carried link.old link.new cs) (λ ms. ms ≡ []) (λ ws. YieldsAll (D.words dice.old) ws (D.words dice.new)) events
-        × PollTranscript (IsCause (L.faults link.old) (L.faults link.new) (L.has_ended link.old) (L.unread link.new))
-        w (schedule_stage now n) events result }
-{
-    let words = due_request(alloc, b"schedule");
-    let reply = match send(alloc, link, words) {
-        Ok(reply) => reply,
-        Err(fault) => return Err(fault),
-    };
-    let Some(report) = Report::read(&reply) else {
-        return Err(PollFault::Refused(reply));
-    };
-    let n = PollReport {
-        promoted: n.promoted + report.moved,
-        buried: n.buried + report.buried,
-        ..n
-    };
-    retries(alloc, link, dice, ident, loops, offset, now, n)
-}
-
-// Sends the heartbeat.
-fn beat<L: Link, D: Dice>(
-    alloc: Global,
-    link: &mut L,
-    dice: &mut D,
-    ident: &Text,
-    loops: &[Loop],
-    offset: i32,
-    now: u64,
-) -> Result<PollReport, PollFault>
-    requires named { list_all is_loop loops.now ≡ true }
-    requires offset { IsOffset offset }
-    ensures { (w : Watch) → w.ident ≡ ident.now → w.loops ≡ loops.now → w.offset ≡ offset → (events : List Event)
-        × Parts (λ cs. L.carried link.old link.new cs) (λ ms. ms ≡ []) (λ ws. YieldsAll (D.words dice.old) ws (D.words dice.new)) events
-        × PollTranscript (IsCause (L.faults link.old) (L.faults link.new) (L.has_ended link.old) (L.unread link.new))
-        w (beating now) events result }
-{
-    let words = beat_request(alloc, ident);
-    let reply = match send(alloc, link, words) {
-        Ok(reply) => reply,
-        Err(fault) => return Err(fault),
-    };
-    if !is_answer(Answer::Okay, &reply) {
-        return Err(PollFault::Refused(reply));
+    // Sends the stage's request, and answers where the reply leads.
+    fn ask<'a, L: Link>(
+        &'a self,
+        alloc: Global,
+        link: &mut L,
+        stage: Stage<'a>,
+    ) -> Result<Stage<'a>, PollFault>
+        requires asks { is_some (request_at self.now.ident stage) ≡ true }
+        requires room { HasRoom stage }
+        ensures { Answers (L.carried link.old link.new) (watch_of self.now) stage.entry result }
+    {
+        let Some(words) = request_of(alloc, &self.ident, &stage)? else {
+            unreachable!();
+        };
+        let reply = link.call(alloc, &words)?;
+        after(&self.loops, stage, &reply).ok_or(PollFault::Refused(reply))
     }
-    let n = PollReport {
-        promoted: 0,
-        rescued: 0,
-        buried: 0,
-        pushed: 0,
-    };
-    scheduled(alloc, link, dice, ident, loops, offset, now, n)
-}
 
-/// A turn: it reads the clock, and sends its requests.
-pub(crate) fn take_turn<L: Link, C: Clock, D: Dice>(
-    alloc: Global,
-    link: &mut L,
-    clock: &mut C,
-    dice: &mut D,
-    ident: &Text,
-    loops: &[Loop],
-    offset: i32,
-) -> Result<PollReport, PollFault>
-    requires named { list_all is_loop loops.now ≡ true }
-    requires offset { IsOffset offset }
-    ensures { (w : Watch) → w.ident ≡ ident.now → w.loops ≡ loops.now → w.offset ≡ offset → (events : List Event)
-        × Parts (λ cs. L.carried link.old link.new cs) (λ ms. YieldsAll (C.moments clock.old) ms (C.moments clock.new))
-        (λ ws. YieldsAll (D.words dice.old) ws (D.words dice.new)) events
-        × PollTranscript (IsCause (L.faults link.old) (L.faults link.new) (L.has_ended link.old) (L.unread link.new))
-        w resting events result }
-{
-    let now = clock.now();
-    beat(alloc, link, dice, ident, loops, offset, now)
+    /// Takes a turn. It reads the clock once; then it sends `SK.BEAT ident`, `SK.DUE schedule 100`, `SK.DUE retry 100`, `SK.RESCUE` and
+    /// `SK.LEAD ident`. Where it leads, it sends for each loop that has a last slot `SK.CRON ident name slot text`, with a job without arguments that
+    /// is made at the moment read, and with an id of two words drawn then. That another process leads, or that the slot was pushed already or isn't
+    /// one of now, is no fault of SK.CRON.
+    pub fn turn<L: Link, C: Clock, D: Dice>(
+        &self,
+        alloc: Global,
+        link: &mut L,
+        clock: &mut C,
+        dice: &mut D,
+    ) -> Result<PollReport, PollFault>
+        ensures told { Polls L.carried link.old link.new (C.moments clock.old) (C.moments clock.new) (D.words dice.old) (D.words dice.new)
+            self.now result }
+        ensures ended { L.has_ended link.new ≡ (L.has_ended link.old || is_lost result) }
+    {
+        let mut stage = Stage::Resting;
+        loop {
+            stage = match stage {
+                Stage::Over(n) => return Ok(n),
+                Stage::Resting => Stage::Beating(clock.now()),
+                Stage::Looking(now, loops, n) => self.look(now, loops, n),
+                Stage::Due(now, slot, loops, n) => {
+                    let job = draw_job(alloc, dice, loops.first(), now)?;
+                    Stage::Pushing(now, slot, job, loops, n)
+                }
+                asking => self.ask(alloc, link, asking)?,
+            };
+        }
+    }
 }
