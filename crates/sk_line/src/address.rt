@@ -6,6 +6,7 @@ ghost use Rattle.sk_line.specs.Values.{Has, IsPort};
 
 use crate::LineFault;
 use crate::defaults::{HOST, PORT};
+use crate::help_lines::{HOST_HELP, PORT_HELP};
 use crate::option::with_default;
 use crate::value::{number_of, text_of};
 use clap::{ArgMatches, Command};
@@ -25,8 +26,8 @@ pub struct Address {
 pub fn addressed<'a>(alloc: Global, command: Command<'a>) -> Result<Command<'a>, AllocError>
     ensures { IfOk result (λ c. app_of c ≡ addressed (app_of command.entry)) }
 {
-    let command = with_default(alloc, command, "host", HOST)?;
-    with_default(alloc, command, "port", PORT)
+    let command = with_default(alloc, command, "host", HOST, HOST_HELP)?;
+    with_default(alloc, command, "port", PORT, PORT_HELP)
 }
 
 /// Their values.

@@ -7,6 +7,7 @@ mod cut;
 mod defaults;
 mod fault;
 mod help;
+mod help_lines;
 mod matches;
 mod option;
 mod push_line;

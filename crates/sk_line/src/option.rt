@@ -1,4 +1,4 @@
-// The kinds of options that command lines have.
+// The kinds of options that command lines have, each with the line that help says of it.
 ghost use Rattle.std.specs.Prelude.{◌≡◌, IfOk};
 ghost use Rattle.clap.specs.Words.{app_of, with_rule};
 ghost use Rattle.sk_line.specs.Options.{flag, optional, positional, positionals, with_default};
@@ -12,10 +12,12 @@ pub fn with_default<'a>(
     command: Command<'a>,
     name: &'a str,
     default: &'a str,
+    help: &'a str,
 ) -> Result<Command<'a>, AllocError>
     ensures { IfOk result (λ c. app_of c ≡ with_rule (app_of command.entry) (with_default name.entry.now default.entry.now)) }
 {
-    command.arg(Arg::new(alloc, name).long(name).default_value(default))
+    let option = Arg::new(alloc, name).long(name).default_value(default);
+    command.arg(option.help(help))
 }
 
 /// An option `--name value` that may be missing.
@@ -23,10 +25,11 @@ pub fn optional<'a>(
     alloc: Global,
     command: Command<'a>,
     name: &'a str,
+    help: &'a str,
 ) -> Result<Command<'a>, AllocError>
     ensures { IfOk result (λ c. app_of c ≡ with_rule (app_of command.entry) (optional name.entry.now)) }
 {
-    command.arg(Arg::new(alloc, name).long(name))
+    command.arg(Arg::new(alloc, name).long(name).help(help))
 }
 
 /// An option `--name` without a value.
@@ -34,10 +37,12 @@ pub fn flag<'a>(
     alloc: Global,
     command: Command<'a>,
     name: &'a str,
+    help: &'a str,
 ) -> Result<Command<'a>, AllocError>
     ensures { IfOk result (λ c. app_of c ≡ with_rule (app_of command.entry) (flag name.entry.now)) }
 {
-    command.arg(Arg::new(alloc, name).long(name).action(ArgAction::SetTrue))
+    let option = Arg::new(alloc, name).long(name).action(ArgAction::SetTrue);
+    command.arg(option.help(help))
 }
 
 /// A word that has to stand there.
@@ -45,10 +50,11 @@ pub fn positional<'a>(
     alloc: Global,
     command: Command<'a>,
     name: &'a str,
+    help: &'a str,
 ) -> Result<Command<'a>, AllocError>
     ensures { IfOk result (λ c. app_of c ≡ with_rule (app_of command.entry) (positional name.entry.now)) }
 {
-    command.arg(Arg::new(alloc, name).required(true))
+    command.arg(Arg::new(alloc, name).required(true).help(help))
 }
 
 /// Words, any number of them.
@@ -56,8 +62,9 @@ pub fn positionals<'a>(
     alloc: Global,
     command: Command<'a>,
     name: &'a str,
+    help: &'a str,
 ) -> Result<Command<'a>, AllocError>
     ensures { IfOk result (λ c. app_of c ≡ with_rule (app_of command.entry) (positionals name.entry.now)) }
 {
-    command.arg(Arg::new(alloc, name).action(ArgAction::Append))
+    command.arg(Arg::new(alloc, name).action(ArgAction::Append).help(help))
 }

@@ -7,6 +7,9 @@ ghost use Rattle.sk_line.specs.Push.{IsPush, IsPushValues, push_app};
 
 use crate::address::{address_of, addressed};
 use crate::defaults::{QUEUE, RETRY};
+use crate::help_lines::{
+    ARGS_HELP, AT_HELP, CLASS_HELP, QUEUE_HELP, RETRY_FOR_HELP, RETRY_HELP, UNIQUE_HELP,
+};
 use crate::matches::matches_of;
 use crate::option::{optional, positional, with_default};
 use crate::value::{args_of, retry_of, score_of, seconds_of, text_of};
@@ -43,13 +46,13 @@ pub fn push_command<'a>(alloc: Global) -> Result<Command<'a>, AllocError>
     ensures { IfOk result (λ c. app_of c ≡ push_app) }
 {
     let command = addressed(alloc, Command::new(alloc, "push"))?;
-    let command = with_default(alloc, command, "queue", QUEUE)?;
-    let command = with_default(alloc, command, "retry", RETRY)?;
-    let command = optional(alloc, command, "retry-for")?;
-    let command = optional(alloc, command, "at")?;
-    let command = optional(alloc, command, "unique")?;
-    let command = positional(alloc, command, "CLASS")?;
-    positional(alloc, command, "ARGS")
+    let command = with_default(alloc, command, "queue", QUEUE, QUEUE_HELP)?;
+    let command = with_default(alloc, command, "retry", RETRY, RETRY_HELP)?;
+    let command = optional(alloc, command, "retry-for", RETRY_FOR_HELP)?;
+    let command = optional(alloc, command, "at", AT_HELP)?;
+    let command = optional(alloc, command, "unique", UNIQUE_HELP)?;
+    let command = positional(alloc, command, "CLASS", CLASS_HELP)?;
+    positional(alloc, command, "ARGS", ARGS_HELP)
 }
 
 // Their values.

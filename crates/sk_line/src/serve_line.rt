@@ -6,6 +6,7 @@ ghost use Rattle.sk_line.specs.Lines.{IsServe, IsServeValues, Reads, serve_app};
 use crate::LineFault;
 use crate::address::port_of;
 use crate::defaults::{LOOPS, PORT, SESSIONS};
+use crate::help_lines::{LOOPS_HELP, SERVE_PORT_HELP, SESSIONS_HELP};
 use crate::matches::matches_of;
 use crate::option::with_default;
 use crate::value::number_of;
@@ -29,9 +30,9 @@ pub fn serve_command<'a>(alloc: Global) -> Result<Command<'a>, AllocError>
     ensures { IfOk result (λ c. app_of c ≡ serve_app) }
 {
     let command = Command::new(alloc, "serve");
-    let command = with_default(alloc, command, "port", PORT)?;
-    let command = with_default(alloc, command, "loops", LOOPS)?;
-    with_default(alloc, command, "sessions", SESSIONS)
+    let command = with_default(alloc, command, "port", PORT, SERVE_PORT_HELP)?;
+    let command = with_default(alloc, command, "loops", LOOPS, LOOPS_HELP)?;
+    with_default(alloc, command, "sessions", SESSIONS, SESSIONS_HELP)
 }
 
 // Their values.

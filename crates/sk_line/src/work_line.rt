@@ -9,6 +9,10 @@ ghost use Rattle.sk_line.specs.Work.{IsOffsetText, IsWork, IsWorkValues, work_ap
 use crate::address::{address_of, addressed};
 use crate::cron_words::loops_of;
 use crate::defaults::{IDENT, OFFSET, PREFETCH, QUEUE, THREADS, TURNS};
+use crate::help_lines::{
+    CRON_HELP, IDENT_HELP, OFFSET_HELP, PREFETCH_HELP, QUEUES_HELP, STRICT_HELP, THREADS_HELP,
+    TURNS_HELP,
+};
 use crate::matches::matches_of;
 use crate::option::{flag, positionals, with_default};
 use crate::queues::order_of;
@@ -47,14 +51,14 @@ pub fn work_command<'a>(alloc: Global) -> Result<Command<'a>, AllocError>
     ensures { IfOk result (λ c. app_of c ≡ work_app) }
 {
     let command = addressed(alloc, Command::new(alloc, "work"))?;
-    let command = with_default(alloc, command, "ident", IDENT)?;
-    let command = with_default(alloc, command, "queues", QUEUE)?;
-    let command = flag(alloc, command, "strict")?;
-    let command = with_default(alloc, command, "threads", THREADS)?;
-    let command = with_default(alloc, command, "turns", TURNS)?;
-    let command = with_default(alloc, command, "offset", OFFSET)?;
-    let command = with_default(alloc, command, "prefetch", PREFETCH)?;
-    positionals(alloc, command, "CRON")
+    let command = with_default(alloc, command, "ident", IDENT, IDENT_HELP)?;
+    let command = with_default(alloc, command, "queues", QUEUE, QUEUES_HELP)?;
+    let command = flag(alloc, command, "strict", STRICT_HELP)?;
+    let command = with_default(alloc, command, "threads", THREADS, THREADS_HELP)?;
+    let command = with_default(alloc, command, "turns", TURNS, TURNS_HELP)?;
+    let command = with_default(alloc, command, "offset", OFFSET, OFFSET_HELP)?;
+    let command = with_default(alloc, command, "prefetch", PREFETCH, PREFETCH_HELP)?;
+    positionals(alloc, command, "CRON", CRON_HELP)
 }
 
 // How far the clock is ahead of UTC: the option is 0 for -1,439 minutes, and 1,439 for UTC.
