@@ -1,5 +1,5 @@
 -- The program `push`.
-use Rattle.std.specs.Prelude.{◌≡◌, ◌++◌, ℕ, ℤ, List, Option, Some, None, Result, Ok, Err, IfErr, codes}
+use Rattle.std.specs.Prelude.{◌≡◌, ◌++◌, ℕ, ℤ, List, Option, Some, None, Result, Ok, Err, codes}
 use Rattle.sk_resp.specs.Spelling.{Bytes}
 use Rattle.sk_client.specs.Push.{Accepted, Fails, Push}
 use Rattle.sk_client.specs.Requests.{lpush, upush, zadd}
@@ -43,11 +43,10 @@ outcome_of jid (Err fault.Memory) = Err failure.Memory
 outcome_of jid (Err (fault.Draft draft_.Memory)) = Err failure.Memory
 outcome_of jid (Err (fault.Draft f)) = Err failure.Line
 
--- The job was pushed over the link, and the outcome tells what came of it. A fault has its cause.
-pub record Pushes (Carried : List Call → Type 0) (Cause : ClientFault → Type 0) (job : PushJob) (outcome : Result Bytes Failure) : Type 0 where
+-- The job was pushed over the link, and the outcome tells what came of it.
+pub record Pushes (Carried : List Call → Type 0) (job : PushJob) (outcome : Result Bytes Failure) : Type 0 where
   pub pushed : Result (Unit {0}) ClientFault
   pub sent : Sends Carried (request job) pushed
-  pub cause : IfErr pushed Cause
   pub told : outcome ≡ outcome_of job.draft.jid pushed
 
 -- ## The program

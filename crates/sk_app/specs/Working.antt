@@ -1,5 +1,5 @@
 -- The program `work`.
-use Rattle.std.specs.Prelude.{◌≡◌, ◌⊎◌, ◌<◌, ◌++◌, ℕ, List, [], ◌∷◌, Result, Ok, Err, IfOk, codes}
+use Rattle.std.specs.Prelude.{◌≡◌, ◌⊎◌, ◌++◌, ℕ, List, [], ◌∷◌, Result, Ok, Err, codes}
 use Rattle.std.specs.Fmt.{decimal}
 use Rattle.clap.specs.Words.{Text}
 use Rattle.sk_resp.specs.Spelling.{Bytes, lf}
@@ -24,10 +24,10 @@ outcome_of (Err f) = Err (by_launch f)
 abbrev pub IsOutcome : Result Counts LaunchFault → Result Bytes Failure → Type 0
 IsOutcome how outcome = (outcome ≡ outcome_of how) ⊎ (outcome ≡ Err failure.Memory)
 
--- The words are no line of `work`; then nothing was done. Or there was no memory to read them. Or workers ran as the line says, and came to this end:
--- with counts only where the line has a number of turns.
-pub data WorkRun (teams : ℕ) (words : List Text) (Untouched : Type 0) : Result Bytes Failure → Type 0 where
-  refused : ((line : WorkLine) → IsWork teams words line → ⊥) → Untouched → WorkRun teams words Untouched (Err failure.Line)
-  starved : WorkRun teams words Untouched (Err failure.Memory)
+-- The words are no line of `work`; then nothing was done. Or there was no memory to read them. Or a launcher did what the line says, and came to this end.
+pub data WorkRun (teams : ℕ) (words : List Text) (Untouched : Type 0) (Launches : WorkLine → Result Counts LaunchFault → Type 0) :
+    Result Bytes Failure → Type 0 where
+  refused : ((line : WorkLine) → IsWork teams words line → ⊥) → Untouched → WorkRun teams words Untouched Launches (Err failure.Line)
+  starved : WorkRun teams words Untouched Launches (Err failure.Memory)
   worked : (line : WorkLine) (how : Result Counts LaunchFault) (outcome : Result Bytes Failure) → IsWork teams words line →
-      IfOk how (λ counts. 0 < line.turns) → IsOutcome how outcome → WorkRun teams words Untouched outcome
+      Launches line how → IsOutcome how outcome → WorkRun teams words Untouched Launches outcome

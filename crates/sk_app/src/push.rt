@@ -3,10 +3,11 @@
 ghost use Rattle.std.specs.Prelude.{◌≡◌, ◌⊎◌, ◌∷◌, [], ℕ, None, Err, Result, IfErr, OnOk, map, string_bytes};
 ghost use Rattle.sk_base.specs.Outside.{Rose};
 ghost use Rattle.sk_base.specs.Yields.{Yields, YieldsAll};
-ghost use Rattle.sk_client.specs.Push.{Accepted, Fails, HasLinkCause};
+ghost use Rattle.sk_client.specs.Push.{Accepted, Fails};
 ghost use Rattle.sk_payload.specs.Draft.{draft_fault};
 ghost use Rattle.sk_resp.specs.Spelling.{Bytes};
-ghost use Rattle.sk_app.specs.Dialogue.{Carried, Caused, Dialogue};
+ghost use Rattle.sk_link.specs.Wire.{WireCarries};
+ghost use Rattle.sk_app.specs.Dialogue.{Dialogue};
 ghost use Rattle.sk_app.specs.Ending.{Concludes};
 ghost use Rattle.sk_app.specs.Pushing.{PushRun, Pushes, outcome_of, request};
 ghost use Rattle.sk_app.specs.declared.failure.Failure.{Failure};
@@ -42,7 +43,6 @@ fn outcome_of(alloc: Global, jid: &Text, pushed: Result<(), ClientFault>) -> Res
 fn send<L: Link>(alloc: Global, link: &mut L, job: &PushJob) -> Result<(), ClientFault>
     ensures ok { OnOk result (Accepted (L.carried link.old link.new) (request job.now)) }
     ensures err { IfErr result (Fails (L.carried link.old link.new) (request job.now)) }
-    ensures cause { IfErr result (HasLinkCause (L.faults link.old) (L.faults link.new) (L.has_ended link.old) (L.unread link.new)) }
 {
     if job.draft.lock.is_some() {
         return push_unique(alloc, link, &job.draft, job.at);
@@ -56,8 +56,7 @@ fn send<L: Link>(alloc: Global, link: &mut L, job: &PushJob) -> Result<(), Clien
 // Pushes the job over the link.
 fn push_over<L: Link>(alloc: Global, link: &mut L, job: &PushJob) -> Result<Word, Failure>
     requires { draft_fault job.now.draft ≡ None }
-    ensures told { (result ≡ Err Memory) ⊎ Pushes (L.carried link.old link.new)
-        (HasLinkCause (L.faults link.old) (L.faults link.new) (L.has_ended link.old) (L.unread link.new)) job.now result }
+    ensures told { (result ≡ Err Memory) ⊎ Pushes (L.carried link.old link.new) job.now result }
     ensures never { result ≡ Err Line → ⊥ }
 {
     let pushed = send(alloc, link, job);
@@ -69,8 +68,7 @@ fn push_to<N: Door>(alloc: Global, net: &mut N, job: &PushJob) -> Result<Word, F
     requires { draft_fault job.now.draft ≡ None }
     ensures told { Dialogue (record { dialled = N.dialled net.old; kept = N.kept net.old; faults = N.door_faults net.old })
         (record { dialled = N.dialled net.new; kept = N.kept net.new; faults = N.door_faults net.new })
-        (λ a b outcome. Pushes (Carried (record { taken = N.Conn.taken; left = N.Conn.left; reads = N.Conn.read_faults; writes = N.Conn.write_faults }) a b)
-        (Caused (record { taken = N.Conn.taken; left = N.Conn.left; reads = N.Conn.read_faults; writes = N.Conn.write_faults }) a b) job.now outcome)
+        (λ a b outcome. Pushes (WireCarries N.Conn.taken N.Conn.left N.Conn.read_faults N.Conn.write_faults a b) job.now outcome)
         result }
     ensures never { result ≡ Err Line → ⊥ }
 {
@@ -105,8 +103,7 @@ fn outcome_by<N: Door, C: Clock, D: Dice>(
         (λ now_ first second. Yields (C.moments clock.old) now_ (C.moments clock.new) × YieldsAll (D.words dice.old) (first ∷ second ∷ []) (D.words dice.new))
         (λ job outcome. Dialogue (record { dialled = N.dialled net.old; kept = N.kept net.old; faults = N.door_faults net.old })
         (record { dialled = N.dialled net.new; kept = N.kept net.new; faults = N.door_faults net.new })
-        (λ a b outcome. Pushes (Carried (record { taken = N.Conn.taken; left = N.Conn.left; reads = N.Conn.read_faults; writes = N.Conn.write_faults }) a b)
-        (Caused (record { taken = N.Conn.taken; left = N.Conn.left; reads = N.Conn.read_faults; writes = N.Conn.write_faults }) a b) job outcome)
+        (λ a b outcome. Pushes (WireCarries N.Conn.taken N.Conn.left N.Conn.read_faults N.Conn.write_faults a b) job outcome)
         outcome) result }
     ensures untouched { result ≡ Err Line → net.new ≡ net.old }
 {
@@ -131,8 +128,7 @@ pub fn run_push<K: Sink, N: Door, C: Clock, D: Dice>(
         (λ now_ first second. Yields (C.moments clock.old) now_ (C.moments clock.new) × YieldsAll (D.words dice.old) (first ∷ second ∷ []) (D.words dice.new))
         (λ job outcome. Dialogue (record { dialled = N.dialled net.old; kept = N.kept net.old; faults = N.door_faults net.old })
         (record { dialled = N.dialled net.new; kept = N.kept net.new; faults = N.door_faults net.new })
-        (λ a b outcome. Pushes (Carried (record { taken = N.Conn.taken; left = N.Conn.left; reads = N.Conn.read_faults; writes = N.Conn.write_faults }) a b)
-        (Caused (record { taken = N.Conn.taken; left = N.Conn.left; reads = N.Conn.read_faults; writes = N.Conn.write_faults }) a b) job outcome)
+        (λ a b outcome. Pushes (WireCarries N.Conn.taken N.Conn.left N.Conn.read_faults N.Conn.write_faults a b) job outcome)
         outcome) outcome }
 
     // With status 4 the sink's count of faults rose.

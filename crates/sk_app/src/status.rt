@@ -2,9 +2,9 @@
 // written.
 ghost use Rattle.std.specs.Prelude.{◌≡◌, ◌⊎◌, Err, IfOk, Result, map, string_bytes};
 ghost use Rattle.sk_base.specs.Outside.{Rose};
-ghost use Rattle.sk_link.specs.Fault.{IsCause};
 ghost use Rattle.sk_resp.specs.Spelling.{Bytes};
-ghost use Rattle.sk_app.specs.Dialogue.{Carried, Dialogue, Gave};
+ghost use Rattle.sk_link.specs.Wire.{WireCarries};
+ghost use Rattle.sk_app.specs.Dialogue.{Dialogue};
 ghost use Rattle.sk_app.specs.Ending.{Concludes};
 ghost use Rattle.sk_app.specs.Paging.{Asks, StatusRun, page_of, status_words};
 ghost use Rattle.sk_app.specs.declared.failure.Failure.{Failure};
@@ -38,8 +38,7 @@ fn page_of(reply: Reply) -> Result<Word, Failure>
 
 // Asks for the page over the link.
 fn ask_over<L: Link>(alloc: Global, link: &mut L) -> Result<Word, Failure>
-    ensures told { (result ≡ Err Memory) ⊎ Asks (L.carried link.old link.new)
-        (IsCause (L.faults link.old) (L.faults link.new) (L.has_ended link.old) (L.unread link.new)) result }
+    ensures told { (result ≡ Err Memory) ⊎ Asks (L.carried link.old link.new) result }
     ensures never { result ≡ Err Line → ⊥ }
 {
     let words = status_words(alloc)?;
@@ -53,8 +52,7 @@ fn ask_over<L: Link>(alloc: Global, link: &mut L) -> Result<Word, Failure>
 fn ask<N: Door>(alloc: Global, net: &mut N, address: &Address) -> Result<Word, Failure>
     ensures told { Dialogue (record { dialled = N.dialled net.old; kept = N.kept net.old; faults = N.door_faults net.old })
         (record { dialled = N.dialled net.new; kept = N.kept net.new; faults = N.door_faults net.new })
-        (λ a b outcome. Asks (Carried (record { taken = N.Conn.taken; left = N.Conn.left; reads = N.Conn.read_faults; writes = N.Conn.write_faults }) a b)
-        (Gave (record { taken = N.Conn.taken; left = N.Conn.left; reads = N.Conn.read_faults; writes = N.Conn.write_faults }) a b) outcome) result }
+        (λ a b outcome. Asks (WireCarries N.Conn.taken N.Conn.left N.Conn.read_faults N.Conn.write_faults a b) outcome) result }
     ensures never { result ≡ Err Line → ⊥ }
 {
     let conn = net.connect(address.host.text(), address.port)?;
@@ -69,8 +67,7 @@ fn outcome_by<N: Door>(alloc: Global, words: &[String], net: &mut N) -> Result<W
     ensures told { StatusRun (map string_bytes words.now) (net.new ≡ net.old)
         (Dialogue (record { dialled = N.dialled net.old; kept = N.kept net.old; faults = N.door_faults net.old })
         (record { dialled = N.dialled net.new; kept = N.kept net.new; faults = N.door_faults net.new })
-        (λ a b outcome. Asks (Carried (record { taken = N.Conn.taken; left = N.Conn.left; reads = N.Conn.read_faults; writes = N.Conn.write_faults }) a b)
-        (Gave (record { taken = N.Conn.taken; left = N.Conn.left; reads = N.Conn.read_faults; writes = N.Conn.write_faults }) a b) outcome)) result }
+        (λ a b outcome. Asks (WireCarries N.Conn.taken N.Conn.left N.Conn.read_faults N.Conn.write_faults a b) outcome)) result }
     ensures untouched { result ≡ Err Line → net.new ≡ net.old }
 {
     let line = read_status(alloc, words)?;
@@ -89,8 +86,7 @@ pub fn run_status<K: Sink, N: Door>(
         × StatusRun (map string_bytes words.now) (net.new ≡ net.old)
         (Dialogue (record { dialled = N.dialled net.old; kept = N.kept net.old; faults = N.door_faults net.old })
         (record { dialled = N.dialled net.new; kept = N.kept net.new; faults = N.door_faults net.new })
-        (λ a b outcome. Asks (Carried (record { taken = N.Conn.taken; left = N.Conn.left; reads = N.Conn.read_faults; writes = N.Conn.write_faults }) a b)
-        (Gave (record { taken = N.Conn.taken; left = N.Conn.left; reads = N.Conn.read_faults; writes = N.Conn.write_faults }) a b) outcome)) outcome }
+        (λ a b outcome. Asks (WireCarries N.Conn.taken N.Conn.left N.Conn.read_faults N.Conn.write_faults a b) outcome)) outcome }
 
     // With status 4 the sink's count of faults rose.
     ensures sink_cause { result ≡ 4 → Rose (K.write_faults sink.old) (K.write_faults sink.new) }

@@ -7,7 +7,10 @@ ghost use Rattle.sk_pipe.specs.Run.{Completes, IsPipeLine, IsPiped, shipped, sta
 ghost use Rattle.sk_pipe.specs.declared.pipe_end.PipeEnd.{PipeEnd};
 ghost use Rattle.sk_serve.specs.Server.{HasFailed};
 ghost use Rattle.sk_base.specs.declared.limits.TheConstants.{MOST_WORKERS};
-ghost use Rattle.sk_app.specs.Dialogue.{Carried, Caused, Dialogue, Gave};
+ghost use Rattle.sk_launcher.specs.Connections.{classes_of, door_tells};
+ghost use Rattle.sk_launcher.specs.Launching.{Launched};
+ghost use Rattle.sk_link.specs.Wire.{WireCarries};
+ghost use Rattle.sk_app.specs.Dialogue.{Dialogue};
 ghost use Rattle.sk_app.specs.Ending.{Concludes};
 ghost use Rattle.sk_app.specs.Paging.{Asks, StatusRun};
 ghost use Rattle.sk_app.specs.Programs.{program_of};
@@ -74,7 +77,10 @@ where
     // Workers.
     ensures worked { program_of (map string_bytes words.now) ≡ Some Work → (outcome : Result Bytes Failure)
         × Concludes outcome result (K.taken sink.old) (K.taken sink.new)
-        × WorkRun (vec_len teams.old) (map string_bytes words.now) ((net.new ≡ net.old) × (teams.new ≡ teams.old)) outcome }
+        × WorkRun (vec_len teams.old) (map string_bytes words.now) ((net.new ≡ net.old) × (teams.new ≡ teams.old))
+        (λ line how. Launched (WireCarries N.Conn.taken N.Conn.left N.Conn.read_faults N.Conn.write_faults)
+        (Rose (N.door_faults net.old) (N.door_faults net.new)) line (door_tells (N.dialled net.old) (N.kept net.old))
+        (door_tells (N.dialled net.new) (N.kept net.new)) (classes_of teams.old.items) how) outcome }
 
     // A push.
     ensures pushed { program_of (map string_bytes words.now) ≡ Some Push → (outcome : Result Bytes Failure)
@@ -83,8 +89,7 @@ where
         (λ now_ first second. Yields (C.moments clock.old) now_ (C.moments clock.new) × YieldsAll (D.words dice.old) (first ∷ second ∷ []) (D.words dice.new))
         (λ job outcome. Dialogue (record { dialled = N.dialled net.old; kept = N.kept net.old; faults = N.door_faults net.old })
         (record { dialled = N.dialled net.new; kept = N.kept net.new; faults = N.door_faults net.new })
-        (λ a b outcome. Pushes (Carried (record { taken = N.Conn.taken; left = N.Conn.left; reads = N.Conn.read_faults; writes = N.Conn.write_faults }) a b)
-        (Caused (record { taken = N.Conn.taken; left = N.Conn.left; reads = N.Conn.read_faults; writes = N.Conn.write_faults }) a b) job outcome)
+        (λ a b outcome. Pushes (WireCarries N.Conn.taken N.Conn.left N.Conn.read_faults N.Conn.write_faults a b) job outcome)
         outcome) outcome }
 
     // A page.
@@ -93,8 +98,7 @@ where
         × StatusRun (map string_bytes words.now) (net.new ≡ net.old)
         (Dialogue (record { dialled = N.dialled net.old; kept = N.kept net.old; faults = N.door_faults net.old })
         (record { dialled = N.dialled net.new; kept = N.kept net.new; faults = N.door_faults net.new })
-        (λ a b outcome. Asks (Carried (record { taken = N.Conn.taken; left = N.Conn.left; reads = N.Conn.read_faults; writes = N.Conn.write_faults }) a b)
-        (Gave (record { taken = N.Conn.taken; left = N.Conn.left; reads = N.Conn.read_faults; writes = N.Conn.write_faults }) a b) outcome)) outcome }
+        (λ a b outcome. Asks (WireCarries N.Conn.taken N.Conn.left N.Conn.read_faults N.Conn.write_faults a b) outcome)) outcome }
 
     // Words that name no program are refused.
     ensures unknown { (IsPipeLine (map string_bytes words.now) → ⊥) → program_of (map string_bytes words.now) ≡ None → result ≡ 2 }
@@ -103,8 +107,8 @@ where
     ensures refused { result ≡ 2 → (source.new ≡ source.old) × (sink.new ≡ sink.old) × (net.new ≡ net.old) × (teams.new ≡ teams.old) }
     ensures source_alone { (IsPipeLine (map string_bytes words.now) → ⊥) → source.new ≡ source.old }
 
-    // There are as many teams as before, and `work` alone has to do with them.
-    ensures teams { vec_len teams.new ≡ vec_len teams.old }
+    // The teams stand in their order again, and `work` alone has to do with them.
+    ensures teams { classes_of teams.new.items ≡ classes_of teams.old.items }
     ensures others { (program_of (map string_bytes words.now) ≡ Some Work → ⊥) → teams.new ≡ teams.old }
 
     // With status 4 the sink's count of faults rose. (For the pipe that is said above.)

@@ -6,6 +6,9 @@ ghost use Rattle.sk_base.specs.declared.limits.TheConstants.{MOST_WORKERS};
 ghost use Rattle.sk_app.specs.Ending.{Concludes};
 ghost use Rattle.sk_app.specs.Working.{IsOutcome, WorkRun, summary_text};
 ghost use Rattle.sk_app.specs.declared.failure.Failure.{Failure};
+ghost use Rattle.sk_launcher.specs.Connections.{classes_of, door_tells};
+ghost use Rattle.sk_launcher.specs.Launching.{Launched};
+ghost use Rattle.sk_link.specs.Wire.{WireCarries};
 ghost use Rattle.sk_app.specs.declared.failure.Failure.TheVariants.{Line};
 
 use crate::Failure;
@@ -54,8 +57,11 @@ fn outcome_by<R: Threads + Wait + Sync, N: Door, C: Clock + Send, D: Dice>(
 ) -> Result<Word, Failure>
     requires rules { vec_len rules ≡ vec_len teams.old }
     requires few { vec_len teams.old ≤ MOST_WORKERS }
-    ensures told { WorkRun (vec_len teams.old) (map string_bytes words.now) ((net.new ≡ net.old) × (teams.new ≡ teams.old)) result }
-    ensures teams { vec_len teams.new ≡ vec_len teams.old }
+    ensures told { WorkRun (vec_len teams.old) (map string_bytes words.now) ((net.new ≡ net.old) × (teams.new ≡ teams.old))
+        (λ line how. Launched (WireCarries N.Conn.taken N.Conn.left N.Conn.read_faults N.Conn.write_faults)
+        (Rose (N.door_faults net.old) (N.door_faults net.new)) line (door_tells (N.dialled net.old) (N.kept net.old))
+        (door_tells (N.dialled net.new) (N.kept net.new)) (classes_of teams.old.items) how) result }
+    ensures teams { classes_of teams.new.items ≡ classes_of teams.old.items }
     ensures untouched { result ≡ Err Line → (net.new ≡ net.old) × (teams.new ≡ teams.old) }
 {
     let line = read_work(alloc, words, teams.len() as u32)?;
@@ -81,10 +87,13 @@ pub fn run_work<R: Threads + Wait + Sync, K: Sink, N: Door, C: Clock + Send, D: 
     requires rules { vec_len rules ≡ vec_len teams.old }
     requires few { vec_len teams.old ≤ MOST_WORKERS }
     ensures told { (outcome : Result Bytes Failure) × Concludes outcome result (K.taken sink.old) (K.taken sink.new)
-        × WorkRun (vec_len teams.old) (map string_bytes words.now) ((net.new ≡ net.old) × (teams.new ≡ teams.old)) outcome }
+        × WorkRun (vec_len teams.old) (map string_bytes words.now) ((net.new ≡ net.old) × (teams.new ≡ teams.old))
+        (λ line how. Launched (WireCarries N.Conn.taken N.Conn.left N.Conn.read_faults N.Conn.write_faults)
+        (Rose (N.door_faults net.old) (N.door_faults net.new)) line (door_tells (N.dialled net.old) (N.kept net.old))
+        (door_tells (N.dialled net.new) (N.kept net.new)) (classes_of teams.old.items) how) outcome }
 
-    // There are as many teams as before.
-    ensures teams { vec_len teams.new ≡ vec_len teams.old }
+    // The teams stand in their order again.
+    ensures teams { classes_of teams.new.items ≡ classes_of teams.old.items }
 
     // With status 4 the sink's count of faults rose.
     ensures sink_cause { result ≡ 4 → Rose (K.write_faults sink.old) (K.write_faults sink.new) }

@@ -1,18 +1,22 @@
 -- How workers leave, one after another.
-use Rattle.std.proofs.Common.{◌≡◌, ◌∙◌, sym, ap, List, [], ◌∷◌, ◌++◌, append_assoc, append-nil, map, refl, option_map, option_to_list}
+use Rattle.std.proofs.Common.{◌≡◌, ◌∙◌, sym, ap, List, [], ◌∷◌, ◌++◌, append_assoc, append-nil, map, refl, option_map}
+use Rattle.std.specs.Prelude.{option_to_list}
 use Rattle.std.specs.List.{AllZip}
-use Rattle.sk_resp.specs.Spelling.{Bytes}
 use Rattle.sk_link.specs.Wire.{WireState}
 use Rattle.sk_launcher.specs.Connections.{DoorTells, Each, one_more, Keeping}
-use Rattle.sk_launcher.specs.Counting.{TallyView}
 use Rattle.sk_launcher.specs.Faults.{by_work}
-use Rattle.sk_launcher.specs.Launching.{work_faults}
+use Rattle.sk_launcher.specs.Launching.{AllReturned, Returned, Returns, work_faults}
 use Rattle.sk_launcher.specs.Working.{WorkState}
-use Rattle.sk_launcher.specs.declared.launch_fault.LaunchFault.{LaunchFault}
-use Rattle.sk_launcher.proofs.Hiring.{map_end, zip_end}
+use Rattle.sk_launcher.proofs.Employed.{map_end}
 
 grow : {A : Type 0} (before xs xs' m m' l : List A) → xs ≡ before ++ m → xs' ≡ xs ++ l → m' ≡ m ++ l → xs' ≡ before ++ m'
 grow before xs xs' m m' l a b c = b ∙ ap (λ z. z ++ l) a ∙ append_assoc before m l ∙ ap (λ z. before ++ z) (sym c)
+
+zip_end : {A B : Type 0} (R : A → B → Type 0) (xs : List A) (ys : List B) (x : A) (y : B) → AllZip R xs ys → R x y → AllZip R (xs ++ x ∷ []) (ys ++ y ∷ [])
+zip_end R [] [] x y all one = (one, tt)
+zip_end R (a ∷ xs) (b ∷ ys) x y all one = (all.0, zip_end R xs ys x y all.1 one)
+zip_end R [] (b ∷ ys) x y all one = absurd all
+zip_end R (a ∷ xs) [] x y all one = absurd all
 
 work_faults_end : {Link : Type 0} (gone : List (WorkState Link)) (one : WorkState Link)
     → work_faults (gone ++ one ∷ []) ≡ work_faults gone ++ option_to_list (option_map by_work one.fault)
@@ -21,20 +25,28 @@ work_faults_end (w ∷ gone) one =
     ap (λ z. option_to_list (option_map by_work w.fault) ++ z) (work_faults_end gone one)
     ∙ sym (append_assoc (option_to_list (option_map by_work w.fault)) (work_faults gone) (option_to_list (option_map by_work one.fault)))
 
-pub gone_more : {Conn Row : Type 0} (Leaving : Row → WorkState (WireState Conn) → Type 0) (from mid to : DoorTells Conn) (rows : List Row) (row : Row) (teams0 teams teams' : List (List Bytes)) (tallies0 tallies tallies' : List TallyView)
-    (faults0 faults faults' : List LaunchFault)
+returned_more : {Link : Type 0} (gone : List (WorkState Link)) (one : WorkState Link) (first before after : Returns) → AllReturned gone first before →
+    Returned one before after → AllReturned (gone ++ one ∷ []) first after
+returned_more gone one first before after p q = record {
+  teams = grow first.teams before.teams after.teams (map (λ w. w.settings.classes) gone) _ (one.settings.classes ∷ []) p.teams q.teams (map_end (λ (w : WorkState _). w.settings.classes) gone one);
+  tallies = grow first.tallies before.tallies after.tallies (map (λ w. w.tally) gone) _ (one.tally ∷ []) p.tallies q.tallies (map_end (λ (w : WorkState _). w.tally) gone one);
+  faults = grow first.faults before.faults after.faults (work_faults gone) _ (option_to_list (option_map by_work one.fault)) p.faults q.faults (work_faults_end gone one);
+}
+
+pub nobody_returned : {Link : Type 0} (r : Returns) → AllReturned {Link = Link} [] r r
+nobody_returned r = record { teams = sym (append-nil r.teams); tallies = sym (append-nil r.tallies); faults = sym (append-nil r.faults) }
+
+-- one more left
+pub gone_more : {Conn Row : Type 0} (Leaving : Row → WorkState (WireState Conn) → Type 0) (from mid to : DoorTells Conn) (rows : List Row) (row : Row)
+    (first before after : Returns)
     → ((gone : List (WorkState (WireState Conn))) × AllZip Leaving rows gone × Each (λ a gone b. Keeping a gone.link.conn b) from gone mid
-    × (teams ≡ teams0 ++ map (λ gone. gone.settings.classes) gone) × (tallies ≡ tallies0 ++ map (λ gone. gone.tally) gone) × (faults ≡ faults0 ++ work_faults gone))
-    → ((one : WorkState (WireState Conn)) × Leaving row one × Keeping mid one.link.conn to × (teams' ≡ teams ++ one.settings.classes ∷ [])
-    × (tallies' ≡ tallies ++ one.tally ∷ []) × (faults' ≡ faults ++ option_to_list (option_map by_work one.fault)))
+    × AllReturned gone first before)
+    → ((one : WorkState (WireState Conn)) × Leaving row one × Keeping mid one.link.conn to × Returned one before after)
     → (gone : List (WorkState (WireState Conn))) × AllZip Leaving (rows ++ row ∷ []) gone
-    × Each (λ a gone b. Keeping a gone.link.conn b) from gone to × (teams' ≡ teams0 ++ map (λ gone. gone.settings.classes) gone)
-    × (tallies' ≡ tallies0 ++ map (λ gone. gone.tally) gone) × (faults' ≡ faults0 ++ work_faults gone)
-gone_more Leaving from mid to rows row teams0 teams teams' tallies0 tallies tallies' faults0 faults faults' (gone, zipped, chain, t, u, f) (one, left, kept, t', u', f') = (
+    × Each (λ a gone b. Keeping a gone.link.conn b) from gone to × AllReturned gone first after
+gone_more Leaving from mid to rows row first before after (gone, zipped, chain, returned) (one, left, kept, more) = (
   gone ++ one ∷ [],
   zip_end Leaving rows gone row one zipped left,
   one_more gone mid to one chain kept,
-  grow teams0 teams teams' (map (λ (g : WorkState (WireState _)). g.settings.classes) gone) _ (one.settings.classes ∷ []) t t' (map_end (λ g. g.settings.classes) gone one _ refl),
-  grow tallies0 tallies tallies' (map (λ (g : WorkState (WireState _)). g.tally) gone) _ (one.tally ∷ []) u u' (map_end (λ g. g.tally) gone one _ refl),
-  grow faults0 faults faults' (work_faults gone) (work_faults (gone ++ one ∷ [])) (option_to_list (option_map by_work one.fault)) f f' (work_faults_end gone one),
+  returned_more gone one first before after returned more,
 )

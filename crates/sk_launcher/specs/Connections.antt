@@ -1,7 +1,10 @@
 -- The connections of a launcher: the door gives them, and in the end they are left to it.
-use Rattle.std.specs.Prelude.{◌≡◌, ◌++◌, List, [], ◌∷◌, Option}
+use denote.Param.Members.{Mut}
+use Rattle.std.specs.Prelude.{◌≡◌, ◌++◌, ℕ, List, [], ◌∷◌, map, Option}
 use Rattle.sk_edge.specs.Collected.{Collected, Keeps, MakesRoom}
 use Rattle.sk_edge.specs.Doors.{GivesFirst}
+use Rattle.sk_resp.specs.Spelling.{Bytes}
+use Rattle.sk_worker.specs.declared.registry.Registry.{Registry}
 
 -- Each of these in turn led from one state to the next.
 pub data Each {S A : Type 0} (Step : S → A → S → Type 0) (from : S) : List A → S → Type 0 where
@@ -15,6 +18,11 @@ pub record DoorTells (Conn : Type 0) : Type 0 where
 
 abbrev pub door_tells : {Conn : Type 0} → Option (List Conn) → Option (Collected Conn) → DoorTells Conn
 door_tells dialled kept = record { dialled = dialled; kept = kept }
+
+-- the classes of each team, whatever its boxed jobs and delay rules are made of
+abbrev pub classes_of : {Job Rule : Type 0} {OfJob : Job → Type 0} {OfRule : Rule → Type 0} {Delays : Mut ((rule : Rule) × OfRule rule) (ℕ × Unit {0}) ℕ} →
+    List (Registry Job Rule OfJob OfRule Delays) → List (List Bytes)
+classes_of teams = map (λ team. team.classes) teams
 
 -- The door gave this connection, and made room to keep one.
 abbrev pub Gives : {Conn : Type 0} → DoorTells Conn → Conn → DoorTells Conn → Type 0

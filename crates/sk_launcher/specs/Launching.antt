@@ -1,22 +1,22 @@
 -- What a launcher did: the poller's turns, each worker's turns between its joining and its leaving, and which answer came of them.
-use Rattle.std.specs.Prelude.{◌≡◌, ◌≤◌, ◌++◌, ℕ, false, List, [], ◌∷◌, map, Option, Some, None, option_map, option_to_list, Result, Ok, Err, if◌then◌else◌, nat_le}
+use Rattle.std.specs.Prelude.{◌≡◌, ◌+◌, ◌<◌, ◌≤◌, ◌++◌, ℕ, false, List, [], ◌∷◌, length, map, Option, Some, None, option_map, option_to_list, Result, Ok, Err, IfOk, if◌then◌else◌, nat_le}
 use Rattle.std.specs.Bool.{MatchBool}
-use Rattle.std.specs.List.{AllByRecursion}
+use Rattle.std.specs.List.{AllByRecursion, AllZip}
 use Rattle.std.specs.Result.{is_err}
 use Rattle.sk_resp.specs.Spelling.{Bytes}
+use Rattle.sk_line.specs.declared.work_line.WorkLine.{WorkLine}
 use Rattle.sk_link.specs.Call.{Call}
 use Rattle.sk_link.specs.Wire.{WireState}
-use Rattle.sk_link.specs.declared.link.LinkFault.{LinkFault}
-use Rattle.sk_policy.specs.Order.{Order}
-use Rattle.sk_worker.specs.Event.{asked}
-use Rattle.sk_worker.specs.Leaving.{LeaveTranscript, leaving}
+use Rattle.sk_worker.specs.Leaving.{Leaves as GivesBack, leaving}
 use Rattle.sk_worker.specs.Saying.{Joins}
 use Rattle.sk_worker.specs.Stage.{Settings}
 use Rattle.sk_worker.specs.declared.turn.WorkFault.{WorkFault}
-use Rattle.sk_launcher.specs.Connections.{DoorTells, Gives}
-use Rattle.sk_launcher.specs.Counting.{no_turns, total_from}
-use Rattle.sk_launcher.specs.Faults.{by_work, status_of}
-use Rattle.sk_launcher.specs.Working.{WorkState, settings}
+use Rattle.sk_launcher.specs.Connections.{DoorTells, Each, Gives, Keeping}
+use Rattle.sk_launcher.specs.Counting.{TallyView, no_turns, total_from}
+use Rattle.sk_launcher.specs.Faults.{by_poll, by_work, status_of}
+use Rattle.sk_launcher.specs.Polling.{PollState, PollerTurn}
+use Rattle.sk_launcher.specs.Turning.{WentOn}
+use Rattle.sk_launcher.specs.Working.{WorkState, WorkerTurn, settings}
 use Rattle.sk_launcher.specs.declared.counts.Counts.{Counts}
 use Rattle.sk_launcher.specs.declared.launch_fault.LaunchFault.{LaunchFault}
 use Rattle.sk_launcher.specs.declared.launch_fault.LaunchFault.TheVariants as fault
@@ -29,22 +29,20 @@ kept_fault before (Ok a) = before
 kept_fault before (Err f) = Some f
 
 -- A worker joined, or met a fault there.
-pub record HasJoined {Link : Type 0} (Carried : Link → Link → List Call → Type 0) (Gave : Link → Link → LinkFault → Type 0) (a b : WorkState Link) : Type 0 where
+pub record HasJoined {Link : Type 0} (Carried : Link → Link → List Call → Type 0) (a b : WorkState Link) : Type 0 where
   pub result : Result (Unit {0}) WorkFault
-  pub says : Joins (Gave a.link b.link) (λ calls. Carried a.link b.link calls) a.settings.ident result
+  pub says : Joins (Carried a.link b.link) a.settings.ident result
   pub becomes : b ≡ record a { link = b.link; ended = is_err result; fault = kept_fault a.fault result }
 
 -- A worker gave back what it held, or met a fault there.
-pub record HasLeft {Link : Type 0} (Carried : Link → Link → List Call → Type 0) (Gave : Link → Link → LinkFault → Type 0) (a b : WorkState Link) : Type 0 where
+pub record HasLeft {Link : Type 0} (Carried : Link → Link → List Call → Type 0) (a b : WorkState Link) : Type 0 where
   pub result : Result ℕ WorkFault
-  pub calls : List Call
-  pub carried : Carried a.link b.link calls
-  pub told : LeaveTranscript (Gave a.link b.link) a.settings.ident (leaving a.held 0) (map asked calls) result
+  pub told : GivesBack (Carried a.link b.link) a.settings.ident (leaving a.held 0) b.held result
   pub becomes : b ≡ record a { link = b.link; held = b.held; ended = is_err result; fault = kept_fault a.fault result }
 
 -- A worker that had a fault does nothing more, and another one left.
-abbrev pub Leaves : {Link : Type 0} → (Link → Link → List Call → Type 0) → (Link → Link → LinkFault → Type 0) → WorkState Link → WorkState Link → Type 0
-Leaves Carried Gave a b = MatchBool a.ended (b ≡ a) (HasLeft Carried Gave a b)
+abbrev pub Leaves : {Link : Type 0} → (Link → Link → List Call → Type 0) → WorkState Link → WorkState Link → Type 0
+Leaves Carried a b = MatchBool a.ended (b ≡ a) (HasLeft Carried a b)
 
 -- ## Hiring
 
@@ -63,29 +61,89 @@ office door teams = record { door = door; teams = teams }
 
 -- A worker began over a link to this connection, with these settings, and joined.
 pub record IsStarted {Conn : Type 0} (Carried : WireState Conn → WireState Conn → List Call → Type 0)
-    (Gave : WireState Conn → WireState Conn → LinkFault → Type 0) (conn : Conn) (own : Settings) (h : Hire (WireState Conn)) : Type 0 where
+    (conn : Conn) (own : Settings) (h : Hire (WireState Conn)) : Type 0 where
   pub link : h.fresh.link ≡ record { conn = conn; pending = []; ended = false }
   pub settings_are : h.fresh.settings ≡ own
   pub held : h.fresh.held ≡ []
   pub whole : h.fresh.ended ≡ false
   pub fault : h.fresh.fault ≡ None
   pub tally : h.fresh.tally ≡ record { taken = 0; counts = no_turns }
-  pub joins : HasJoined Carried Gave h.fresh h.joined
+  pub joins : HasJoined Carried h.fresh h.joined
 
--- The first team got a worker, with a link to a new connection, and it joined.
-pub record Hires {Conn : Type 0} (Carried : WireState Conn → WireState Conn → List Call → Type 0) (Gave : WireState Conn → WireState Conn → LinkFault → Type 0)
-    (ident : Bytes) (order : Order) (prefetch : ℕ) (a : Office Conn) (h : Hire (WireState Conn)) (b : Office Conn) : Type 0 where
+-- The first team got a worker, with a link to a new connection and with the settings of its classes, and it joined.
+pub record Hires {Conn : Type 0} (Carried : WireState Conn → WireState Conn → List Call → Type 0) (own : List Bytes → Settings)
+    (a : Office Conn) (h : Hire (WireState Conn)) (b : Office Conn) : Type 0 where
   pub conn : Conn
   pub classes : List Bytes
   pub gives : Gives a.door conn b.door
   pub team : a.teams ≡ classes ∷ b.teams
-  pub starts : IsStarted Carried Gave conn (settings ident order prefetch classes) h
+  pub starts : IsStarted Carried conn (own classes) h
+
+-- A worker was hired, and this is it once it joined.
+abbrev pub HiresOne : {Conn : Type 0} → (WireState Conn → WireState Conn → List Call → Type 0) → (List Bytes → Settings) →
+    Office Conn → WorkState (WireState Conn) → Office Conn → Type 0
+HiresOne Carried own a worker b = (h : Hire _) × Hires Carried own a h b × (worker ≡ h.joined)
+
+-- Workers were hired in order, and these are they once they joined.
+abbrev pub HiresAll : {Conn : Type 0} → (WireState Conn → WireState Conn → List Call → Type 0) → (List Bytes → Settings) →
+    Office Conn → List (WorkState (WireState Conn)) → Office Conn → Type 0
+HiresAll Carried own a workers b = (hires : List (Hire _)) × Each (Hires Carried own) a hires b × (workers ≡ map (λ h. h.joined) hires)
+
+-- ## The poller
+
+-- A poller of the line that hasn't taken a turn, over a link to this connection.
+pub record IsFreshPoller {Conn : Type 0} (conn : Conn) (line : WorkLine) (p : PollState (WireState Conn)) : Type 0 where
+  pub link : p.link ≡ record { conn = conn; pending = []; ended = false }
+  pub watch_is : p.watch ≡ record { ident = line.ident; loops = line.loops.items; offset = line.offset }
+  pub taken : p.taken ≡ 0
+  pub whole : p.fault ≡ None
+
+-- ## Turns in threads
+
+-- The poller took turns, and so did each worker.
+pub record InThreads {Link : Type 0} (Carried : Link → Link → List Call → Type 0) (poller poller' : PollState Link)
+    (workers workers' : List (WorkState Link)) : Type 0 where
+  pub polled : WentOn (PollerTurn Carried) poller poller'
+  pub worked : AllZip (WentOn (WorkerTurn Carried)) workers workers'
+
+-- None of them met a fault.
+abbrev pub AreWhole : {Link : Type 0} → PollState Link → List (WorkState Link) → Type 0
+AreWhole poller workers = (poller.fault ≡ None) × AllByRecursion (λ w. w.ended ≡ false) workers
+
+-- They took at most so many turns.
+abbrev pub HaveAtMost : {Link : Type 0} → ℕ → ℕ → PollState Link → List (WorkState Link) → Type 0
+HaveAtMost polls turns poller workers = (poller.taken ≤ polls) × AllByRecursion (λ w. w.tally.taken ≤ turns) workers
+
+-- They took exactly so many.
+abbrev pub HaveTaken : {Link : Type 0} → ℕ → ℕ → PollState Link → List (WorkState Link) → Type 0
+HaveTaken polls turns poller workers = (poller.taken ≡ polls) × AllByRecursion (λ w. w.tally.taken ≡ turns) workers
 
 -- ## The answer
 
 abbrev pub work_faults : {Link : Type 0} → List (WorkState Link) → List LaunchFault
 work_faults [] = []
 work_faults (w ∷ workers) = option_to_list (option_map by_work w.fault) ++ work_faults workers
+
+-- what workers gave back: the classes of their teams, their tallies, and their faults
+pub record Returns : Type 0 where
+  pub teams : List (List Bytes)
+  pub tallies : List TallyView
+  pub faults : List LaunchFault
+
+abbrev pub returned : List (List Bytes) → List TallyView → List LaunchFault → Returns
+returned teams tallies faults = record { teams = teams; tallies = tallies; faults = faults }
+
+-- This worker gave back what it had.
+pub record Returned {Link : Type 0} (gone : WorkState Link) (before after : Returns) : Type 0 where
+  pub teams : after.teams ≡ before.teams ++ gone.settings.classes ∷ []
+  pub tallies : after.tallies ≡ before.tallies ++ gone.tally ∷ []
+  pub faults : after.faults ≡ before.faults ++ option_to_list (option_map by_work gone.fault)
+
+-- So did all of these.
+pub record AllReturned {Link : Type 0} (gone : List (WorkState Link)) (before after : Returns) : Type 0 where
+  pub teams : after.teams ≡ before.teams ++ map (λ w. w.settings.classes) gone
+  pub tallies : after.tallies ≡ before.tallies ++ map (λ w. w.tally) gone
+  pub faults : after.faults ≡ before.faults ++ work_faults gone
 
 -- one of these, and none has a lesser status
 pub record IsLeast (f : LaunchFault) (faults : List LaunchFault) : Type 0 where
@@ -103,6 +161,10 @@ abbrev pub lesser : Option LaunchFault → LaunchFault → LaunchFault
 lesser None f = f
 lesser (Some least) f = if nat_le (status_of least) (status_of f) then least else f
 
+abbrev pub hindrance_of : Result (Unit {0}) LaunchFault → List LaunchFault
+hindrance_of (Ok done) = []
+hindrance_of (Err f) = f ∷ []
+
 -- What kept a launcher from having all its workers: nothing; or the door gave no connection; or there was no memory.
 abbrev pub Hindered : Type 0 → List LaunchFault → Type 0
 Hindered DoorFailed [] = Unit {0}
@@ -114,3 +176,65 @@ Hindered DoorFailed other = ⊥
 abbrev pub IsAnswer : List LaunchFault → List Counts → Result Counts LaunchFault → Type 0
 IsAnswer faults counts (Ok sum) = (faults ≡ []) × (sum ≡ total_from no_turns counts)
 IsAnswer faults counts (Err f) = IsLeast f faults
+
+-- There are so many workers, each took so many turns, which isn't 0, and the poller one more.
+pub record AllWorked {Link : Type 0} (threads turns : ℕ) (poller : PollState Link) (workers : List (WorkState Link)) : Type 0 where
+  pub some : 0 < turns
+  pub all : length workers ≡ threads
+  pub taken : HaveTaken (turns + 1) turns poller workers
+
+-- ## A launch
+
+-- Workers were hired, and they and the poller took turns. These are they afterwards.
+pub record Employs {Conn : Type 0} (Carried : WireState Conn → WireState Conn → List Call → Type 0) (own : List Bytes → Settings)
+    (poller done : PollState (WireState Conn)) (before after : Office Conn) (worked : List (WorkState (WireState Conn))) : Type 0 where
+  pub hired : List (WorkState (WireState Conn))
+  pub hiring : HiresAll Carried own before hired after
+  pub working : InThreads Carried poller done hired worked
+
+-- What a process did once its poller had taken its first turn. Workers were hired; all took their turns, side by side; the workers left; and the
+-- connections were left to the door, the poller's first. It says which faults there were, and the counts of each worker.
+pub record Process {Conn : Type 0} (Carried : WireState Conn → WireState Conn → List Call → Type 0) (DoorFailed : Type 0) (own : List Bytes → Settings)
+    (threads turns : ℕ) (poller : PollState (WireState Conn)) (before : Office Conn) (after : DoorTells Conn)
+    (faults : List LaunchFault) (counts : List Counts) : Type 0 where
+  pub office_then : Office Conn
+  pub done : PollState (WireState Conn)
+  pub worked : List (WorkState (WireState Conn))
+  pub gone : List (WorkState (WireState Conn))
+  pub door_then : DoorTells Conn
+  pub hindrance : List LaunchFault
+  pub employed : Employs Carried own poller done before office_then worked
+  pub leaving_them : AllZip (Leaves Carried) worked gone
+  pub kept_first : Keeping office_then.door done.link.conn door_then
+  pub kept_others : Each (λ a w b. Keeping a w.link.conn b) door_then gone after
+  pub hindered : Hindered DoorFailed hindrance
+  pub faults_are : faults ≡ option_to_list (option_map by_poll done.fault) ++ (work_faults gone ++ hindrance)
+  pub counts_are : counts ≡ map (λ w. w.tally.counts) gone
+  pub all : 0 < turns → faults ≡ [] → AllWorked threads turns done gone
+
+-- The poller got the first connection, and took one turn or met a fault there; the process went on; and its answer is the counts of all workers, where
+-- there was no fault, and else a fault with the least status. Where the line has no number of turns there are no counts.
+pub record Launch {Conn : Type 0} (Carried : WireState Conn → WireState Conn → List Call → Type 0) (DoorFailed : Type 0) (line : WorkLine)
+    (before after : DoorTells Conn) (teams : List (List Bytes)) (result : Result Counts LaunchFault) : Type 0 where
+  pub conn : Conn
+  pub door_first : DoorTells Conn
+  pub fresh : PollState (WireState Conn)
+  pub begun : PollState (WireState Conn)
+  pub faults : List LaunchFault
+  pub counts : List Counts
+  pub given : Gives before conn door_first
+  pub is_fresh : IsFreshPoller conn line fresh
+  pub polled : WentOn (PollerTurn Carried) fresh begun
+  pub once : begun.fault ≡ None → begun.taken ≡ 1
+  pub process : Process Carried DoorFailed (settings line.ident line.order line.prefetch) line.threads line.turns begun (office door_first teams) after faults counts
+  pub answered : IsAnswer faults counts result
+  pub some : IfOk result (λ _. 0 < line.turns)
+
+-- What a launcher did with the line, a door and teams that have these classes, and what it answered. There was no connection for the poller, or no memory;
+-- or it went on.
+pub data Launched {Conn : Type 0} (Carried : WireState Conn → WireState Conn → List Call → Type 0) (DoorFailed : Type 0) (line : WorkLine)
+    (before after : DoorTells Conn) (teams : List (List Bytes)) : Result Counts LaunchFault → Type 0 where
+  closed : DoorFailed → after ≡ before → Launched Carried DoorFailed line before after teams (Err fault.Door)
+  starved : after ≡ before → Launched Carried DoorFailed line before after teams (Err fault.Memory)
+  launched : (result : Result Counts LaunchFault) → Launch Carried DoorFailed line before after teams result →
+      Launched Carried DoorFailed line before after teams result

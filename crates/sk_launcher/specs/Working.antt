@@ -1,10 +1,10 @@
 -- The turns of a worker in its thread, each with the link, the clock and the dice of that thread. (What jobs tell of their runs,
 -- and what delay rules answered, is told by each turn itself, and not here.)
-use Rattle.std.specs.Prelude.{◌≡◌, ◌+◌, ℕ, Bool, true, false, List, Option, Some, Result, Ok, Err}
+use denote.Param.Members.{Mut}
+use Rattle.std.specs.Prelude.{◌≡◌, ◌+◌, ℕ, Bool, true, false, List, map, Option, Some, None, Result, Ok, Err}
 use Rattle.sk_base.specs.Yields.{YieldsAll}
 use Rattle.sk_resp.specs.Spelling.{Bytes}
 use Rattle.sk_link.specs.Call.{Call}
-use Rattle.sk_link.specs.declared.link.LinkFault.{LinkFault}
 use Rattle.sk_policy.specs.Order.{Order}
 use Rattle.sk_worker.specs.Event.{Event}
 use Rattle.sk_worker.specs.Stage.{Settings}
@@ -12,6 +12,7 @@ use Rattle.sk_worker.specs.Turn.{Parts, TurnTranscript}
 use Rattle.sk_worker.specs.declared.turn.Turn.{Turn}
 use Rattle.sk_worker.specs.declared.turn.WorkFault.{WorkFault}
 use Rattle.sk_launcher.specs.Counting.{TallyView, counted}
+use Rattle.sk_launcher.specs.declared.worker_thread.WorkerThread.{WorkerThread}
 
 -- ## What is seen
 
@@ -31,18 +32,27 @@ pub record WorkState (Link : Type 0) : Type 0 where
 abbrev pub settings : Bytes → Order → ℕ → List Bytes → Settings
 settings ident order prefetch classes = record { ident = ident; order = order; prefetch = prefetch; classes = classes }
 
-abbrev pub state : {Link : Type 0} → Link → Option (ℕ → ℕ) → Option (ℕ → ℕ) → Settings → List Bytes → Bool → Option WorkFault →
-    TallyView → WorkState Link
-state link moments words settings held ended fault tally = record {
-  link = link;
-  moments = moments;
-  words = words;
-  settings = settings;
-  held = held;
-  ended = ended;
-  fault = fault;
-  tally = tally;
-}
+-- What a thread of a worker has. A worker keeps boxed jobs and delay rules: what these are made of is as it may be.
+module _ {Rule Job : Type 0} {OfRule : Rule → Type 0} {OfJob : Job → Type 0} {Delays : Mut ((rule : Rule) × OfRule rule) (ℕ × Unit {0}) ℕ} where
+  -- a worker in its thread, by what its clock and its dice tell
+  abbrev pub worker_of : {Link C D : Type 0} → (C → Option (ℕ → ℕ)) → (D → Option (ℕ → ℕ)) → WorkerThread Link C D Rule Job OfRule OfJob Delays → WorkState Link
+  worker_of moments words w = record {
+    link = w.link;
+    moments = moments w.clock;
+    words = words w.dice;
+    settings = settings w.processor.worker.ident w.processor.worker.order w.processor.worker.prefetch w.processor.registry.classes;
+    held = w.processor.worker.held.items;
+    ended = w.processor.worker.ended;
+    fault = w.processor.fault;
+    tally = w.processor.tally;
+  }
+
+  -- one whose dice tells nothing, as a process gives it
+  abbrev pub hired_worker : {Link C D : Type 0} → (C → Option (ℕ → ℕ)) → WorkerThread Link C D Rule Job OfRule OfJob Delays → WorkState Link
+  hired_worker moments w = worker_of moments (λ _. None) w
+
+  abbrev pub hired_workers : {Link C D : Type 0} → (C → Option (ℕ → ℕ)) → List (WorkerThread Link C D Rule Job OfRule OfJob Delays) → List (WorkState Link)
+  hired_workers moments staff = map (λ w. hired_worker moments w) staff
 
 -- ## Turns
 
@@ -52,22 +62,22 @@ IsNoted a (Ok t) b = (b.ended ≡ false) × (b.fault ≡ a.fault) × (b.tally �
 IsNoted a (Err f) b = (b.ended ≡ true) × (b.fault ≡ Some f) × (b.tally ≡ a.tally)
 
 -- A turn led from one state to the other, by its own events.
-pub record WorkerTurn {Link : Type 0} (Carried : Link → Link → List Call → Type 0) (Gave : Link → Link → LinkFault → Type 0)
+pub record WorkerTurn {Link : Type 0} (Carried : Link → Link → List Call → Type 0)
     (a : WorkState Link) (result : Result Turn WorkFault) (b : WorkState Link) : Type 0 where
   pub whole : a.ended ≡ false
   pub events : List Event
   pub parts : Parts (λ calls. Carried a.link b.link calls) (λ runs. Unit {0})
       (λ moments. YieldsAll a.moments moments b.moments) (λ words. YieldsAll a.words words b.words) (λ choices. Unit {0}) events
-  pub told : TurnTranscript (Gave a.link b.link) a.settings a.held events b.held result
+  pub told : TurnTranscript a.settings a.held events b.held result
   pub settings_same : b.settings ≡ a.settings
   pub noted : IsNoted a result b
 
 -- ## Laws of a turn
 
-pub begins : {Link : Type 0} (Carried : Link → Link → List Call → Type 0) (Gave : Link → Link → LinkFault → Type 0) (a b : WorkState Link)
-    (result : Result Turn WorkFault) → WorkerTurn Carried Gave a result b → a.ended ≡ false
-begins Carried Gave a b result turn = turn.whole
+pub begins : {Link : Type 0} (Carried : Link → Link → List Call → Type 0) (a b : WorkState Link)
+    (result : Result Turn WorkFault) → WorkerTurn Carried a result b → a.ended ≡ false
+begins Carried a b result turn = turn.whole
 
-pub ends : {Link : Type 0} (Carried : Link → Link → List Call → Type 0) (Gave : Link → Link → LinkFault → Type 0) (a b : WorkState Link) (fault : WorkFault) →
-    WorkerTurn Carried Gave a (Err fault) b → b.ended ≡ true
-ends Carried Gave a b fault turn = turn.noted.0
+pub ends : {Link : Type 0} (Carried : Link → Link → List Call → Type 0) (a b : WorkState Link) (fault : WorkFault) →
+    WorkerTurn Carried a (Err fault) b → b.ended ≡ true
+ends Carried a b fault turn = turn.noted.0

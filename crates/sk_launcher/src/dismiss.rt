@@ -2,12 +2,11 @@
 ghost use Rattle.std.specs.Prelude.{◌≡◌, ◌≤◌, ◌<◌, ◌+◌, ◌∷◌, ◌++◌, [], List, None, map, length, vec_len, vec_capacity, option_map, option_to_list, IfOk};
 ghost use Rattle.std.specs.List.{AllZip};
 ghost use Rattle.sk_base.specs.declared.limits.TheConstants.{MOST_WORKERS};
-ghost use Rattle.sk_launcher.specs.Connections.{Each, Keeping, door_tells};
+ghost use Rattle.sk_launcher.specs.Connections.{Each, Keeping, classes_of, door_tells};
 ghost use Rattle.sk_launcher.specs.Faults.{by_work};
-ghost use Rattle.sk_launcher.specs.Launching.{Leaves, work_faults};
-ghost use Rattle.sk_launcher.specs.Working.{WorkState, settings, state};
-ghost use Rattle.sk_link.specs.Fault.{IsCause};
-ghost use Rattle.sk_link.specs.Wire.{Carries, WireState, unread_of};
+ghost use Rattle.sk_launcher.specs.Launching.{AllReturned, Leaves, Returned, returned};
+ghost use Rattle.sk_launcher.specs.Working.{WorkState, hired_worker};
+ghost use Rattle.sk_link.specs.Wire.{WireCarries, WireState};
 
 use crate::LaunchFault;
 use crate::processor::Processor;
@@ -64,18 +63,11 @@ fn dismiss<N: Door, C: Clock>(
     requires teams { vec_len returns.old.teams < vec_capacity returns.old.teams }
     requires tallies { vec_len returns.old.tallies < vec_capacity returns.old.tallies }
     requires faults { vec_len returns.old.faults < vec_capacity returns.old.faults }
-    ensures gone { (gone : WorkState (WireState N.Conn)) × Leaves
-        (λ a b calls. Carries (record { ended = a.ended; taken = N.Conn.taken a.conn; unread = unread_of a.pending (N.Conn.left a.conn) })
-        (record { ended = b.ended; taken = N.Conn.taken b.conn; unread = unread_of b.pending (N.Conn.left b.conn) }) calls)
-        (λ a b. IsCause (N.Conn.read_faults a.conn + N.Conn.write_faults a.conn) (N.Conn.read_faults b.conn + N.Conn.write_faults b.conn) a.ended
-        (unread_of b.pending (N.Conn.left b.conn)))
-        (state worker.link (C.moments worker.clock) None
-        (settings worker.processor.worker.ident worker.processor.worker.order worker.processor.worker.prefetch worker.processor.registry.classes)
-        worker.processor.worker.held.items worker.processor.worker.ended worker.processor.fault worker.processor.tally) gone
+    ensures gone { (gone : WorkState (WireState N.Conn))
+        × Leaves (WireCarries N.Conn.taken N.Conn.left N.Conn.read_faults N.Conn.write_faults) (hired_worker C.moments worker) gone
         × Keeping (door_tells (N.dialled net.old) (N.kept net.old)) gone.link.conn (door_tells (N.dialled net.new) (N.kept net.new))
-        × (map (λ team. team.classes) returns.new.teams.items ≡ map (λ team. team.classes) returns.old.teams.items ++ gone.settings.classes ∷ [])
-        × (returns.new.tallies.items ≡ returns.old.tallies.items ++ gone.tally ∷ [])
-        × (returns.new.faults.items ≡ returns.old.faults.items ++ option_to_list (option_map by_work gone.fault)) }
+        × Returned gone (returned (classes_of returns.old.teams.items) returns.old.tallies.items returns.old.faults.items)
+        (returned (classes_of returns.new.teams.items) returns.new.tallies.items returns.new.faults.items) }
     ensures room { (vec_capacity returns.new.teams ≡ vec_capacity returns.old.teams) × (vec_capacity returns.new.tallies ≡ vec_capacity returns.old.tallies)
         × (vec_capacity returns.new.faults ≡ vec_capacity returns.old.faults) }
     ensures few { (vec_len returns.new.teams ≡ vec_len returns.old.teams + 1) × (vec_len returns.new.tallies ≡ vec_len returns.old.tallies + 1)
@@ -111,18 +103,13 @@ pub(crate) fn dismiss_all<N: Door, C: Clock>(
     requires teams { vec_len returns.old.teams + vec_len staff ≤ vec_capacity returns.old.teams }
     requires tallies { vec_len returns.old.tallies + vec_len staff ≤ vec_capacity returns.old.tallies }
     requires faults { vec_len returns.old.faults + vec_len staff ≤ vec_capacity returns.old.faults }
-    ensures gone { (gone : List (WorkState (WireState N.Conn))) × AllZip (λ w gone. Leaves
-        (λ a b calls. Carries (record { ended = a.ended; taken = N.Conn.taken a.conn; unread = unread_of a.pending (N.Conn.left a.conn) })
-        (record { ended = b.ended; taken = N.Conn.taken b.conn; unread = unread_of b.pending (N.Conn.left b.conn) }) calls)
-        (λ a b. IsCause (N.Conn.read_faults a.conn + N.Conn.write_faults a.conn) (N.Conn.read_faults b.conn + N.Conn.write_faults b.conn) a.ended
-        (unread_of b.pending (N.Conn.left b.conn)))
-        (state w.link (C.moments w.clock) None
-        (settings w.processor.worker.ident w.processor.worker.order w.processor.worker.prefetch w.processor.registry.classes)
-        w.processor.worker.held.items w.processor.worker.ended w.processor.fault w.processor.tally) gone) staff.items gone
-        × Each (λ a gone b. Keeping a gone.link.conn b) (door_tells (N.dialled net.old) (N.kept net.old)) gone (door_tells (N.dialled net.new) (N.kept net.new))
-        × (map (λ team. team.classes) returns.new.teams.items ≡ map (λ team. team.classes) returns.old.teams.items ++ map (λ gone. gone.settings.classes) gone)
-        × (returns.new.tallies.items ≡ returns.old.tallies.items ++ map (λ gone. gone.tally) gone)
-        × (returns.new.faults.items ≡ returns.old.faults.items ++ work_faults gone) }
+    ensures gone { (gone : List (WorkState (WireState N.Conn)))
+        × AllZip (λ w gone. Leaves (WireCarries N.Conn.taken N.Conn.left N.Conn.read_faults N.Conn.write_faults) (hired_worker C.moments w) gone)
+        staff.items gone
+        × Each (λ a gone b. Keeping a gone.link.conn b) (door_tells (N.dialled net.old) (N.kept net.old)) gone
+        (door_tells (N.dialled net.new) (N.kept net.new))
+        × AllReturned gone (returned (classes_of returns.old.teams.items) returns.old.tallies.items returns.old.faults.items)
+        (returned (classes_of returns.new.teams.items) returns.new.tallies.items returns.new.faults.items) }
     ensures room { (vec_capacity returns.new.teams ≡ vec_capacity returns.old.teams) × (vec_capacity returns.new.faults ≡ vec_capacity returns.old.faults) }
     ensures few { (vec_len returns.new.teams ≡ vec_len returns.old.teams + vec_len staff)
         × (vec_len returns.new.faults ≤ vec_len returns.old.faults + vec_len staff) }

@@ -1,13 +1,11 @@
 // How a worker gets its connection and joins.
-ghost use Rattle.std.specs.Prelude.{◌≡◌, ◌≤◌, ◌<◌, ◌+◌, ◌∷◌, ◌++◌, [], List, None, IfOk, IfErr, OnOk, OnErr, map, length, vec_len, vec_capacity};
-ghost use Rattle.std.specs.List.{AllZip};
+ghost use Rattle.std.specs.Prelude.{◌≡◌, ◌≤◌, ◌<◌, ◌+◌, ◌∷◌, ◌++◌, [], List, None, IfOk, IfErr, OnOk, OnErr, All, false, length, vec_len, vec_capacity};
 ghost use Rattle.sk_base.specs.Outside.{Rose};
 ghost use Rattle.sk_base.specs.declared.limits.TheConstants.{MOST_PREFETCH};
-ghost use Rattle.sk_launcher.specs.Connections.{Each, Gives, door_tells};
-ghost use Rattle.sk_launcher.specs.Launching.{Hindered, Hire, Hires, IsStarted, office};
-ghost use Rattle.sk_launcher.specs.Working.{settings, state};
-ghost use Rattle.sk_link.specs.Fault.{IsCause};
-ghost use Rattle.sk_link.specs.Wire.{Carries, WireState, unread_of};
+ghost use Rattle.sk_launcher.specs.Connections.{Gives, classes_of, door_tells};
+ghost use Rattle.sk_launcher.specs.Launching.{Hindered, Hire, HiresAll, HiresOne, IsStarted, office};
+ghost use Rattle.sk_launcher.specs.Working.{hired_worker, hired_workers, settings};
+ghost use Rattle.sk_link.specs.Wire.{WireCarries, WireState};
 
 use crate::LaunchFault;
 use crate::component::Component;
@@ -69,15 +67,8 @@ fn start<N: Door, C: Clock>(
     clock: &C,
 ) -> WorkerThread<WireLink<N::Conn>, C, PcgDice>
     requires { (1 ≤ prefetch) × (prefetch ≤ MOST_PREFETCH) }
-    ensures { (h : Hire (WireState N.Conn)) × IsStarted
-        (λ a b calls. Carries (record { ended = a.ended; taken = N.Conn.taken a.conn; unread = unread_of a.pending (N.Conn.left a.conn) })
-        (record { ended = b.ended; taken = N.Conn.taken b.conn; unread = unread_of b.pending (N.Conn.left b.conn) }) calls)
-        (λ a b. IsCause (N.Conn.read_faults a.conn + N.Conn.write_faults a.conn) (N.Conn.read_faults b.conn + N.Conn.write_faults b.conn) a.ended
-        (unread_of b.pending (N.Conn.left b.conn)))
-        post.conn (settings post.ident post.order prefetch registry.classes) h
-        × ((state result.link (C.moments result.clock) None
-        (settings result.processor.worker.ident result.processor.worker.order result.processor.worker.prefetch result.processor.registry.classes)
-        result.processor.worker.held.items result.processor.worker.ended result.processor.fault result.processor.tally) ≡ h.joined) }
+    ensures { (h : Hire (WireState N.Conn)) × IsStarted (WireCarries N.Conn.taken N.Conn.left N.Conn.read_faults N.Conn.write_faults) post.conn
+        (settings post.ident post.order prefetch registry.classes) h × (hired_worker C.moments result ≡ h.joined) }
 {
     let worker = Worker::new(alloc, post.ident, post.order, plain, prefetch as usize);
     let mut thread = WorkerThread {
@@ -107,15 +98,10 @@ fn hire_one<N: Door, C: Clock>(
     requires teams { 0 < length outfit.old.teams.items }
     requires rules { 0 < length outfit.old.rules.items }
     requires dice { 0 < length outfit.old.dice.items }
-    ensures hired { IfOk result (λ worker. (h : Hire (WireState N.Conn)) × Hires
-        (λ a b calls. Carries (record { ended = a.ended; taken = N.Conn.taken a.conn; unread = unread_of a.pending (N.Conn.left a.conn) })
-        (record { ended = b.ended; taken = N.Conn.taken b.conn; unread = unread_of b.pending (N.Conn.left b.conn) }) calls)
-        (λ a b. IsCause (N.Conn.read_faults a.conn + N.Conn.write_faults a.conn) (N.Conn.read_faults b.conn + N.Conn.write_faults b.conn) a.ended
-        (unread_of b.pending (N.Conn.left b.conn)))
-        line.now.ident line.now.order line.now.prefetch (office (door_tells (N.dialled net.old) (N.kept net.old)) (map (λ team. team.classes) outfit.old.teams.items)) h (office (door_tells (N.dialled net.new) (N.kept net.new)) (map (λ team. team.classes) outfit.new.teams.items))
-        × ((state worker.link (C.moments worker.clock) None
-        (settings worker.processor.worker.ident worker.processor.worker.order worker.processor.worker.prefetch worker.processor.registry.classes)
-        worker.processor.worker.held.items worker.processor.worker.ended worker.processor.fault worker.processor.tally) ≡ h.joined)) }
+    ensures hired { IfOk result (λ worker. HiresOne (WireCarries N.Conn.taken N.Conn.left N.Conn.read_faults N.Conn.write_faults)
+        (settings line.now.ident line.now.order line.now.prefetch)
+        (office (door_tells (N.dialled net.old) (N.kept net.old)) (classes_of outfit.old.teams.items)) (hired_worker C.moments worker)
+        (office (door_tells (N.dialled net.new) (N.kept net.new)) (classes_of outfit.new.teams.items))) }
     ensures used { OnOk result ((length outfit.new.teams.items + 1 ≡ length outfit.old.teams.items)
         × (length outfit.new.rules.items + 1 ≡ length outfit.old.rules.items) × (length outfit.new.dice.items + 1 ≡ length outfit.old.dice.items)) }
     ensures err { OnErr result (((door_tells (N.dialled net.new) (N.kept net.new)) ≡ (door_tells (N.dialled net.old) (N.kept net.old))) × (outfit.new ≡ outfit.old)) }
@@ -149,15 +135,11 @@ pub(crate) fn hire_all<N: Door, C: Clock>(
     requires teams { line.now.threads ≤ length outfit.old.teams.items }
     requires rules { line.now.threads ≤ length outfit.old.rules.items }
     requires dice { line.now.threads ≤ length outfit.old.dice.items }
-    ensures hired { (hires : List (Hire (WireState N.Conn))) × Each (Hires
-        (λ a b calls. Carries (record { ended = a.ended; taken = N.Conn.taken a.conn; unread = unread_of a.pending (N.Conn.left a.conn) })
-        (record { ended = b.ended; taken = N.Conn.taken b.conn; unread = unread_of b.pending (N.Conn.left b.conn) }) calls)
-        (λ a b. IsCause (N.Conn.read_faults a.conn + N.Conn.write_faults a.conn) (N.Conn.read_faults b.conn + N.Conn.write_faults b.conn) a.ended
-        (unread_of b.pending (N.Conn.left b.conn)))
-        line.now.ident line.now.order line.now.prefetch) (office (door_tells (N.dialled net.old) (N.kept net.old)) (map (λ team. team.classes) outfit.old.teams.items)) hires (office (door_tells (N.dialled net.new) (N.kept net.new)) (map (λ team. team.classes) outfit.new.teams.items))
-        × AllZip (λ h w. (state w.link (C.moments w.clock) None
-        (settings w.processor.worker.ident w.processor.worker.order w.processor.worker.prefetch w.processor.registry.classes)
-        w.processor.worker.held.items w.processor.worker.ended w.processor.fault w.processor.tally) ≡ h.joined) hires staff.new.items }
+    ensures hired { HiresAll (WireCarries N.Conn.taken N.Conn.left N.Conn.read_faults N.Conn.write_faults)
+        (settings line.now.ident line.now.order line.now.prefetch)
+        (office (door_tells (N.dialled net.old) (N.kept net.old)) (classes_of outfit.old.teams.items)) (hired_workers C.moments staff.new.items)
+        (office (door_tells (N.dialled net.new) (N.kept net.new)) (classes_of outfit.new.teams.items)) }
+    ensures enough { OnOk result (All (λ w. w.processor.worker.ended ≡ false) staff.new.items → vec_len staff.new ≡ line.now.threads) }
     ensures few { vec_len staff.new ≤ line.now.threads }
     ensures left { length outfit.new.teams.items + vec_len staff.new ≡ length outfit.old.teams.items }
     ensures cause { IfErr result (λ f. Hindered (Rose (N.door_faults net.old) (N.door_faults net.new)) (f ∷ [])) }

@@ -1,10 +1,18 @@
 // The launcher: it makes the connections, starts the poller and the workers, lets them take their turns in threads, and gives everything back.
-ghost use Rattle.std.specs.Prelude.{◌≡◌, ◌≤◌, ◌<◌, ◌+◌, IfOk, None, length, map, true, vec_len, vec_capacity};
+ghost use Rattle.std.specs.Prelude.{◌≡◌, ◌≤◌, ◌<◌, ◌+◌, ◌-◌, ◌^◌, ◌∷◌, ◌++◌, [], IfOk, IfErr, OnOk, OnErr, None, false, length, map, option_map, option_to_list, true, vec_len, vec_capacity};
 ghost use Rattle.std.specs.List.{list_all};
+ghost use Rattle.sk_base.specs.Outside.{Rose};
 ghost use Rattle.sk_base.specs.declared.limits.TheConstants.{MOST_PREFETCH, MOST_WORKERS};
 ghost use Rattle.sk_cron.specs.Offset.{IsOffset};
-ghost use Rattle.sk_launcher.specs.Launching.{IsAnswer};
+ghost use Rattle.sk_launcher.specs.Connections.{Gives, Keeping, classes_of, door_tells};
+ghost use Rattle.sk_launcher.specs.Launching.{AllWorked, AreWhole, Employs, HaveAtMost, HaveTaken, Hindered, InThreads, IsAnswer, Launched, Process, hindrance_of, office};
+ghost use Rattle.sk_launcher.specs.Faults.{by_poll};
+ghost use Rattle.sk_launcher.specs.Polling.{PollState, PollerTurn, own_poller};
+ghost use Rattle.sk_launcher.specs.Turning.{WentOn};
+ghost use Rattle.sk_launcher.specs.Working.{hired_workers, settings};
+ghost use Rattle.sk_link.specs.Wire.{WireCarries, WireState};
 ghost use Rattle.sk_poller.specs.Loop.{is_loop};
+ghost use Rattle.sk_poller.specs.Stage.{watch_of};
 
 use crate::component::Component;
 use crate::dismiss::{Returns, dismiss_all};
@@ -53,7 +61,10 @@ fn own_dices<D: Dice>(
 }
 
 // How many turns a worker takes. With 0 on the line it goes on until a fault: 2^64 - 1 turns have no end.
-fn turns_of(line: &WorkLine) -> u64 {
+fn turns_of(line: &WorkLine) -> u64
+    ensures is { 0 < line.now.turns → result ≡ line.now.turns }
+    ensures few { 0 < line.now.turns → result < 2 ^ 64 - 1 }
+{
     if line.turns == 0 {
         u64::MAX
     } else {
@@ -100,8 +111,12 @@ fn make_ready<N: Door, D: Dice>(
     dice: &mut D,
 ) -> Result<Ready<N>, LaunchFault>
     requires { line.now.threads ≤ MOST_WORKERS }
+    ensures given { IfOk result (λ r. (r.ident ≡ line.now.ident)
+        × Gives (door_tells (N.dialled net.old) (N.kept net.old)) r.conn (door_tells (N.dialled net.new) (N.kept net.new))) }
     ensures dice { IfOk result (λ r. length r.others.items ≡ line.now.threads) }
-    ensures empty { IfOk result (λ r. (vec_len r.returns.teams ≡ 0) × (vec_len r.returns.tallies ≡ 0) × (vec_len r.returns.faults ≡ 0)) }
+    ensures empty { IfOk result (λ r. (r.returns.teams.items ≡ []) × (r.returns.tallies.items ≡ []) × (r.returns.faults.items ≡ [])) }
+    ensures err { OnErr result (door_tells (N.dialled net.new) (N.kept net.new) ≡ door_tells (N.dialled net.old) (N.kept net.old)) }
+    ensures cause { IfErr result (λ f. Hindered (Rose (N.door_faults net.old) (N.door_faults net.new)) (f ∷ [])) }
     ensures room { IfOk result (λ r. (teams ≤ vec_capacity r.returns.teams) × (line.now.threads ≤ vec_capacity r.returns.tallies)
         × (line.now.threads + 2 ≤ vec_capacity r.returns.faults)) }
     ensures later { N.door_faults net.old ≤ N.door_faults net.new }
@@ -129,7 +144,11 @@ fn start_poller<N: Door, C: Clock>(
     clock: &C,
     dice: PcgDice,
 ) -> PollerThread<WireLink<N::Conn>, C, PcgDice>
-    ensures { result.fault ≡ None → result.taken ≡ 1 }
+    ensures once { result.fault ≡ None → result.taken ≡ 1 }
+    ensures most { result.taken ≤ 1 }
+    ensures begun { (fresh : PollState (WireState N.Conn)) × (fresh.link ≡ record { conn = conn; pending = []; ended = false })
+        × (fresh.watch ≡ watch_of poller) × (fresh.taken ≡ 0) × (fresh.fault ≡ None)
+        × WentOn (PollerTurn (WireCarries N.Conn.taken N.Conn.left N.Conn.read_faults N.Conn.write_faults)) fresh (own_poller C.moments result) }
 {
     let mut poller = PollerThread {
         poller,
@@ -152,7 +171,12 @@ fn run_threads<R: Threads + Wait + Sync, L: Link + Drop + Send, C: Clock + Send>
     staff: &mut Vec<WorkerThread<L, C, PcgDice>>,
 )
     requires { 0 < vec_len staff.old }
-    ensures { vec_len staff.new ≡ vec_len staff.old }
+    ensures worked { InThreads L.carried (own_poller C.moments poller.old) (own_poller C.moments poller.new)
+        (hired_workers C.moments staff.old.items) (hired_workers C.moments staff.new.items) }
+    ensures same { vec_len staff.new ≡ vec_len staff.old }
+    ensures taken { HaveAtMost shared.now.polls shared.now.turns (own_poller C.moments poller.old) (hired_workers C.moments staff.old.items)
+        → AreWhole (own_poller C.moments poller.new) (hired_workers C.moments staff.new.items)
+        → HaveTaken shared.now.polls shared.now.turns (own_poller C.moments poller.new) (hired_workers C.moments staff.new.items) }
 {
     run_on(rt, shared, poller, staff.as_mut_slice());
 }
@@ -166,11 +190,59 @@ fn work<R: Threads + Wait + Sync, N: Door, C: Clock + Send>(
     staff: &mut Vec<WorkerThread<WireLink<N::Conn>, C, PcgDice>>,
 )
     requires { 1 ≤ line.now.threads }
-    ensures { vec_len staff.new ≡ vec_len staff.old }
+    ensures worked { InThreads (WireCarries N.Conn.taken N.Conn.left N.Conn.read_faults N.Conn.write_faults)
+        (own_poller C.moments poller.old) (own_poller C.moments poller.new)
+        (hired_workers C.moments staff.old.items) (hired_workers C.moments staff.new.items) }
+    ensures same { vec_len staff.new ≡ vec_len staff.old }
+    ensures taken { 0 < line.now.turns → vec_len staff.old ≡ line.now.threads
+        → HaveAtMost 1 0 (own_poller C.moments poller.old) (hired_workers C.moments staff.old.items)
+        → AreWhole (own_poller C.moments poller.new) (hired_workers C.moments staff.new.items)
+        → HaveTaken (line.now.turns + 1) line.now.turns (own_poller C.moments poller.new) (hired_workers C.moments staff.new.items) }
 {
-    if staff.len() == line.threads as usize && are_whole(staff) {
-        run_threads(rt, &Shared::new(alloc, turns_of(line)), poller, staff);
+    if staff.len() != line.threads as usize {
+        return;
     }
+    if !are_whole(staff) {
+        return;
+    }
+    run_threads(rt, &Shared::new(alloc, turns_of(line)), poller, staff);
+}
+
+// Workers are hired, and all take their turns, where the poller had no fault.
+fn employ<R: Threads + Wait + Sync, N: Door, C: Clock + Send>(
+    rt: &R,
+    alloc: Global,
+    line: &WorkLine,
+    poller: &mut PollerThread<WireLink<N::Conn>, C, PcgDice>,
+    staff: &mut Vec<WorkerThread<WireLink<N::Conn>, C, PcgDice>>,
+    outfit: &mut Outfit,
+    net: &mut N,
+    clock: &C,
+) -> Result<(), LaunchFault>
+    requires threads { 1 ≤ line.now.threads }
+    requires prefetch { (1 ≤ line.now.prefetch) × (line.now.prefetch ≤ MOST_PREFETCH) }
+    requires room { (vec_len staff.old ≡ 0) × (line.now.threads ≤ vec_capacity staff.old) }
+    requires outfit { (line.now.threads ≤ length outfit.old.teams.items) × (line.now.threads ≤ length outfit.old.rules.items)
+        × (line.now.threads ≤ length outfit.old.dice.items) }
+    requires begun { poller.old.taken ≤ 1 }
+    ensures employed { Employs (WireCarries N.Conn.taken N.Conn.left N.Conn.read_faults N.Conn.write_faults)
+        (settings line.now.ident line.now.order line.now.prefetch) (own_poller C.moments poller.old) (own_poller C.moments poller.new)
+        (office (door_tells (N.dialled net.old) (N.kept net.old)) (classes_of outfit.old.teams.items))
+        (office (door_tells (N.dialled net.new) (N.kept net.new)) (classes_of outfit.new.teams.items))
+        (hired_workers C.moments staff.new.items) }
+    ensures cause { Hindered (Rose (N.door_faults net.old) (N.door_faults net.new)) (hindrance_of result) }
+    ensures all { OnOk result (0 < line.now.turns → AreWhole (own_poller C.moments poller.new) (hired_workers C.moments staff.new.items)
+        → AllWorked line.now.threads line.now.turns (own_poller C.moments poller.new) (hired_workers C.moments staff.new.items)) }
+    ensures few { vec_len staff.new ≤ line.now.threads }
+    ensures left { length outfit.new.teams.items + vec_len staff.new ≡ length outfit.old.teams.items }
+    ensures later { N.door_faults net.old ≤ N.door_faults net.new }
+{
+    if poller.is_broken() {
+        return Ok(());
+    }
+    let hired = hire_all(alloc, line, outfit, net, clock, staff);
+    work::<R, N, C>(rt, alloc, line, poller, staff);
+    hired
 }
 
 // The poller gives back its connection, and its fault.
@@ -180,6 +252,8 @@ fn dismiss_poller<N: Door, C: Clock>(
     faults: &mut Vec<LaunchFault>,
 )
     requires { vec_len faults.old < vec_capacity faults.old }
+    ensures kept { Keeping (door_tells (N.dialled net.old) (N.kept net.old)) poller.link.conn (door_tells (N.dialled net.new) (N.kept net.new)) }
+    ensures given { faults.new.items ≡ faults.old.items ++ option_to_list (option_map by_poll poller.fault) }
     ensures few { vec_len faults.new ≤ vec_len faults.old + 1 }
     ensures room { vec_capacity faults.new ≡ vec_capacity faults.old }
     ensures faults { N.door_faults net.new ≡ N.door_faults net.old }
@@ -201,7 +275,7 @@ fn dismiss_poller<N: Door, C: Clock>(
 // The teams that had no worker come back behind the others.
 fn return_teams(mut left: VecDeque<Registry>, teams: &mut Vec<Registry>)
     requires { vec_len teams.old + length left.items ≤ vec_capacity teams.old }
-    ensures { vec_len teams.new ≡ vec_len teams.old + length left.items }
+    ensures { classes_of teams.new.items ≡ classes_of teams.old.items ++ classes_of left.items }
 {
     while let Some(team) = left.pop_front() {
         teams.push_reserved(team);
@@ -225,6 +299,16 @@ fn answer(returns: Returns) -> (Vec<Registry>, Result<Counts, LaunchFault>)
     }
 }
 
+// What kept the launcher from having all its workers is one of the faults of all.
+fn keep_hindrance(hired: Result<(), LaunchFault>, faults: &mut Vec<LaunchFault>)
+    requires { vec_len faults.old < vec_capacity faults.old }
+    ensures { faults.new.items ≡ faults.old.items ++ hindrance_of hired }
+{
+    if let Err(fault) = hired {
+        faults.push_reserved(fault);
+    }
+}
+
 // Workers are hired, work and leave.
 fn run_process<R: Threads + Wait + Sync, N: Door, C: Clock + Send>(
     rt: &R,
@@ -242,23 +326,32 @@ fn run_process<R: Threads + Wait + Sync, N: Door, C: Clock + Send>(
     requires room { (vec_len staff ≡ 0) × (line.now.threads ≤ vec_capacity staff) }
     requires outfit { (line.now.threads ≤ length outfit.teams.items) × (line.now.threads ≤ length outfit.rules.items)
         × (line.now.threads ≤ length outfit.dice.items) }
-    requires empty { (vec_len returns.old.teams ≡ 0) × (vec_len returns.old.tallies ≡ 0) × (vec_len returns.old.faults ≡ 0) }
+    requires begun { poller.taken ≤ 1 }
+    requires empty { (returns.old.teams.items ≡ []) × (returns.old.tallies.items ≡ []) × (returns.old.faults.items ≡ []) }
     requires returns { (length outfit.teams.items ≤ vec_capacity returns.old.teams) × (line.now.threads ≤ vec_capacity returns.old.tallies)
         × (line.now.threads + 2 ≤ vec_capacity returns.old.faults) }
-    ensures teams { vec_len returns.new.teams ≡ length outfit.teams.items }
+    ensures process { Process (WireCarries N.Conn.taken N.Conn.left N.Conn.read_faults N.Conn.write_faults)
+        (Rose (N.door_faults net.old) (N.door_faults net.new)) (settings line.now.ident line.now.order line.now.prefetch)
+        line.now.threads line.now.turns (own_poller C.moments poller)
+        (office (door_tells (N.dialled net.old) (N.kept net.old)) (classes_of outfit.teams.items))
+        (door_tells (N.dialled net.new) (N.kept net.new)) returns.new.faults.items (map (λ t. t.counts) returns.new.tallies.items) }
+    ensures teams { classes_of returns.new.teams.items ≡ classes_of outfit.teams.items }
     ensures later { N.door_faults net.old ≤ N.door_faults net.new }
 {
-    let mut hired = Ok(());
-    if !poller.is_broken() {
-        hired = hire_all(alloc, line, &mut outfit, net, clock, &mut staff);
-        work::<R, N, C>(rt, alloc, line, &mut poller, &mut staff);
-    }
+    let hired = employ(
+        rt,
+        alloc,
+        line,
+        &mut poller,
+        &mut staff,
+        &mut outfit,
+        net,
+        clock,
+    );
     dismiss_poller(poller, net, &mut returns.faults);
     dismiss_all(alloc, staff, net, returns);
     return_teams(outfit.teams, &mut returns.teams);
-    if let Err(fault) = hired {
-        returns.faults.push_reserved(fault);
-    }
+    keep_hindrance(hired, &mut returns.faults);
 }
 
 /// Starts a poller and as many workers as the line says, each with a connection, a clock and a dice of its own, and lets them take their turns in
@@ -287,8 +380,10 @@ pub fn launch<R: Threads + Wait + Sync, N: Door, C: Clock + Send, D: Dice>(
     requires prefetch { (1 ≤ line.prefetch) × (line.prefetch ≤ MOST_PREFETCH) }
     requires offset { IsOffset line.offset }
     requires loops { list_all is_loop line.loops.items ≡ true }
-    ensures turns { IfOk result (λ counts. 0 < line.turns) }
-    ensures teams { vec_len teams.new ≡ vec_len teams.old }
+    ensures told { Launched (WireCarries N.Conn.taken N.Conn.left N.Conn.read_faults N.Conn.write_faults)
+        (Rose (N.door_faults net.old) (N.door_faults net.new)) line (door_tells (N.dialled net.old) (N.kept net.old))
+        (door_tells (N.dialled net.new) (N.kept net.new)) (classes_of teams.old.items) result }
+    ensures teams { classes_of teams.new.items ≡ classes_of teams.old.items }
     ensures later { N.door_faults net.old ≤ N.door_faults net.new }
 {
     let staff = Vec::with_capacity(alloc, line.threads as usize)?;

@@ -1,7 +1,6 @@
 // What the thread of the poller has.
-ghost use Rattle.std.specs.Prelude.{◌≡◌, ◌<◌, ◌+◌, ◌-◌, ◌^◌, None, false, is_some};
-ghost use Rattle.sk_link.specs.Fault.{IsCause};
-ghost use Rattle.sk_launcher.specs.Polling.{PollerTurn, begins, ends, poll_state, watch};
+ghost use Rattle.std.specs.Prelude.{◌≡◌, ◌≤◌, ◌<◌, ◌+◌, ◌-◌, ◌^◌, None, false, is_some};
+ghost use Rattle.sk_launcher.specs.Polling.{PollerTurn, begins, ends, poller_of};
 ghost use Rattle.sk_launcher.specs.Turning.{WentOn};
 ghost use Rattle.sk_launcher.specs.TurningLaws.{went_on_none, went_on_more};
 
@@ -30,9 +29,10 @@ impl<L: Link + Drop, C: Clock, D: Dice + Drop> PollerThread<L, C, D> {
         requires whole { self.old.fault ≡ None }
         requires few { self.old.taken ≡ 0 }
         ensures taken { self.new.fault ≡ None → self.new.taken ≡ 1 }
-        ensures went_on { WentOn (PollerTurn (λ a b calls. L.carried a b calls) (λ a b. IsCause (L.faults a) (L.faults b) (L.has_ended a) (L.unread b)))
-            (poll_state self.old.link (C.moments self.old.clock) (D.words self.old.dice) (watch self.old.poller.ident self.old.poller.loops.items self.old.poller.offset) self.old.taken self.old.fault)
-            (poll_state self.new.link (C.moments self.new.clock) (D.words self.new.dice) (watch self.new.poller.ident self.new.poller.loops.items self.new.poller.offset) self.new.taken self.new.fault) }
+        ensures most { self.new.taken ≤ 1 }
+        ensures went_on { WentOn (PollerTurn L.carried)
+            (poller_of C.moments D.words self.old)
+            (poller_of C.moments D.words self.new) }
     {
         match self
             .poller
@@ -45,9 +45,9 @@ impl<L: Link + Drop, C: Clock, D: Dice + Drop> PollerThread<L, C, D> {
 }
 
 impl<L: Link + Drop, C: Clock, D: Dice + Drop> Component for PollerThread<L, C, D> {
-    ghost went_on = { λ a b. WentOn (PollerTurn (λ a b calls. L.carried a b calls) (λ a b. IsCause (L.faults a) (L.faults b) (L.has_ended a) (L.unread b)))
-        (poll_state a.link (C.moments a.clock) (D.words a.dice) (watch a.poller.ident a.poller.loops.items a.poller.offset) a.taken a.fault)
-        (poll_state b.link (C.moments b.clock) (D.words b.dice) (watch b.poller.ident b.poller.loops.items b.poller.offset) b.taken b.fault) };
+    ghost went_on = { λ a b. WentOn (PollerTurn L.carried)
+        (poller_of C.moments D.words a)
+        (poller_of C.moments D.words b) };
 
     ghost is_broken = { λ a. is_some a.fault };
 
@@ -75,5 +75,5 @@ impl<L: Link + Drop, C: Clock, D: Dice + Drop> Component for PollerThread<L, C, 
 
     ghost stays = { λ a. went_on_none _ _ };
 
-    ghost goes_on = { λ a b c p q. went_on_more _ _ (begins _ _) (ends _ _) _ _ _ p q };
+    ghost goes_on = { λ a b c p q. went_on_more _ _ (begins _) (ends _) _ _ _ p q };
 }

@@ -1,10 +1,9 @@
 // What the thread of a worker has.
 ghost use Rattle.std.specs.Prelude.{◌≡◌, false};
-ghost use Rattle.sk_link.specs.Fault.{IsCause};
 ghost use Rattle.sk_launcher.specs.Launching.{HasJoined, Leaves};
 ghost use Rattle.sk_launcher.specs.Turning.{WentOn};
 ghost use Rattle.sk_launcher.specs.TurningLaws.{went_on_none, went_on_more};
-ghost use Rattle.sk_launcher.specs.Working.{WorkerTurn, begins, ends, settings, state};
+ghost use Rattle.sk_launcher.specs.Working.{WorkerTurn, begins, ends, worker_of};
 
 use crate::component::Component;
 use crate::processor::Processor;
@@ -27,13 +26,9 @@ impl<L: Link + Drop, C: Clock, D: Dice + Drop> WorkerThread<L, C, D> {
     /// The worker joins, before its first turn.
     pub fn join(&mut self, alloc: Global)
         requires { self.old.processor.worker.ended ≡ false }
-        ensures joined { HasJoined (λ a b calls. L.carried a b calls) (λ a b. IsCause (L.faults a) (L.faults b) (L.has_ended a) (L.unread b))
-            (state self.old.link (C.moments self.old.clock) (D.words self.old.dice)
-            (settings self.old.processor.worker.ident self.old.processor.worker.order self.old.processor.worker.prefetch self.old.processor.registry.classes)
-            self.old.processor.worker.held.items self.old.processor.worker.ended self.old.processor.fault self.old.processor.tally)
-            (state self.new.link (C.moments self.new.clock) (D.words self.new.dice)
-            (settings self.new.processor.worker.ident self.new.processor.worker.order self.new.processor.worker.prefetch self.new.processor.registry.classes)
-            self.new.processor.worker.held.items self.new.processor.worker.ended self.new.processor.fault self.new.processor.tally) }
+        ensures joined { HasJoined L.carried
+            (worker_of C.moments D.words self.old)
+            (worker_of C.moments D.words self.new) }
     {
         let processor = &mut self.processor;
         if let Err(fault) = processor.worker.join(alloc, &mut self.link) {
@@ -43,13 +38,9 @@ impl<L: Link + Drop, C: Clock, D: Dice + Drop> WorkerThread<L, C, D> {
 
     /// The worker leaves, after its last turn: it gives back the jobs that it holds. One that had a fault doesn't.
     pub fn leave(&mut self, alloc: Global)
-        ensures left { Leaves (λ a b calls. L.carried a b calls) (λ a b. IsCause (L.faults a) (L.faults b) (L.has_ended a) (L.unread b))
-            (state self.old.link (C.moments self.old.clock) (D.words self.old.dice)
-            (settings self.old.processor.worker.ident self.old.processor.worker.order self.old.processor.worker.prefetch self.old.processor.registry.classes)
-            self.old.processor.worker.held.items self.old.processor.worker.ended self.old.processor.fault self.old.processor.tally)
-            (state self.new.link (C.moments self.new.clock) (D.words self.new.dice)
-            (settings self.new.processor.worker.ident self.new.processor.worker.order self.new.processor.worker.prefetch self.new.processor.registry.classes)
-            self.new.processor.worker.held.items self.new.processor.worker.ended self.new.processor.fault self.new.processor.tally) }
+        ensures left { Leaves L.carried
+            (worker_of C.moments D.words self.old)
+            (worker_of C.moments D.words self.new) }
     {
         let processor = &mut self.processor;
         if processor.worker.ended {
@@ -62,13 +53,9 @@ impl<L: Link + Drop, C: Clock, D: Dice + Drop> WorkerThread<L, C, D> {
 }
 
 impl<L: Link + Drop, C: Clock, D: Dice + Drop> Component for WorkerThread<L, C, D> {
-    ghost went_on = { λ a b. WentOn (WorkerTurn (λ a b calls. L.carried a b calls) (λ a b. IsCause (L.faults a) (L.faults b) (L.has_ended a) (L.unread b)))
-        (state a.link (C.moments a.clock) (D.words a.dice)
-        (settings a.processor.worker.ident a.processor.worker.order a.processor.worker.prefetch a.processor.registry.classes) a.processor.worker.held.items
-        a.processor.worker.ended a.processor.fault a.processor.tally)
-        (state b.link (C.moments b.clock) (D.words b.dice)
-        (settings b.processor.worker.ident b.processor.worker.order b.processor.worker.prefetch b.processor.registry.classes) b.processor.worker.held.items
-        b.processor.worker.ended b.processor.fault b.processor.tally) };
+    ghost went_on = { λ a b. WentOn (WorkerTurn L.carried)
+        (worker_of C.moments D.words a)
+        (worker_of C.moments D.words b) };
 
     ghost is_broken = { λ a. a.processor.worker.ended };
 
@@ -104,5 +91,5 @@ impl<L: Link + Drop, C: Clock, D: Dice + Drop> Component for WorkerThread<L, C, 
 
     ghost stays = { λ a. went_on_none _ _ };
 
-    ghost goes_on = { λ a b c p q. went_on_more _ _ (begins _ _) (ends _ _) _ _ _ p q };
+    ghost goes_on = { λ a b c p q. went_on_more _ _ (begins _) (ends _) _ _ _ p q };
 }

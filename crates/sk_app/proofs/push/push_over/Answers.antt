@@ -7,7 +7,7 @@ use Rattle.sk_app.proofs.push.push_over.Goals as goal
 pub returns-clause-told : goal.returns-clause-told
 returns-clause-told g c = elim c.outcome_of.ensures [
   | inl starved ↦ inl starved
-  | inr told ↦ inr (record { pushed = c.send-pushed.result; sent = sends (g.L.Link.carried c.args.link.now c.send-pushed.new.link) (request c.args.job.now) c.send-pushed.result c.send-pushed.ensures.ok c.send-pushed.ensures.err; cause = c.send-pushed.ensures.cause; told = told })
+  | inr told ↦ inr (record { pushed = c.send-pushed.result; sent = sends (g.L.Link.carried c.args.link.now c.send-pushed.new.link) (request c.args.job.now) c.send-pushed.result c.send-pushed.ensures.ok c.send-pushed.ensures.err; told = told })
 ]
 
 pub returns-clause-never : goal.returns-clause-never

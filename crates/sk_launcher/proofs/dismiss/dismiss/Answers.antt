@@ -1,6 +1,6 @@
 use Rattle.std.proofs.Common.{[], ◌∷◌, subst}
 use Rattle.sk_edge.specs.Collected.{Keeps}
-use Rattle.sk_launcher.proofs.Hiring.{map_end}
+use Rattle.sk_launcher.proofs.Hiring.{mapped_end}
 use Rattle.sk_launcher.proofs.dismiss.dismiss.Goals as goal
 
 pub returns-clause-gone : goal.returns-clause-gone
@@ -11,7 +11,9 @@ returns-clause-gone g c = (
     c.leave-2.ensures.told.1,
     subst (λ conn. Keeps (g.N.Door.kept c.args.net.now) (conn ∷ []) (g.N.Door.kept c.leave-2.new.self)) c.into_conn.ensures c.leave-2.ensures.kept,
   ),
-  map_end (λ team. team.classes) _ _ _ c.push_reserved.ensures.items,
-  c.push_reserved-2.ensures.items,
-  c.keep_fault.ensures.faults,
+  record {
+    teams = mapped_end (λ team. team.classes) _ _ _ c.push_reserved.ensures.items;
+    tallies = c.push_reserved-2.ensures.items;
+    faults = c.keep_fault.ensures.faults;
+  },
 )

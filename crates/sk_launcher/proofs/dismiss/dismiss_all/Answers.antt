@@ -1,11 +1,11 @@
-use Rattle.std.proofs.Common.{◌∙◌, [], append-nil, refl, rules, sym}
+use Rattle.std.proofs.Common.{◌∙◌, [], refl, rules}
 use Rattle.sk_launcher.specs.Connections.{none}
-use Rattle.sk_launcher.proofs.Leaving.{gone_more}
+use Rattle.sk_launcher.proofs.Leaving.{gone_more, nobody_returned}
 use Rattle.sk_launcher.proofs.dismiss.dismiss_all.Goals as goal
 
 pub loop-worker-init : goal.loop-worker-init
 loop-worker-init g c = record {
-  gone = ([], tt, none, sym (append-nil _), sym (append-nil _), sym (append-nil _));
+  gone = ([], tt, none, nobody_returned _);
   teams = refl;
   tallies = refl;
   faults = refl;
@@ -20,7 +20,7 @@ loop-worker-preserved g c =
     let i = c.loop-worker.invariant in
     let one = c.dismiss.ensures in
     record {
-      gone = gone_more _ _ _ _ _ _ _ _ _ _ _ _ _ _ _ i.gone one.gone;
+      gone = gone_more _ _ _ _ _ _ _ _ _ i.gone one.gone;
       teams = one.room.0 ∙ i.teams;
       tallies = one.room.1 ∙ i.tallies;
       faults = one.room.2 ∙ i.faults;

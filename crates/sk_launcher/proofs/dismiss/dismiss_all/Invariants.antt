@@ -1,27 +1,20 @@
-use Rattle.std.proofs.Common.{◌≡◌, ◌≤◌, ◌+◌, ◌++◌, List, None, map, length, vec_len, vec_capacity}
+use Rattle.std.proofs.Common.{◌≡◌, ◌≤◌, ◌+◌, List, length, vec_len, vec_capacity}
 use Rattle.std.specs.List.{AllZip}
-use Rattle.sk_link.specs.Fault.{IsCause}
-use Rattle.sk_link.specs.Wire.{Carries, WireState, unread_of}
-use Rattle.sk_launcher.specs.Connections.{Each, Keeping, door_tells}
-use Rattle.sk_launcher.specs.Launching.{Leaves, work_faults}
-use Rattle.sk_launcher.specs.Working.{WorkState, settings, state}
+use Rattle.sk_link.specs.Wire.{WireCarries, WireState}
+use Rattle.sk_launcher.specs.Connections.{Each, Keeping, classes_of, door_tells}
+use Rattle.sk_launcher.specs.Launching.{AllReturned, Leaves, returned}
+use Rattle.sk_launcher.specs.Working.{WorkState, hired_worker}
 use Rattle.sk_launcher.proofs.dismiss.dismiss_all.Given as goal
 
 abbrev pub invariant-loop-worker : goal.invariant-loop-worker
 invariant-loop-worker g l = record {
-  gone : (gone : List (WorkState (WireState g.row.N-Conn.Denot))) × AllZip (λ w gone. Leaves
-      (λ a b calls. Carries (record { ended = a.ended; taken = g.N.Conn.Sink.taken a.conn; unread = unread_of a.pending (g.N.Conn.Source.left a.conn) })
-      (record { ended = b.ended; taken = g.N.Conn.Sink.taken b.conn; unread = unread_of b.pending (g.N.Conn.Source.left b.conn) }) calls)
-      (λ a b. IsCause (g.N.Conn.Source.read_faults a.conn + g.N.Conn.Sink.write_faults a.conn) (g.N.Conn.Source.read_faults b.conn + g.N.Conn.Sink.write_faults b.conn) a.ended
-      (unread_of b.pending (g.N.Conn.Source.left b.conn)))
-      (state w.link (g.C.Clock.moments w.clock) None
-      (settings w.processor.worker.ident w.processor.worker.order w.processor.worker.prefetch w.processor.registry.classes)
-      w.processor.worker.held.items w.processor.worker.ended w.processor.fault w.processor.tally) gone) l.yielded gone
+  gone : (gone : List (WorkState (WireState g.row.N-Conn.Denot)))
+      × AllZip (λ w gone. Leaves (WireCarries g.N.Conn.Sink.taken g.N.Conn.Source.left g.N.Conn.Source.read_faults g.N.Conn.Sink.write_faults)
+      (hired_worker g.C.Clock.moments w) gone) l.yielded gone
       × Each (λ a gone b. Keeping a gone.link.conn b) (door_tells (g.N.Door.dialled l.fn.net) (g.N.Door.kept l.fn.net)) gone
       (door_tells (g.N.Door.dialled l.net) (g.N.Door.kept l.net))
-      × (map (λ team. team.classes) l.returns.teams.items ≡ map (λ team. team.classes) l.fn.returns.teams.items ++ map (λ gone. gone.settings.classes) gone)
-      × (l.returns.tallies.items ≡ l.fn.returns.tallies.items ++ map (λ gone. gone.tally) gone)
-      × (l.returns.faults.items ≡ l.fn.returns.faults.items ++ work_faults gone);
+      × AllReturned gone (returned (classes_of l.fn.returns.teams.items) l.fn.returns.tallies.items l.fn.returns.faults.items)
+      (returned (classes_of l.returns.teams.items) l.returns.tallies.items l.returns.faults.items);
   teams : vec_capacity l.returns.teams ≡ vec_capacity l.fn.returns.teams;
   tallies : vec_capacity l.returns.tallies ≡ vec_capacity l.fn.returns.tallies;
   faults : vec_capacity l.returns.faults ≡ vec_capacity l.fn.returns.faults;

@@ -1,24 +1,17 @@
-use Rattle.std.proofs.Common.{◌≡◌, ◌≤◌, ◌+◌, ◌-◌, List, None, map, length, vec_len, vec_capacity}
-use Rattle.std.specs.List.{AllZip}
-use Rattle.sk_link.specs.Fault.{IsCause}
-use Rattle.sk_link.specs.Wire.{Carries, WireState, unread_of}
-use Rattle.sk_launcher.specs.Connections.{Each, door_tells}
-use Rattle.sk_launcher.specs.Launching.{Hire, Hires, office}
-use Rattle.sk_launcher.specs.Working.{settings, state}
+use Rattle.std.proofs.Common.{◌≡◌, ◌≤◌, ◌+◌, ◌-◌, length, vec_len, vec_capacity}
+use Rattle.sk_link.specs.Wire.{WireCarries}
+use Rattle.sk_launcher.specs.Connections.{classes_of, door_tells}
+use Rattle.sk_launcher.specs.Launching.{HiresAll, office}
+use Rattle.sk_launcher.specs.Working.{hired_workers, settings}
 use Rattle.sk_launcher.proofs.hire.hire_all.Given as goal
 
 abbrev pub invariant-loop-alloc : goal.invariant-loop-alloc
 invariant-loop-alloc g l = record {
-  hired : (hires : List (Hire (WireState g.row.N-Conn.Denot))) × Each (Hires
-      (λ a b calls. Carries (record { ended = a.ended; taken = g.N.Conn.Sink.taken a.conn; unread = unread_of a.pending (g.N.Conn.Source.left a.conn) })
-      (record { ended = b.ended; taken = g.N.Conn.Sink.taken b.conn; unread = unread_of b.pending (g.N.Conn.Source.left b.conn) }) calls)
-      (λ a b. IsCause (g.N.Conn.Source.read_faults a.conn + g.N.Conn.Sink.write_faults a.conn) (g.N.Conn.Source.read_faults b.conn + g.N.Conn.Sink.write_faults b.conn) a.ended
-      (unread_of b.pending (g.N.Conn.Source.left b.conn))) l.line.ident l.line.order l.line.prefetch)
-      (office (door_tells (g.N.Door.dialled l.fn.net) (g.N.Door.kept l.fn.net)) (map (λ team. team.classes) l.fn.outfit.teams.items)) hires
-      (office (door_tells (g.N.Door.dialled l.net) (g.N.Door.kept l.net)) (map (λ team. team.classes) l.outfit.teams.items))
-      × AllZip (λ h w. (state w.link (g.C.Clock.moments w.clock) None
-      (settings w.processor.worker.ident w.processor.worker.order w.processor.worker.prefetch w.processor.registry.classes)
-      w.processor.worker.held.items w.processor.worker.ended w.processor.fault w.processor.tally) ≡ h.joined) hires l.staff.items;
+  hired : HiresAll (WireCarries g.N.Conn.Sink.taken g.N.Conn.Source.left g.N.Conn.Source.read_faults g.N.Conn.Sink.write_faults)
+      (settings l.line.ident l.line.order l.line.prefetch)
+      (office (door_tells (g.N.Door.dialled l.fn.net) (g.N.Door.kept l.fn.net)) (classes_of l.fn.outfit.teams.items))
+      (hired_workers g.C.Clock.moments l.staff.items)
+      (office (door_tells (g.N.Door.dialled l.net) (g.N.Door.kept l.net)) (classes_of l.outfit.teams.items));
   few : vec_len l.staff ≤ l.line.threads;
   teams : length l.outfit.teams.items + vec_len l.staff ≡ length l.fn.outfit.teams.items;
   rules : length l.outfit.rules.items + vec_len l.staff ≡ length l.fn.outfit.rules.items;

@@ -5,4 +5,4 @@ use Rattle.sk_launcher.proofs.hire.hire_one.Goals as goal
 pub returns-clause-hired : goal.returns-clause-hired
 returns-clause-hired g c =
     let post = c.in_ok-post.ensures in
-    hires_by _ _ _ _ _ _ _ _ _ _ _ _ post.given (ap (map (λ team. team.classes)) c.in-Some.ensures.items) post.post.0 post.post.1 c.start.ensures
+    hires_by _ _ _ _ _ _ _ _ _ _ _ post.given (ap (map (λ team. team.classes)) c.in-Some.ensures.items) post.post.0 post.post.1 c.start.ensures

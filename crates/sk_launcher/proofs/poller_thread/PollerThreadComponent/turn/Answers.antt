@@ -4,9 +4,9 @@ use Rattle.sk_launcher.proofs.poller_thread.PollerThreadComponent.turn.Goals as 
 
 pub returns-in-Ok-clause-went_on : goal.returns-in-Ok-clause-went_on
 returns-in-Ok-clause-went_on g c =
-    poller_turned _ _ _ _ _ c.turn.result (Ok c.in-Ok.field-0) c.in-Ok.is c.requires.whole c.pause.ensures c.turn.ensures refl
+    poller_turned _ _ _ _ c.turn.result (Ok c.in-Ok.field-0) c.in-Ok.is c.requires.whole c.pause.ensures c.turn.ensures.told refl
     (none_of c.args.self.now.fault c.requires.whole, refl)
 
 pub returns-in-Err-clause-went_on : goal.returns-in-Err-clause-went_on
 returns-in-Err-clause-went_on g c =
-    poller_turned _ _ _ _ _ c.turn.result (Err c.in-Err.fault) c.in-Err.is c.requires.whole c.pause.ensures c.turn.ensures refl (refl, refl)
+    poller_turned _ _ _ _ c.turn.result (Err c.in-Err.fault) c.in-Err.is c.requires.whole c.pause.ensures c.turn.ensures.told refl (refl, refl)

@@ -1,0 +1,288 @@
+-- What follows of workers that were hired, took turns and left, where none had a fault.
+use Rattle.std.proofs.Common.{◌≡◌, ◌≤◌, ◌<◌, ◌+◌, ◌++◌, ◌∙◌, sym, ap, subst, ℕ, zero, suc, Bool, true, false, List, [], ◌∷◌, map, length, Option, Some, None, option_map, Result, Ok, Err, refl, arith, append_assoc, slice_index_or, take}
+use Rattle.std.specs.Prelude.{option_to_list}
+use Rattle.std.proofs.Math.Seq.{take-append_seam}
+use Rattle.std.specs.Bool.{MatchBool}
+use Rattle.std.specs.List.{All, AllByRecursion, AllZip}
+use Rattle.std.specs.Result.{OnOk, is_err}
+use Rattle.sk_link.specs.Call.{Call}
+use Rattle.sk_link.specs.Wire.{WireState}
+use Rattle.sk_resp.specs.Spelling.{Bytes}
+use Rattle.sk_worker.specs.Stage.{Settings}
+use Rattle.sk_worker.specs.declared.turn.Turn.{Turn}
+use Rattle.sk_worker.specs.declared.turn.WorkFault.{WorkFault}
+use Rattle.sk_launcher.specs.Connections.{Each, none as none_hired, one_more as one_hired}
+use Rattle.sk_launcher.specs.Faults.{by_poll, by_work}
+use Rattle.sk_launcher.specs.Launching.{AllWorked, AreWhole, Employs, HasJoined, HasLeft, HaveTaken, Hire, Hires, HiresAll, InThreads, Leaves, Office, hindrance_of, kept_fault, work_faults}
+use Rattle.sk_launcher.specs.Polling.{PollState, PollerTurn}
+use Rattle.sk_launcher.specs.Turning.{Turns, none, one_more, WentOn, whole, broken}
+use Rattle.sk_launcher.specs.TurningLaws.{went_on_none}
+use Rattle.sk_launcher.specs.Working.{IsNoted, WorkState, WorkerTurn, begins}
+use Rattle.sk_launcher.specs.declared.launch_fault.LaunchFault.{LaunchFault}
+
+-- ## Lists
+
+pub all_end : {A : Type 0} (P : A → Type 0) (xs : List A) (x : A) → AllByRecursion P xs → P x → AllByRecursion P (xs ++ x ∷ [])
+all_end P [] x all last = (last, tt)
+all_end P (y ∷ ys) x all last = (all.0, all_end P ys x all.1 last)
+
+pub map_end : {A B : Type 0} (f : A → B) (xs : List A) (x : A) → map f (xs ++ x ∷ []) ≡ map f xs ++ f x ∷ []
+map_end f [] x = refl
+map_end f (y ∷ ys) x = ap (λ t. f y ∷ t) (map_end f ys x)
+
+pub all_placed : {A B : Type 0} (P : B → Type 0) (f : A → B) (xs : List A) → AllByRecursion P (map f xs) → All (λ x. P (f x)) xs
+all_placed P f [] all k d within = absurd (omega (arith, within))
+all_placed P f (x ∷ xs) all zero d within = all.0
+all_placed P f (x ∷ xs) all (suc k) d within = all_placed P f xs all.1 k d (omega (arith, within))
+
+pub all_listed : {A B : Type 0} (P : B → Type 0) (f : A → B) (xs : List A) → All (λ x. P (f x)) xs → AllByRecursion P (map f xs)
+all_listed P f [] all = tt
+all_listed P f (x ∷ xs) all = (all 0 x (omega arith), all_listed P f xs (λ k d within. all (suc k) d (omega (arith, within))))
+
+pub both : {A : Type 0} (P Q R : A → Type 0) → ((x : A) → P x → Q x → R x) → (xs : List A) → AllByRecursion P xs → AllByRecursion Q xs → AllByRecursion R xs
+both P Q R f [] p q = tt
+both P Q R f (x ∷ xs) p q = (f x p.0 q.0, both P Q R f xs p.1 q.1)
+
+pub along : {A B : Type 0} (Step : A → B → Type 0) (P : A → Type 0) (Q : B → Type 0) → ((a : A) (b : B) → Step a b → P a → Q b) →
+    (xs : List A) (ys : List B) → AllZip Step xs ys → AllByRecursion P xs → AllByRecursion Q ys
+along Step P Q f [] [] zip p = tt
+along Step P Q f (x ∷ xs) (y ∷ ys) zip p = (f x y zip.0 p.0, along Step P Q f xs ys zip.1 p.1)
+along Step P Q f [] (y ∷ ys) zip p = absurd zip
+along Step P Q f (x ∷ xs) [] zip p = absurd zip
+
+pub back : {A B : Type 0} (Step : A → B → Type 0) (P : A → Type 0) (Q : B → Type 0) → ((a : A) (b : B) → Step a b → Q b → P a) →
+    (xs : List A) (ys : List B) → AllZip Step xs ys → AllByRecursion Q ys → AllByRecursion P xs
+back Step P Q f [] [] zip q = tt
+back Step P Q f (x ∷ xs) (y ∷ ys) zip q = (f x y zip.0 q.0, back Step P Q f xs ys zip.1 q.1)
+back Step P Q f [] (y ∷ ys) zip q = absurd zip
+back Step P Q f (x ∷ xs) [] zip q = absurd zip
+
+pub same_length : {A B : Type 0} (Step : A → B → Type 0) (xs : List A) (ys : List B) → AllZip Step xs ys → length ys ≡ length xs
+same_length Step [] [] zip = refl
+same_length Step (x ∷ xs) (y ∷ ys) zip = ap suc (same_length Step xs ys zip.1)
+same_length Step [] (y ∷ ys) zip = absurd zip
+same_length Step (x ∷ xs) [] zip = absurd zip
+
+pub zip_map : {A B : Type 0} (R : A → A → Type 0) (Q : B → B → Type 0) (f : A → B) → ((x y : A) → R x y → Q (f x) (f y)) →
+    (xs ys : List A) → AllZip R xs ys → AllZip Q (map f xs) (map f ys)
+zip_map R Q f by [] [] zip = tt
+zip_map R Q f by (x ∷ xs) (y ∷ ys) zip = (by x y zip.0, zip_map R Q f by xs ys zip.1)
+zip_map R Q f by [] (y ∷ ys) zip = absurd zip
+zip_map R Q f by (x ∷ xs) [] zip = absurd zip
+
+pub all_same : {A : Type 0} (R : A → A → Type 0) → ((x : A) → R x x) → (xs : List A) → AllZip R xs xs
+all_same R same [] = tt
+all_same R same (x ∷ xs) = (same x, all_same R same xs)
+
+pub seam : {A : Type 0} (ws xs : List A) (n : ℕ) → n ≡ length ws → take n (ws ++ xs) ≡ ws
+seam ws xs n is = rw is (take-append_seam ws xs)
+
+-- Who took so many turns at least, and no more, took so many.
+pub all_taken : {A B : Type 0} (f : A → B) (taken : B → ℕ) (R : A → A → Type 0) (turns : ℕ) → ((x y : A) → R x y → taken (f x) ≤ turns → taken (f y) ≤ turns) →
+    (xs ys : List A) → AllZip R xs ys → AllByRecursion (λ b. taken b ≤ turns) (map f xs) → All (λ y. turns ≤ taken (f y)) ys →
+    AllByRecursion (λ b. taken b ≡ turns) (map f ys)
+all_taken f taken R turns keeps xs ys zip most least =
+    both (λ b. taken b ≤ turns) (λ b. turns ≤ taken b) (λ b. taken b ≡ turns) (λ b p q. omega (arith, p, q)) (map f ys) (upper xs ys zip most)
+    (all_listed (λ b. turns ≤ taken b) f ys least)
+  where
+    upper : (vs ws : List _) → AllZip R vs ws → AllByRecursion (λ b. taken b ≤ turns) (map f vs) → AllByRecursion (λ b. taken b ≤ turns) (map f ws)
+    upper [] [] z p = tt
+    upper (v ∷ vs) (w ∷ ws) z p = (keeps v w z.0 p.0, upper vs ws z.1 p.1)
+    upper [] (w ∷ ws) z p = absurd z
+    upper (v ∷ vs) [] z p = absurd z
+
+pub all_up : {A : Type 0} (f : A → ℕ) (turns : ℕ) (xs : List A) → AllByRecursion (λ x. f x ≤ 0) xs → AllByRecursion (λ x. f x ≤ turns) xs
+all_up f turns [] all = tt
+all_up f turns (x ∷ xs) all = (omega (arith, all.0), all_up f turns xs all.1)
+
+pub on_ok : {T E A B : Type 0} (r : Result T E) → OnOk r A → (A → B) → OnOk r B
+on_ok (Ok x) a f = f a
+on_ok (Err e) a f = tt
+
+pub zip_seen : {A B C : Type 0} (R : B → C → Type 0) (f : A → B) (xs : List A) (ys : List C) → AllZip (λ x y. R (f x) y) xs ys → AllZip R (map f xs) ys
+zip_seen R f [] [] zip = tt
+zip_seen R f (x ∷ xs) (y ∷ ys) zip = (zip.0, zip_seen R f xs ys zip.1)
+zip_seen R f [] (y ∷ ys) zip = absurd zip
+zip_seen R f (x ∷ xs) [] zip = absurd zip
+
+pub mapped : {A B C : Type 0} (f : A → B) (g : B → C) (xs : List A) → map g (map f xs) ≡ map (λ x. g (f x)) xs
+mapped f g [] = refl
+mapped f g (x ∷ xs) = ap (λ t. g (f x) ∷ t) (mapped f g xs)
+
+pub same_map : {A B C : Type 0} (R : A → B → Type 0) (f : A → C) (g : B → C) → ((x : A) (y : B) → R x y → g y ≡ f x) → (xs : List A) (ys : List B) → AllZip R xs ys → map g ys ≡ map f xs
+same_map R f g by [] [] zip = refl
+same_map R f g by (x ∷ xs) (y ∷ ys) zip = ap (λ t. t ∷ map g ys) (by x y zip.0) ∙ ap (λ ts. f x ∷ ts) (same_map R f g by xs ys zip.1)
+same_map R f g by [] (y ∷ ys) zip = absurd zip
+same_map R f g by (x ∷ xs) [] zip = absurd zip
+
+none_left : {A : Type 0} (xs ys : List A) → xs ++ ys ≡ [] → xs ≡ []
+none_left [] ys is = refl
+none_left (x ∷ xs) ys is = absurd (cc is)
+
+none_right : {A : Type 0} (xs ys : List A) → xs ++ ys ≡ [] → ys ≡ []
+none_right [] ys is = is
+none_right (x ∷ xs) ys is = absurd (cc is)
+
+no_option : {A B : Type 0} (f : A → B) (o : Option A) → option_to_list (option_map f o) ≡ [] → o ≡ None
+no_option f None is = refl
+no_option f (Some x) is = absurd (cc is)
+
+-- ## A worker without a fault hasn't ended
+
+abbrev pub Tells : {Link : Type 0} → WorkState Link → Type 0
+Tells w = w.fault ≡ None → w.ended ≡ false
+
+joined_tells : {Link : Type 0} (a b : WorkState Link) (result : Result (Unit {0}) WorkFault) →
+    b ≡ record a { link = b.link; ended = is_err result; fault = kept_fault a.fault result } → Tells b
+joined_tells a b (Ok done) is no_fault = ap (λ (w : WorkState _). w.ended) is
+joined_tells a b (Err f) is no_fault = absurd (cc (sym no_fault ∙ ap (λ (w : WorkState _). w.fault) is))
+
+noted_tells : {Link : Type 0} (a b : WorkState Link) (r : Result Turn WorkFault) → IsNoted a r b → Tells b
+noted_tells a b (Ok t) noted no_fault = noted.0
+noted_tells a b (Err f) noted no_fault = absurd (cc (sym no_fault ∙ noted.1))
+
+module _ {Link : Type 0} (Carried : Link → Link → List Call → Type 0) where
+  turns_tell : (answers : List Turn) (a b : WorkState Link) → Tells a → Turns (WorkerTurn Carried) a answers b → Tells b
+  turns_tell [] a b tells none = tells
+  turns_tell (t ∷ answers) a b tells (one_more answers' mid to t' before last) = noted_tells mid b (Ok t) last.noted
+
+  pub went_on_tells : (a b : WorkState Link) → WentOn (WorkerTurn Carried) a b → Tells a → Tells b
+  went_on_tells a b (whole answers turns) tells = turns_tell answers a b tells turns
+  went_on_tells a b (broken answers last f turns broke) tells = noted_tells last b (Err f) broke.noted
+
+  -- It hadn't ended before either.
+  turns_began : (answers : List Turn) (a b : WorkState Link) → Turns (WorkerTurn Carried) a answers b → b.ended ≡ false → a.ended ≡ false
+  turns_began [] a b none goes_on = goes_on
+  turns_began (t ∷ answers) a b (one_more answers' mid to t' before last) goes_on = turns_began answers a mid before last.whole
+
+  pub went_on_began : (a b : WorkState Link) → WentOn (WorkerTurn Carried) a b → b.ended ≡ false → a.ended ≡ false
+  went_on_began a b (whole answers turns) goes_on = turns_began answers a b turns goes_on
+  went_on_began a b (broken answers last f turns broke) goes_on = turns_began answers a last turns broke.whole
+
+  leaves_by : (a b : WorkState Link) (ended : Bool) → a.ended ≡ ended → MatchBool ended (b ≡ a) (HasLeft Carried a b) → Tells a → b.fault ≡ None → a.ended ≡ false
+  leaves_by a b false is left tells no_fault = is
+  leaves_by a b true is left tells no_fault = tells (ap (λ (w : WorkState _). w.fault) (sym left) ∙ no_fault)
+
+  tally_by : (a b : WorkState Link) (ended : Bool) → MatchBool ended (b ≡ a) (HasLeft Carried a b) → b.tally ≡ a.tally
+  tally_by a b false left = ap (λ (w : WorkState _). w.tally) left.becomes
+  tally_by a b true left = ap (λ (w : WorkState _). w.tally) left
+
+  -- One that left without a fault hadn't ended before.
+  leaves_whole : (a b : WorkState Link) → Leaves Carried a b → Tells a → b.fault ≡ None → a.ended ≡ false
+  leaves_whole a b left tells no_fault = leaves_by a b a.ended refl left tells no_fault
+
+  pub leaves_tally : (a b : WorkState Link) → Leaves Carried a b → b.tally ≡ a.tally
+  leaves_tally a b left = tally_by a b a.ended left
+
+  pub all_left_whole : (worked gone : List (WorkState Link)) → AllZip (Leaves Carried) worked gone → AllByRecursion Tells worked → work_faults gone ≡ [] →
+      AllByRecursion (λ w. w.ended ≡ false) worked
+  all_left_whole [] [] zip tells no_fault = tt
+  all_left_whole (w ∷ worked) (g ∷ gone) zip tells no_fault = (
+    leaves_whole w g zip.0 tells.0 (no_option by_work g.fault (none_left (option_to_list (option_map by_work g.fault)) (work_faults gone) no_fault)),
+    all_left_whole worked gone zip.1 tells.1 (none_right (option_to_list (option_map by_work g.fault)) (work_faults gone) no_fault),
+  )
+  all_left_whole [] (g ∷ gone) zip tells no_fault = absurd zip
+  all_left_whole (w ∷ worked) [] zip tells no_fault = absurd zip
+
+  turns_settle : (answers : List Turn) (a b : WorkState Link) → Turns (WorkerTurn Carried) a answers b → b.settings ≡ a.settings
+  turns_settle [] a b none = refl
+  turns_settle (t ∷ answers) a b (one_more answers' mid to t' before last) = last.settings_same ∙ turns_settle answers a mid before
+
+  pub went_on_settles : (a b : WorkState Link) → WentOn (WorkerTurn Carried) a b → b.settings ≡ a.settings
+  went_on_settles a b (whole answers turns) = turns_settle answers a b turns
+  went_on_settles a b (broken answers last f turns broke) = broke.settings_same ∙ turns_settle answers a last turns
+
+  settings_by : (a b : WorkState Link) (ended : Bool) → MatchBool ended (b ≡ a) (HasLeft Carried a b) → b.settings ≡ a.settings
+  settings_by a b false left = ap (λ (w : WorkState _). w.settings) left.becomes
+  settings_by a b true left = ap (λ (w : WorkState _). w.settings) left
+
+  leaves_settled : (a b : WorkState Link) → Leaves Carried a b → b.settings ≡ a.settings
+  leaves_settled a b left = settings_by a b a.ended left
+
+  -- Nobody took a turn.
+  pub stood_still : (poller : PollState Link) (workers : List (WorkState Link)) → InThreads Carried poller poller workers workers
+  stood_still poller workers = record {
+    polled = went_on_none (PollerTurn Carried) poller;
+    worked = all_same (WentOn (WorkerTurn Carried)) (went_on_none (WorkerTurn Carried)) workers;
+  }
+
+-- ## Those who were hired
+
+module _ {Conn : Type 0} (Carried : WireState Conn → WireState Conn → List Call → Type 0) (own : List Bytes → Settings) where
+  each_hired : (P : WorkState (WireState Conn) → Type 0) → ((a b : Office Conn) (h : Hire (WireState Conn)) → Hires Carried own a h b → P h.joined) →
+      (a b : Office Conn) (hires : List (Hire (WireState Conn))) → Each (Hires Carried own) a hires b → AllByRecursion P (map (λ h. h.joined) hires)
+  each_hired P one a b hires none_hired = tt
+  each_hired P one a b hires (one_hired xs mid to h before last) =
+      subst (AllByRecursion P) (sym (map_end (λ (z : Hire (WireState Conn)). z.joined) xs h)) (all_end P (map (λ z. z.joined) xs) h.joined (each_hired P one a mid xs before) (one mid b h last))
+
+  tells_hired : (a b : Office Conn) (h : Hire (WireState Conn)) → Hires Carried own a h b → Tells h.joined
+  tells_hired a b h hires = let joins = hires.starts.joins in joined_tells h.fresh h.joined joins.result joins.becomes
+
+  taken_hired : (a b : Office Conn) (h : Hire (WireState Conn)) → Hires Carried own a h b → h.joined.tally.taken ≤ 0
+  taken_hired a b h hires =
+      let same = ap (λ (w : WorkState _). w.tally.taken) hires.starts.joins.becomes in
+      let none_yet = ap (λ (t : _). t.taken) hires.starts.tally in
+      omega (arith, same, none_yet)
+
+  pub all_tell : (a b : Office Conn) (workers : List (WorkState (WireState Conn))) → HiresAll Carried own a workers b → AllByRecursion Tells workers
+  all_tell a b workers (hires, chain, is) = subst (AllByRecursion Tells) (sym is) (each_hired Tells tells_hired a b hires chain)
+
+  pub none_taken : (a b : Office Conn) (workers : List (WorkState (WireState Conn))) → HiresAll Carried own a workers b → AllByRecursion (λ w. w.tally.taken ≤ 0) workers
+  none_taken a b workers (hires, chain, is) =
+      subst (AllByRecursion (λ w. w.tally.taken ≤ 0)) (sym is) (each_hired (λ w. w.tally.taken ≤ 0) taken_hired a b hires chain)
+
+  -- ## All took their turns
+
+  turns_same : (turns : ℕ) (a b : WorkState (WireState Conn)) → Leaves Carried a b → a.tally.taken ≡ turns → b.tally.taken ≡ turns
+  turns_same turns a b left taken = ap (λ (t : _). t.taken) (leaves_tally Carried a b left) ∙ taken
+
+  no_hindrance : (T : Type 0) (hired : Result (Unit {0}) LaunchFault) → hindrance_of hired ≡ [] → OnOk hired T → T
+  no_hindrance T (Ok done) is t = t
+  no_hindrance T (Err f) is t = absurd (cc is)
+
+  pub all_worked : (threads turns : ℕ) (poller done : PollState (WireState Conn)) (before after : Office Conn) (worked gone : List (WorkState (WireState Conn)))
+      (hired : Result (Unit {0}) LaunchFault) (faults : List LaunchFault) → Employs Carried own poller done before after worked → AllZip (Leaves Carried) worked gone →
+      faults ≡ option_to_list (option_map by_poll done.fault) ++ (work_faults gone ++ hindrance_of hired) →
+      OnOk hired (0 < turns → AreWhole done worked → AllWorked threads turns done worked) → 0 < turns → faults ≡ [] → AllWorked threads turns done gone
+  all_worked threads turns poller done before after worked gone hired faults e left are worked_all some empty =
+      let polls = option_to_list (option_map by_poll done.fault) in
+      let others = work_faults gone ++ hindrance_of hired in
+      let nothing : polls ++ others ≡ [] = sym are ∙ empty in
+      let no_others : others ≡ [] = none_right polls others nothing in
+      let tells : AllByRecursion Tells worked = along (WentOn (WorkerTurn Carried)) Tells Tells (went_on_tells Carried) e.hired worked e.working.worked
+      (all_tell before after e.hired e.hiring) in
+      let unended = all_left_whole Carried worked gone left tells (none_left (work_faults gone) (hindrance_of hired) no_others) in
+      let all : AllWorked threads turns done worked = no_hindrance _ hired (none_right (work_faults gone) (hindrance_of hired) no_others) worked_all some
+      (no_option by_poll done.fault (none_left polls others nothing), unended) in
+      record {
+        some = some;
+        all = same_length (Leaves Carried) worked gone left ∙ all.all;
+        taken = (all.taken.0, along (Leaves Carried) (λ w. w.tally.taken ≡ turns) (λ w. w.tally.taken ≡ turns) (turns_same turns) worked gone left all.taken.1);
+      }
+
+  -- ## The teams
+
+  module _ (keeps : (classes : List Bytes) → (own classes).classes ≡ classes) where
+    classes_by : (a b : Office Conn) (h : Hire (WireState Conn)) → (hires : Hires Carried own a h b) → h.joined.settings.classes ≡ hires.classes
+    classes_by a b h hires =
+        ap (λ (w : WorkState _). w.settings.classes) hires.starts.joins.becomes ∙ ap (λ (s : Settings). s.classes) hires.starts.settings_are ∙ keeps hires.classes
+
+    teams_used : (a b : Office Conn) (hires : List (Hire (WireState Conn))) → Each (Hires Carried own) a hires b →
+        a.teams ≡ map (λ w. w.settings.classes) (map (λ h. h.joined) hires) ++ b.teams
+    teams_used a b hires none_hired = refl
+    teams_used a b hires (one_hired xs mid to h before last) =
+        let classes = λ (w : WorkState (WireState Conn)). w.settings.classes in
+        let joined = λ (z : Hire (WireState Conn)). z.joined in
+        let used = map classes (map joined xs) in
+        teams_used a mid xs before ∙ ap (λ ts. used ++ ts) last.team ∙ sym (append_assoc used (last.classes ∷ []) b.teams)
+        ∙ ap (λ t. (used ++ t ∷ []) ++ b.teams) (sym (classes_by mid b h last)) ∙ ap (λ ts. ts ++ b.teams) (sym (map_end classes (map joined xs) h.joined))
+        ∙ ap (λ ws. map classes ws ++ b.teams) (sym (map_end joined xs h))
+
+    -- Who left had the teams that are used up.
+    pub teams_back : (poller done : PollState (WireState Conn)) (before after : Office Conn) (worked gone : List (WorkState (WireState Conn))) →
+        Employs Carried own poller done before after worked → AllZip (Leaves Carried) worked gone → map (λ w. w.settings.classes) gone ++ after.teams ≡ before.teams
+    teams_back poller done before after worked gone e left =
+        let classes = λ (w : WorkState (WireState Conn)). w.settings.classes in
+        let worked_same = same_map (Leaves Carried) classes classes (λ x y p. ap (λ (s : Settings). s.classes) (leaves_settled Carried x y p)) worked gone left in
+        let hired_same = same_map (WentOn (WorkerTurn Carried)) classes classes (λ x y p. ap (λ (s : Settings). s.classes) (went_on_settles Carried x y p)) e.hired worked e.working.worked in
+        ap (λ ts. ts ++ after.teams) (worked_same ∙ hired_same ∙ ap (map classes) e.hiring.2) ∙ sym (teams_used before after e.hiring.0 e.hiring.1)

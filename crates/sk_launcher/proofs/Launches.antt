@@ -1,0 +1,79 @@
+-- How a launch is told by its parts.
+use Rattle.std.proofs.Common.{◌≡◌, ◌≤◌, ◌<◌, ℕ, ℤ, List, [], ◌∷◌, subst, sym, arith, inl, inr, Result, Ok, Err}
+use Rattle.std.specs.Result.{IsErrAnd}
+use Rattle.sk_base.specs.Outside.{Rose}
+use Rattle.sk_resp.specs.Spelling.{Bytes}
+use Rattle.sk_line.specs.declared.work_line.WorkLine.{WorkLine}
+use Rattle.sk_link.specs.Call.{Call}
+use Rattle.sk_link.specs.Wire.{WireState}
+use Rattle.sk_poller.specs.Stage.{Watch}
+use Rattle.sk_poller.specs.declared.poller.Loop.{Loop}
+use Rattle.sk_worker.specs.Stage.{Settings}
+use Rattle.sk_launcher.specs.Connections.{DoorTells}
+use Rattle.sk_launcher.specs.Launching.{Hindered, Launched, Office, Process, closed, starved}
+use Rattle.sk_launcher.specs.Polling.{PollState}
+use Rattle.sk_launcher.specs.declared.counts.Counts.{Counts}
+use Rattle.sk_launcher.specs.declared.launch_fault.LaunchFault.{LaunchFault}
+use Rattle.sk_launcher.specs.declared.launch_fault.LaunchFault.TheVariants as fault
+
+abbrev record_of : Bytes → List Loop → ℤ → Watch
+record_of ident loops offset = record { ident = ident; loops = loops; offset = offset }
+
+pub same_watch : (ident ident' : Bytes) (loops loops' : List Loop) (offset offset' : ℤ) → ident' ≡ ident → loops' ≡ loops → offset' ≡ offset
+    → record_of ident' loops' offset' ≡ record_of ident loops offset
+same_watch ident ident' loops loops' offset offset' a b c = cc (a, b, c)
+
+-- a count that rose later rose
+pub rose_within : (before mid now : ℕ) → before ≤ mid → Rose mid now → Rose before now
+rose_within before mid now le (inl lt) = inl (omega (arith, le, lt))
+rose_within before mid now le (inr top) = inr top
+
+module _ {Conn : Type 0} (Carried : WireState Conn → WireState Conn → List Call → Type 0) where
+  by_cause : (DoorFailed : Type 0) (line : WorkLine) (before after : DoorTells Conn) (teams : List (List Bytes)) (f : LaunchFault) → Hindered DoorFailed (f ∷ []) →
+      after ≡ before → Launched Carried DoorFailed line before after teams (Err f)
+  by_cause DoorFailed line before after teams fault.Memory h same = starved same
+  by_cause DoorFailed line before after teams fault.Door h same = closed h same
+  by_cause DoorFailed line before after teams (fault.Link f) h same = absurd h
+  by_cause DoorFailed line before after teams (fault.Refused r) h same = absurd h
+  by_cause DoorFailed line before after teams fault.GenLimit h same = absurd h
+
+  -- There was no connection for the poller, or no memory.
+  pub not_ready : (DoorFailed : Type 0) (line : WorkLine) (before after : DoorTells Conn) (teams : List (List Bytes)) (f : LaunchFault) (r : Result Counts LaunchFault) →
+      IsErrAnd r (λ e. e ≡ f) → Hindered DoorFailed (f ∷ []) → after ≡ before → Launched Carried DoorFailed line before after teams r
+  not_ready DoorFailed line before after teams f (Ok counts) is h same = absurd is
+  not_ready DoorFailed line before after teams f (Err e) is h same =
+      subst (λ z. Launched Carried DoorFailed line before after teams (Err z)) (sym is) (by_cause DoorFailed line before after teams f h same)
+
+  hindered_also : (A B : Type 0) → (A → B) → (faults : List LaunchFault) → Hindered A faults → Hindered B faults
+  hindered_also A B f [] h = tt
+  hindered_also A B f (fault.Door ∷ []) h = f h
+  hindered_also A B f (fault.Memory ∷ []) h = tt
+  hindered_also A B f (fault.Link l ∷ []) h = absurd h
+  hindered_also A B f (fault.Refused r ∷ []) h = absurd h
+  hindered_also A B f (fault.GenLimit ∷ []) h = absurd h
+  hindered_also A B f (fault.Door ∷ x ∷ xs) h = absurd h
+  hindered_also A B f (fault.Memory ∷ x ∷ xs) h = absurd h
+  hindered_also A B f (fault.Link l ∷ x ∷ xs) h = absurd h
+  hindered_also A B f (fault.Refused r ∷ x ∷ xs) h = absurd h
+  hindered_also A B f (fault.GenLimit ∷ x ∷ xs) h = absurd h
+
+  -- A door that failed during the process failed during the launch.
+  pub process_within : (A B : Type 0) → (A → B) → (own : List Bytes → Settings) (threads turns : ℕ) (poller : PollState (WireState Conn)) (before : Office Conn)
+      (after : DoorTells Conn) (faults : List LaunchFault) (counts : List Counts) → Process Carried A own threads turns poller before after faults counts →
+      Process Carried B own threads turns poller before after faults counts
+  process_within A B f own threads turns poller before after faults counts p = record {
+    office_then = p.office_then;
+    done = p.done;
+    worked = p.worked;
+    gone = p.gone;
+    door_then = p.door_then;
+    hindrance = p.hindrance;
+    employed = p.employed;
+    leaving_them = p.leaving_them;
+    kept_first = p.kept_first;
+    kept_others = p.kept_others;
+    hindered = hindered_also A B f p.hindrance p.hindered;
+    faults_are = p.faults_are;
+    counts_are = p.counts_are;
+    all = p.all;
+  }

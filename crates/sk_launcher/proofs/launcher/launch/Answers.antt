@@ -1,0 +1,55 @@
+use Rattle.std.proofs.Common.{◌≡◌, ◌∙◌, ap, map, refl, rules, sym, subst}
+use Rattle.sk_base.specs.Outside.{Rose}
+use Rattle.sk_link.specs.Wire.{WireCarries}
+use Rattle.sk_launcher.specs.Connections.{classes_of, door_tells}
+use Rattle.sk_launcher.specs.Launching.{IsAnswer, Process, launched, office}
+use Rattle.sk_launcher.specs.Polling.{own_poller}
+use Rattle.sk_launcher.specs.Working.{settings}
+use Rattle.sk_launcher.proofs.Launches.{not_ready, process_within, rose_within, same_watch}
+use Rattle.sk_launcher.proofs.launcher.launch.Goals as goal
+
+pub returns-in_err-staff-clause-told : goal.returns-in_err-staff-clause-told
+returns-in_err-staff-clause-told g c = not_ready _ _ _ _ _ _ _ _ c.from_residual.ensures.1 tt refl
+
+pub returns-in_err-ready-clause-told : goal.returns-in_err-ready-clause-told
+returns-in_err-ready-clause-told g c = not_ready _ _ _ _ _ _ _ _ c.from_residual-in_err-ready.ensures.1 c.in_err-ready.ensures.cause c.in_err-ready.ensures.err
+
+pub returns-clause-told : goal.returns-clause-told
+returns-clause-told g c =
+    let line = c.args.line in
+    let ready = c.in_ok-ready.ready in
+    let given = c.in_ok-ready.ensures.given in
+    let begun = c.start_poller-poller.ensures.begun in
+    let first = c.make_ready.new.net in
+    let last = c.run_process.new.net in
+    let returns = c.run_process.new.returns in
+    let counts = map (λ t. t.counts) returns.tallies.items in
+    let poller = own_poller g.C.Clock.moments c.start_poller-poller.result in
+    let door = door_tells (g.N.Door.dialled first) (g.N.Door.kept first) in
+    let after = door_tells (g.N.Door.dialled last) (g.N.Door.kept last) in
+    let teams : c.from.result.items ≡ c.args.teams.now.items = search rules in
+    let offset : c.new-2.result.offset ≡ line.offset = search rules in
+    launched c.settle.result (record {
+      conn = ready.conn;
+      door_first = door;
+      fresh = begun.0;
+      begun = poller;
+      faults = returns.faults.items;
+      counts = counts;
+      given = given.1;
+      is_fresh = record {
+        link = begun.1;
+        watch_is = begun.2 ∙ same_watch line.ident _ line.loops.items _ line.offset _ (c.new-2.ensures.ident ∙ given.0)
+            (c.new-2.ensures.loops ∙ ap (λ (v : _). v.items) c.replace-loops.ensures.value) offset;
+        taken = begun.3;
+        whole = begun.4;
+      };
+      polled = begun.5;
+      once = c.start_poller-poller.ensures.once;
+      process = process_within _ _ _ (rose_within _ _ _ c.make_ready.ensures.later) _ _ _ _ _ _ _ _
+          (subst (λ ts. Process (WireCarries g.N.Conn.Sink.taken g.N.Conn.Source.left g.N.Conn.Source.read_faults g.N.Conn.Sink.write_faults)
+          (Rose (g.N.Door.door_faults first) (g.N.Door.door_faults last)) (settings line.ident line.order line.prefetch) line.threads line.turns poller
+          (office door (classes_of ts)) after returns.faults.items counts) teams c.run_process.ensures.process);
+      answered = subst (λ r. IsAnswer returns.faults.items counts r) (sym c.settle.ensures.same) c.answer-back.ensures.answered;
+      some = c.settle.ensures.turns;
+    })
