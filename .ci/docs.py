@@ -10,6 +10,7 @@ The checks, in order:
 - volumes     What docs/PROVED.md says of how much there is to read, volume by volume and law by law, is what .ci/statement.py counts.
 - reading     So is its list of what to read to know that no job is lost.
 - edits       So is its list of must-fail edits.
+- named       Each must-fail edit that .ci/named_edits.txt names stands, and the names are sorted.
 - contracts   Each row `definition` | `file` of a document's table names a file that has the word.
 - links       Each relative link of a document leads somewhere.
 - toolchain   docs/PROVED.md names the sum of the logic that `rt version` prints, where there is one: kits of other names share it.
@@ -157,6 +158,14 @@ def counted_edits():
     return '\n'.join([*lines, line, '']), '%d edits' % sum(counts.values())
 
 
+def check_named():
+    names = text_of(TOP / '.ci' / 'named_edits.txt').split()
+    wrong = ['.ci/named_edits.txt: there is no edit %s' % it for it in names
+             if not (CRATES / it).parent.joinpath('must-fail', it.split('/')[-1] + '.edit').is_file()]
+    wrong += ['.ci/named_edits.txt is not sorted, or names an edit twice'] * (names != sorted(set(names)))
+    return wrong, '%d names' % len(names)
+
+
 COUNTED = {'volumes': counted_volumes, 'reading': counted_reading, 'edits': counted_edits}
 
 
@@ -290,6 +299,7 @@ CHECKS = {
     'volumes': lambda: check_counted('volumes'),
     'reading': lambda: check_counted('reading'),
     'edits': lambda: check_counted('edits'),
+    'named': check_named,
     'contracts': check_contracts,
     'links': check_links,
     'toolchain': check_toolchain,
