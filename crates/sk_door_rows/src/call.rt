@@ -17,14 +17,6 @@ pub enum Call {
     Order,
     /// `decide`: what becomes of a failed job, by its jitter and its text.
     Decide,
-    /// `desks`: the desks of a store behind a lock.
-    Desks,
-    /// `journal`: the same over a store whose journal is kept.
-    Journal,
-    /// `desk`: the desk of one seat, over a store of its own.
-    Desk,
-    /// `threads`: threads that push to one store.
-    Threads,
 }
 
 impl Call {
@@ -37,10 +29,6 @@ impl Call {
             "poll" => Ok(Call::Poll),
             "order" => Ok(Call::Order),
             "decide" => Ok(Call::Decide),
-            "desks" => Ok(Call::Desks),
-            "journal" => Ok(Call::Journal),
-            "desk" => Ok(Call::Desk),
-            "threads" => Ok(Call::Threads),
             _ => Err(invalid()),
         }
     }

@@ -3,15 +3,12 @@
 #![tactic(auto)]
 
 mod call;
-mod deed;
-mod desk;
 mod ending;
 mod faults;
 mod order;
 mod peer;
 mod play;
 mod poller;
-mod pushers;
 mod setting;
 mod small;
 mod text;

@@ -3,11 +3,9 @@ ghost use Rattle.std.specs.Prelude.{◌≡◌, ◌≤◌, vec_len};
 ghost use Rattle.sk_base.specs.declared.limits.TheConstants.{MOST_WORKERS};
 
 use crate::call::Call;
-use crate::desk::{alone, desks, journal};
 use crate::ending::ending;
 use crate::order::{decision, order};
 use crate::poller::poll;
-use crate::pushers::threads;
 use crate::setting::Setting;
 use crate::small::serve_small;
 use crate::text::invalid;
@@ -41,7 +39,6 @@ fn top<R: Threads + Wait + Sync>(
         mut sink,
         heard,
         dialled,
-        deeds: _,
     } = setting;
     let mut door = MemDoor::new(alloc, heard, dialled);
     let status = run(
@@ -93,9 +90,5 @@ pub fn play<R: Threads + Wait + Sync>(
         Call::Poll => poll(alloc, setting),
         Call::Order => order(alloc, &mut setting),
         Call::Decide => decision(alloc, &setting),
-        Call::Desks => desks(rt, setting),
-        Call::Journal => journal(rt, setting),
-        Call::Desk => alone(alloc, setting),
-        Call::Threads => threads(rt, &setting),
     }
 }

@@ -1,6 +1,5 @@
 // What a row gives to its call.
 use crate::call::Call;
-use crate::deed::Deed;
 use crate::peer::Peer;
 use crate::text::{add_bytes_of, invalid, key_of, number, numbers};
 use sk_base::{Feed, ListDice, MemConn, StepClock, Tray};
@@ -24,8 +23,6 @@ pub struct Setting {
     pub heard: Vec<Vec<MemConn>>,
     /// The connections that the door makes.
     pub dialled: Vec<MemConn>,
-    /// What happens at the desks, in order.
-    pub deeds: Vec<Deed>,
 }
 
 // A word of the command line.
@@ -71,18 +68,16 @@ impl Setting {
             sink: Tray::new(alloc, Vec::new(alloc)),
             heard: Vec::new(alloc),
             dialled: Vec::new(alloc),
-            deeds: Vec::new(alloc),
         }
     }
 
-    // Adds what a line says: the clock's first moment and its step (`clock`), the words of the dice (`dice`), what happens at a desk (`sit`, `ask`,
-    // `cut`), or what is called, with the words of its command line. Another line is invalid data.
+    // Adds what a line says: the clock's first moment and its step (`clock`), the words of the dice (`dice`), or what is called, with the words of its
+    // command line. Another line is invalid data.
     fn add(&mut self, alloc: Global, line: &str) -> io::Result<()> {
         let (key, rest) = key_of(line);
         match key {
             "clock" => self.clock = clock(rest)?,
             "dice" => self.dice = ListDice::new(numbers(alloc, rest)?),
-            "sit" | "ask" | "cut" => self.deeds.push(Deed::read(alloc, line)?)?,
             _ => {
                 self.call = Call::read(key)?;
                 self.words = words(alloc, rest)?;
