@@ -64,6 +64,7 @@ fn own_dices<D: Dice>(
 fn turns_of(line: &WorkLine) -> u64
     ensures is { 0 < line.now.turns → result ≡ line.now.turns }
     ensures few { 0 < line.now.turns → result < 2 ^ 64 - 1 }
+    ensures endless { line.now.turns ≡ 0 → result ≡ 2 ^ 64 - 1 }
 {
     if line.turns == 0 {
         u64::MAX
