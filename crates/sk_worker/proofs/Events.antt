@@ -1,12 +1,11 @@
 -- What lists of events are to the objects that a turn meets.
-use Rattle.std.proofs.Common.{◌≡◌, ◌∙◌, ℕ, Bool, List, [], ◌∷◌, ◌++◌, map, refl, sym, subst, ap, Option, Some, None, MatchOption, IsSome, append_assoc, append-nil}
+use Rattle.std.proofs.Common.{◌≡◌, ◌∙◌, ℕ, Bool, List, [], ◌∷◌, ◌++◌, map, refl, sym, subst, ap, Option, append_assoc, append-nil}
 use Rattle.std.specs.List.{AllByRecursion}
 use Rattle.sk_base.specs.Yields.{YieldsAll}
-use Rattle.sk_resp.specs.Spelling.{Bytes}
 use Rattle.sk_link.specs.Call.{Call}
 use Rattle.sk_worker.specs.Event.{Event, Choice, asked, ordered, ran, chose, calls, runs, words, moments, choices}
 use Rattle.sk_worker.specs.Run.{Run}
-use Rattle.sk_worker.specs.Turn.{Parts, RulesAnswered}
+use Rattle.sk_worker.specs.Turn.{Parts}
 
 -- ## Lists of calls alone
 
@@ -77,19 +76,6 @@ parts_same ds jobs rules d = record { link = d.link; jobs = jobs d.jobs; clock =
 pub each_weaker : {X : Type 0} (P Q : X → Type 0) → ((x : X) → P x → Q x) → (xs : List X) → AllByRecursion P xs → AllByRecursion Q xs
 each_weaker P Q f [] h = tt
 each_weaker P Q f (x ∷ xs) h = (f x h.0, each_weaker P Q f xs h.1)
-
-pub match_none : {A : Type 0} (P : Type 0) (Q : A → Type 0) (o : Option A) → o ≡ None → P → MatchOption o P Q
-match_none P Q o e p = subst (λ o. MatchOption o P Q) (sym e) p
-
-pub match_some : {A : Type 0} (P : Type 0) (Q : A → Type 0) (o : Option A) (x : A) → o ≡ Some x → Q x → MatchOption o P Q
-match_some P Q o x e q = subst (λ o. MatchOption o P Q) (sym e) q
-
-pub is_some : {A : Type 0} (o : Option A) (x : A) → o ≡ Some x → IsSome o
-is_some o x e = subst (λ o. IsSome o) (sym e) refl
-
-pub RulesAnswered-of : {R : Type 0} (Answers : R → ℕ → ℕ → Type 0) (classes : List Bytes) (xs ys : List R) (plain : R) (cs : List Choice) → xs ≡ ys →
-    RulesAnswered Answers classes xs plain cs → RulesAnswered Answers classes ys plain cs
-RulesAnswered-of Answers classes xs ys plain cs e answered = subst (λ zs. RulesAnswered Answers classes zs plain cs) e answered
 
 pub by_test : (P : Bool → Type 0) (b t : Bool) → b ≡ t → P t → P b
 by_test P b t e p = subst P (sym e) p

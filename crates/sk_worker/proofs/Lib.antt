@@ -9,3 +9,4 @@ pub mod Returned
 pub mod Lost
 pub mod Started
 pub mod Quiet
+pub mod Works

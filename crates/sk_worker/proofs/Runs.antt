@@ -1,6 +1,5 @@
 -- What the jobs of a registry tell after one of them ran.
-use Rattle.std.proofs.Common.{◌≡◌, ◌≢◌, ◌<◌, ◌==◌, inl, inr, ℕ, false, cond, List, [], ◌∷◌, ◌++◌, map, length, get_or, set, refl, sym, subst, ap, ◌∙◌, Option, Some, None, unwrap_or, option_map, append-nil, eq-eqb, take, arith}
-use Rattle.std.proofs.lemmas.Grind.{common_steps}
+use Rattle.std.proofs.Common.{◌≡◌, ◌≢◌, ◌<◌, ◌==◌, inl, inr, ℕ, false, cond, List, [], ◌∷◌, map, length, get_or, set, refl, sym, subst, ap, ◌∙◌, Option, Some, None, unwrap_or, option_map, append-nil, eq-eqb}
 use Rattle.std.proofs.lemmas.List.{get_or-set_same, get_or-set_other, get_or-map, map-set, length-map}
 use Rattle.std.proofs.lemmas.Bool.Decides.{eqb_tells}
 use Rattle.std.proofs.lemmas.Bool.{cond-true, cond-false, ne_eqb}
@@ -52,21 +51,10 @@ pub told_no_run : {X : Type 0} (tells : X → Option (List Run)) (xs : List X) (
     k < length xs → Takes (tells (get_or xs k d)) [] (tells y) → RunsTold classes [] (map tells xs) (map tells (set xs k y))
 told_no_run tells xs classes k d y lt adds = told_one tells xs classes [] k d y lt (λ i ne. refl) refl adds
 
-pub RunsTold-nothing : (classes : List Bytes) (runs : List Run) (told : List (Option (List Run))) → runs ≡ [] → RunsTold classes runs told told
-RunsTold-nothing classes runs told e = subst (λ rs. RunsTold classes rs told told) (sym e) (RunsTold-none classes told)
+pub RunsTold-nothing : (classes : List Bytes) (runs : List Run) (before after : List (Option (List Run))) → runs ≡ [] →
+    RunsTold classes [] before after → RunsTold classes runs before after
+RunsTold-nothing classes runs before after e told = subst (λ rs. RunsTold classes rs before after) (sym e) told
 
 pub RunsTold-first : (classes : List Bytes) (run : Run) (runs : List Run) (before after : List (Option (List Run))) → runs ≡ [] →
     RunsTold classes (run ∷ []) before after → RunsTold classes (run ∷ runs) before after
 RunsTold-first classes run runs before after e told = subst (λ rs. RunsTold classes (run ∷ rs) before after) (sym e) told
-
-pub RunsTold-of : {X : Type 0} (tells : X → Option (List Run)) (xs ys : List X) (classes : List Bytes) (runs : List Run) (after : List (Option (List Run))) → xs ≡ ys →
-    RunsTold classes runs (map tells xs) after → RunsTold classes runs (map tells ys) after
-RunsTold-of tells xs ys classes runs after e told = subst (λ zs. RunsTold classes runs (map tells zs) after) e told
-
-pub RunsTold-to : {X : Type 0} (tells : X → Option (List Run)) (xs ys : List X) (classes : List Bytes) (runs : List Run) (before : List (Option (List Run))) → xs ≡ ys →
-    RunsTold classes runs before (map tells xs) → RunsTold classes runs before (map tells ys)
-RunsTold-to tells xs ys classes runs before e told = subst (λ zs. RunsTold classes runs before (map tells zs)) e told
-
--- A slice of a whole vector is written back.
-pub written_back : {X : Type 0} (xs ys : List X) (n : ℕ) → length xs ≡ n → xs ≡ take n (xs ++ ys)
-written_back xs ys n e = grind (arith, common_steps)

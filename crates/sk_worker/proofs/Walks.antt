@@ -1,5 +1,5 @@
 -- How walks go on, and how a fault ends them.
-use Rattle.std.proofs.Common.{◌≡◌, ◌∙◌, ◌≤◌, ◌<◌, ℕ, true, List, [], ◌∷◌, ◌++◌, map, length, get_or, drop, refl, sym, subst, ap, Result, Ok, Err, append_assoc, arith}
+use Rattle.std.proofs.Common.{◌≡◌, ◌≢◌, ◌∙◌, ◌≤◌, ◌<◌, ℕ, ℤ, true, List, [], ◌∷◌, ◌++◌, map, length, get_or, drop, refl, sym, subst, ap, Result, Ok, Err, append_assoc, arith}
 use Rattle.std.proofs.lemmas.Bool.{true≢false}
 use Rattle.std.specs.Result.{is_err}
 use Rattle.sk_resp.specs.Spelling.{Bytes}
@@ -10,12 +10,15 @@ use Rattle.sk_link.specs.declared.asking.Answer.{Answer}
 use Rattle.sk_link.specs.declared.asking.Answer.TheVariants as answer
 use Rattle.sk_link.specs.declared.link.LinkFault.{LinkFault}
 use Rattle.sk_link.proofs.Walks.{walk-append}
+use Rattle.sk_policy.specs.declared.decision.Decision.{Decision}
+use Rattle.sk_policy.specs.declared.decision.Decision.TheVariants as decide
 use Rattle.sk_worker.specs.Event.{Event, asked}
 use Rattle.sk_worker.specs.Request.{release_words}
 use Rattle.sk_worker.specs.Saying.{Says}
-use Rattle.sk_worker.specs.Stage.{Settings, Stage, Line, Step, asks, over, releasing, release, AtLimit, JobTranscript}
+use Rattle.sk_worker.specs.Stage.{Settings, Stage, Line, Step, HasNoNext, asks, decided, over, releasing, release, AtLimit, JobTranscript}
 use Rattle.sk_link.specs.Walk.{Walk}
 use Rattle.sk_worker.specs.Broken.{Broken, Unanswered}
+use Rattle.sk_worker.specs.declared.job.Raised.{Raised}
 use Rattle.sk_worker.specs.declared.turn.Turn.{Turn}
 use Rattle.sk_worker.specs.declared.turn.WorkFault.{WorkFault}
 use Rattle.sk_worker.specs.declared.turn.WorkFault.TheVariants as fault
@@ -72,6 +75,21 @@ job_later w from mid xs ys (Err f) p q = (q.0, broken_later (Line w) (Step w) At
 
 pub released : (w : Settings) (ident c : Bytes) (t : Turn) → w.ident ≡ ident → Line w (releasing c t) (release_words ident c) answer.Number (λ _. over t)
 released w ident c t e = subst (λ i. Line w (releasing c t) (release_words i c) answer.Number (λ _. over t)) e (release c t)
+
+pub bury_is_kept : (d : Decision) → d ≡ decide.Bury → d ≢ decide.Discard
+bury_is_kept d is = subst (λ e. e ≢ decide.Discard) (sym is) (λ same. cc same)
+
+pub retry_is_kept : (d : Decision) (score : ℤ) → d ≡ decide.Retry score → d ≢ decide.Discard
+retry_is_kept d score is = subst (λ e. e ≢ decide.Discard) (sym is) (λ same. cc same)
+
+-- A job that can't fail once more stays where it is.
+pub no_next : (P : List Call → Type 0) (w : Settings) (c : Bytes) (r : Raised) (now : ℕ) (d : Decision) (f : WorkFault) → d ≢ decide.Discard → HasNoNext c f → P [] →
+    (cs : List Call) × P cs × JobTranscript w (decided c r now d) (map asked cs) (Err f)
+no_next P w c r now d (fault.Link l) kept none p = absurd none
+no_next P w c r now d (fault.Refused reply) kept none p = absurd none
+no_next P w c r now d fault.GenLimit kept none p = ([], p, (decided c r now d, (refl, (kept, none))))
+no_next P w c r now d fault.Ended kept none p = absurd none
+no_next P w c r now d fault.Memory kept none p = ([], p, (decided c r now d, refl))
 
 -- ## The oldest job
 

@@ -6,7 +6,7 @@ use Rattle.sk_resp.specs.declared.reply.Reply.TheVariants as reply
 use Rattle.sk_link.specs.Asking.{answers}
 use Rattle.sk_link.specs.declared.asking.Answer.{Answer}
 use Rattle.sk_link.specs.declared.asking.Answer.TheVariants as answer
-use Rattle.sk_link.specs.Call.{Call, answered}
+use Rattle.sk_link.specs.Call.{answered}
 use Rattle.sk_policy.specs.Order.{draws, queues_in}
 use Rattle.sk_worker.specs.Request.{fetch_words}
 use Rattle.sk_worker.specs.Event.{Event, ordered, asked}
@@ -75,8 +75,3 @@ FetchTranscript w from events held (Err f) =
 -- the stage of a worker that holds these payloads, where the queues at these places are to be asked
 abbrev pub asking_at : ℕ → List Bytes → List ℕ → List Bytes → FetchStage
 asking_at prefetch names places held = if_room prefetch held (next_queue (map (λ place. slice_index_or names place []) places) held)
-
--- The link carried the calls of the fetching, from this stage on, of a worker with this ident that may hold so many payloads, and holds these then.
-abbrev pub Fetches : (List Call → Type 0) → Bytes → ℕ → FetchStage → List Bytes → Result (Unit {0}) WorkFault → Type 0
-Fetches Carried ident prefetch from held result = (w : Settings) → w.ident ≡ ident → w.prefetch ≡ prefetch →
-    (cs : List Call) × Carried cs × FetchTranscript w from (map asked cs) held result

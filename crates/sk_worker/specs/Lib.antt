@@ -5,6 +5,7 @@ pub mod Broken
 pub mod Stage
 pub mod Fetching
 pub mod Turn
+pub mod Promises
 pub mod Leaving
 pub mod Saying
 pub mod Forms

@@ -25,6 +25,7 @@ use Rattle.sk_worker.specs.declared.job.Outcome.TheVariants as outcome
 use Rattle.sk_worker.specs.declared.turn.Turn.{Turn}
 use Rattle.sk_worker.specs.declared.turn.Turn.TheVariants as turn
 use Rattle.sk_worker.specs.declared.turn.WorkFault.{WorkFault}
+use Rattle.sk_worker.specs.declared.turn.WorkFault.TheVariants as fault
 
 -- who works: the ident, the queues, how many jobs are held at most, and the classes that have a job
 pub record Settings : Type 0 where
@@ -62,6 +63,14 @@ IsLast c = IsSomeAnd (head c) (λ h. h.gen_ ≡ LAST_GENERATION)
 -- This is the text of the job after one more failed run, which it may have.
 abbrev pub FailsTo : Bytes → ℕ → Raised → Bytes → Type 0
 FailsTo c now r p = (failed_text c now r.class r.message ≡ Some p) × (IsLast c → ⊥)
+
+-- why a job has no such text: it failed as often as one may, or there was no memory
+abbrev pub HasNoNext : Bytes → WorkFault → Type 0
+HasNoNext c (fault.Link f) = ⊥
+HasNoNext c (fault.Refused r) = ⊥
+HasNoNext c fault.GenLimit = IsLast c
+HasNoNext c fault.Ended = ⊥
+HasNoNext c fault.Memory = Unit {0}
 
 -- ## The table: stage, request, kind of answer, next stage
 
@@ -114,3 +123,7 @@ Settles Carried ident from result = (w : Settings) → w.ident ≡ ident → (cs
 abbrev pub Places : {E : Type 0} → Stage → Result (List Bytes) E → Answer → Bytes → Turn → Type 0
 Places from words wanted c t =
     (request : List Bytes) × IfOk words (λ ws. ws ≡ request) × ((w : Settings) → Line w from request wanted (λ _. releasing c t))
+
+-- From this stage SK.BURY of this text leads to the release of this payload.
+abbrev pub Buries : Stage → Bytes → Bytes → Type 0
+Buries from text c = (w : Settings) → Line w from (script_words (codes "SK.BURY") text) answer.Report (λ _. releasing c turn.Buried)

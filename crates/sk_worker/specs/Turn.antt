@@ -1,20 +1,14 @@
 -- What a worker's turn is: it fetches, and then works on the oldest job that it holds.
-use Rattle.std.specs.Prelude.{◌≡◌, ℕ, Bool, true, false, List, [], ◌∷◌, ◌++◌, Option, Result, Ok, Err, MatchOption, IfSome, slice_get, codes}
+use Rattle.std.specs.Prelude.{◌≡◌, ℕ, Bool, true, false, List, [], ◌∷◌, ◌++◌, Result, Ok, Err, MatchOption, IfSome, slice_get}
 use Rattle.std.specs.List.{AllByRecursion}
-use Rattle.sk_base.specs.Yields.{YieldsAll}
 use Rattle.sk_resp.specs.Spelling.{Bytes}
-use Rattle.sk_payload.specs.declared.head.Head.{Head}
 use Rattle.sk_link.specs.Call.{Call}
 use Rattle.sk_link.specs.Walk.{Walk}
-use Rattle.sk_link.specs.declared.asking.Answer.TheVariants as answer
-use Rattle.sk_policy.specs.Order.{Order}
 use Rattle.sk_worker.specs.Event.{Event, Choice, calls, runs, moments, words, choices}
 use Rattle.sk_worker.specs.Fetching.{FetchStep, FetchTranscript, fetched, fetch_start}
 use Rattle.sk_worker.specs.Forms.{EmptyForm}
-use Rattle.sk_worker.specs.Request.{script_words}
 use Rattle.sk_worker.specs.Run.{Run, place_of}
-use Rattle.sk_worker.specs.Stage.{Settings, Stage, Line, failed, holding, JobTranscript}
-use Rattle.sk_worker.specs.declared.job.Raised.{Raised}
+use Rattle.sk_worker.specs.Stage.{Settings, holding, JobTranscript}
 use Rattle.sk_worker.specs.declared.turn.Turn.{Turn}
 use Rattle.sk_worker.specs.declared.turn.Turn.TheVariants as turn
 use Rattle.sk_worker.specs.declared.turn.WorkFault.{WorkFault}
@@ -57,31 +51,3 @@ pub record RulesAnswered {R : Type 0} (Answers : R → ℕ → ℕ → Type 0) (
     (choices : List Choice) : Type 0 where
   pub each : AllByRecursion (λ choice. MatchOption (place_of classes choice.class) (Answers plain choice.count choice.delay)
       (λ i. IfSome (slice_get rules i) (λ rule. Answers rule choice.count choice.delay))) choices
-
--- ## What functions promise, by what the objects did that they met
-
--- Work on one job, from this stage on, of a worker with this ident and these classes.
-abbrev pub Works : (List Event → Type 0) → Bytes → List Bytes → Stage → Result Turn WorkFault → Type 0
-Works Met ident classes from result = (w : Settings) → w.ident ≡ ident → w.classes ≡ classes →
-    (events : List Event) × Met events × JobTranscript w from events result
-
--- The same of a job whose run failed, for which no classes are looked at.
-abbrev pub Recovers : (List Event → Type 0) → Bytes → Stage → Result Turn WorkFault → Type 0
-Recovers Met ident from result = (w : Settings) → w.ident ≡ ident → (events : List Event) × Met events × JobTranscript w from events result
-
--- The same from each stage on from which SK.FAIL of this job goes out.
-abbrev pub Fails : (List Event → Type 0) → Bytes → Bytes → Head → Raised → Result Turn WorkFault → Type 0
-Fails Met ident c h r result = (w : Settings) (from : Stage) → w.ident ≡ ident →
-    Line w from (script_words (codes "SK.FAIL") c) answer.List (λ _. failed c h r) → (events : List Event) × Met events × JobTranscript w from events result
-
--- The fetching of a turn, with these payloads held before and after.
-abbrev pub Fills : (List Call → Type 0) → Option (ℕ → ℕ) → Option (ℕ → ℕ) → Bytes → Order → ℕ → List Bytes → List Bytes →
-    Result (Unit {0}) WorkFault → Type 0
-Fills Carried words words_after ident order prefetch before after result = (w : Settings) → w.ident ≡ ident → w.prefetch ≡ prefetch → w.order ≡ order →
-    (events : List Event)
-    × Parts Carried (λ rs. rs ≡ []) (λ ms. ms ≡ []) (λ ws. YieldsAll words ws words_after) (λ cs. cs ≡ []) events
-    × FetchTranscript w (fetch_start w before) events after result
-
--- A turn, by whether the worker had ended, with these payloads held before and after.
-abbrev pub Took : (List Event → Type 0) → Bool → Settings → List Bytes → List Bytes → Result Turn WorkFault → Type 0
-Took Met ended w before after result = (events : List Event) × Met events × TurnOf ended w before events after result

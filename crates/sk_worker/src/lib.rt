@@ -1,15 +1,17 @@
 //! The worker: jobs by class, and its turns over any link, as super_fetch of Sidekiq Pro takes them (wiki page "Reliability").
 #![tactic(auto)]
 
+mod attempt;
+mod failure;
 mod fetch;
+mod in_hand;
 mod job;
 mod laws;
 mod leave;
 mod registry;
-mod run;
 mod say;
-mod settle;
 mod turn;
+mod turns;
 mod worker;
 
 pub use job::{Job, Outcome, Raised};

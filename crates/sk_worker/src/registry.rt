@@ -1,11 +1,9 @@
 // The jobs by class.
-ghost use Rattle.std.specs.Prelude.{◌≡◌, ◌<◌, ◌≤◌, ◌↔◌, ◌++◌, ℕ, List, [], ◌∷◌, Option, Some, None, Err, IfOk, OnOk, OnErr, IsSome, length, map, vec_len, bytes_eq};
-ghost use Rattle.sk_base.specs.Outside.{Takes};
-ghost use Rattle.sk_worker.specs.Run.{RunTold, RunsTold, place_of};
+ghost use Rattle.std.specs.Prelude.{◌≡◌, ◌≤◌, ◌↔◌, ◌++◌, ℕ, List, [], ◌∷◌, Option, Err, OnOk, OnErr, IsSome, length, vec_len, bytes_eq};
+ghost use Rattle.sk_worker.specs.Run.{place_of};
 
 use crate::Memory;
-use crate::job::{Job, Outcome};
-use sk_payload::Head;
+use crate::job::Job;
 use sk_policy::DelayRule;
 use sk_resp::Text;
 use std::alloc::Global;
@@ -127,28 +125,4 @@ impl Registry {
         self.rules.push_reserved(delay);
         Ok(())
     }
-}
-
-// Runs the job.
-fn run_one(alloc: Global, slot: &mut Slot, head: &Head) -> Result<Outcome, Memory>
-    ensures ran { IfOk result (λ outcome. Takes (runs slot.old.job) (record { head = head.now; outcome = outcome } ∷ []) (runs slot.new.job)) }
-    ensures err { OnErr result (Takes (runs slot.old.job) [] (runs slot.new.job)) }
-{
-    slot.job.run(alloc, head)
-}
-
-/// Runs the job at the place of the head's class.
-pub fn run_at(
-    alloc: Global,
-    classes: &Classes,
-    slots: &mut [Slot],
-    place: usize,
-    head: &Head,
-) -> Result<Outcome, Memory>
-    requires there { place < length slots.old }
-    requires place { place_of classes.now head.now.class ≡ Some place }
-    ensures ran { IfOk result (RunTold classes.now head.now (map (λ slot. runs slot.job) slots.old) (map (λ slot. runs slot.job) slots.new)) }
-    ensures err { OnErr result (RunsTold classes.now [] (map (λ slot. runs slot.job) slots.old) (map (λ slot. runs slot.job) slots.new)) }
-{
-    run_one(alloc, &mut slots[place], head)
 }
