@@ -2,6 +2,8 @@
 #![tactic(auto)]
 
 #[cfg(test)]
+mod middle;
+#[cfg(test)]
 mod payloads;
 #[cfg(test)]
 mod pipe;
