@@ -1,0 +1,4 @@
+mod FirstJobs
+mod Playing
+mod Small
+mod SoFar
