@@ -15,14 +15,14 @@ use Rattle.sk_line.specs.declared.fault.LineFault.{LineFault}
 use Rattle.sk_line.specs.declared.fault.LineFault.TheVariants as line
 use Rattle.sk_line.specs.declared.push_line.PushLine.{PushLine}
 use Rattle.sk_link.specs.Call.{Call}
+use Rattle.sk_middle.specs.declared.chain.Through.{Through}
 use Rattle.sk_payload.specs.Draft.{draft_fault}
 use Rattle.sk_payload.specs.declared.draft.JobDraft.{JobDraft}
 use Rattle.sk_payload.specs.declared.draft_fault.DraftFault.{DraftFault}
 use Rattle.sk_payload.specs.declared.draft_fault.DraftFault.TheVariants as draft_
 use Rattle.sk_payload.specs.declared.head.Lock.{Lock}
 use Rattle.sk_app.specs.Failures.{by_line}
-use Rattle.sk_app.specs.Jobs.{IsJob}
-use Rattle.sk_app.specs.Pushing.{PushRun, Sends, outcome_of, refused, request, request_by, starved, unwritten}
+use Rattle.sk_app.specs.Pushing.{PushRun, Sends, Wanted, halted, outcome_of, refused, request, request_by, starved, stopped, unwritten}
 use Rattle.sk_app.specs.declared.failure.Failure.{Failure}
 use Rattle.sk_app.specs.declared.failure.Failure.TheVariants as failure
 use Rattle.sk_app.specs.declared.job.PushJob.{PushJob}
@@ -35,24 +35,25 @@ sends Carried push (Err f) ok err = err
 
 -- ## The whole
 
-module _ (words : List Text) (Untouched : Type 0) (Drawn : ℕ → ℕ → ℕ → Type 0) (Speaks : PushJob → Result Bytes Failure → Type 0) where
-  pub no_line : (f : LineFault) (r : Result Bytes Failure) → IsErrAnd r (λ e. e ≡ by_line f) → Reads (IsPush words) (Err f) → Untouched → PushRun words Untouched Drawn Speaks r
+module _ (words : List Text) (Untouched : Type 0) (Drawn : ℕ → ℕ → ℕ → Type 0) (Applied : JobDraft → Through → Type 0) (Speaks : PushJob → Result Bytes Failure → Type 0) where
+  pub no_line : (f : LineFault) (r : Result Bytes Failure) → IsErrAnd r (λ e. e ≡ by_line f) → Reads (IsPush words) (Err f) → Untouched → PushRun words Untouched Drawn Applied Speaks r
   no_line f (Ok output) h none untouched = absurd h
-  no_line line.Refused (Err e) h none untouched = subst (λ x. PushRun words Untouched Drawn Speaks (Err x)) (sym h) (refused none untouched)
-  no_line line.Memory (Err e) h none untouched = subst (λ x. PushRun words Untouched Drawn Speaks (Err x)) (sym h) starved
+  no_line line.Refused (Err e) h none untouched = subst (λ x. PushRun words Untouched Drawn Applied Speaks (Err x)) (sym h) (refused none untouched)
+  no_line line.Memory (Err e) h none untouched = subst (λ x. PushRun words Untouched Drawn Applied Speaks (Err x)) (sym h) starved
 
-  pub no_memory : (r : Result Bytes Failure) → IsErrAnd r (λ e. e ≡ failure.Memory) → PushRun words Untouched Drawn Speaks r
+  pub no_memory : (r : Result Bytes Failure) → IsErrAnd r (λ e. e ≡ failure.Memory) → PushRun words Untouched Drawn Applied Speaks r
   no_memory (Ok output) h = absurd h
-  no_memory (Err e) h = subst (λ x. PushRun words Untouched Drawn Speaks (Err x)) (sym h) starved
+  no_memory (Err e) h = subst (λ x. PushRun words Untouched Drawn Applied Speaks (Err x)) (sym h) starved
 
-  pub no_draft : (asked : PushLine) (now_ first second : ℕ) (job : PushJob) (f : Failure) (r : Result Bytes Failure)
-      → IsPush words asked → Drawn now_ first second → IsJob asked now_ first second job → IsErrAnd r (λ e. e ≡ f)
-      → (f ≡ failure.Memory) ⊎ ((f ≡ failure.Line) × (draft_fault job.draft ≡ None → ⊥)) → Untouched → PushRun words Untouched Drawn Speaks r
-  no_draft asked now_ first second job f (Ok output) is drawn made h why untouched = absurd h
-  no_draft asked now_ first second job f (Err e) is drawn made h (inl why) untouched =
-      subst (λ x. PushRun words Untouched Drawn Speaks (Err x)) (sym (h ∙ why)) starved
-  no_draft asked now_ first second job f (Err e) is drawn made h (inr why) untouched =
-      subst (λ x. PushRun words Untouched Drawn Speaks (Err x)) (sym (h ∙ why.0)) (unwritten asked now_ first second job is drawn made why.1 untouched)
+  pub no_draft : (job : PushJob) (f : Failure) (r : Result Bytes Failure) → Wanted words Drawn Applied (Some job) → IsErrAnd r (λ e. e ≡ f)
+      → (f ≡ failure.Memory) ⊎ ((f ≡ failure.Line) × (draft_fault job.draft ≡ None → ⊥)) → Untouched → PushRun words Untouched Drawn Applied Speaks r
+  no_draft job f (Ok output) wanted h why untouched = absurd h
+  no_draft job f (Err e) wanted h (inl why) untouched = subst (λ x. PushRun words Untouched Drawn Applied Speaks (Err x)) (sym (h ∙ why)) starved
+  no_draft job f (Err e) wanted h (inr why) untouched =
+      subst (λ x. PushRun words Untouched Drawn Applied Speaks (Err x)) (sym (h ∙ why.0)) (unwritten job wanted why.1 untouched)
+
+  pub halts : (text : Bytes) → text ≡ stopped → Wanted words Drawn Applied None → Untouched → PushRun words Untouched Drawn Applied Speaks (Ok text)
+  halts text e wanted untouched = subst (λ t. PushRun words Untouched Drawn Applied Speaks (Ok t)) (sym e) (halted wanted untouched)
 
 -- ## A draft that was written before has no fault
 

@@ -1,10 +1,14 @@
 -- A program's one connection to the store.
 use Rattle.std.specs.Prelude.{ℕ, false, List, [], ◌∷◌, Option, Result, Err}
 use Rattle.sk_base.specs.Outside.{Rose}
+use Rattle.sk_base.specs.declared.sink.Sink as a_sink
+use Rattle.sk_base.specs.declared.source.Source as a_source
+use Rattle.sk_edge.specs.declared.door.Door as a_door
 use Rattle.sk_resp.specs.Spelling.{Bytes}
 use Rattle.sk_edge.specs.Collected.{Collected, Keeps, MakesRoom}
 use Rattle.sk_edge.specs.Doors.{GivesFirst}
-use Rattle.sk_link.specs.Wire.{WireState}
+use Rattle.sk_link.specs.Call.{Call}
+use Rattle.sk_link.specs.Wire.{WireCarries, WireState}
 use Rattle.sk_app.specs.declared.failure.Failure.{Failure}
 use Rattle.sk_app.specs.declared.failure.Failure.TheVariants.{Door, Memory}
 
@@ -17,6 +21,9 @@ pub record DoorTells (Conn : Type 0) : Type 0 where
   -- those that were left to it
   pub kept : Option (Collected Conn)
   pub faults : ℕ
+
+abbrev pub door_tells : {N Conn Ear : Type 0} → a_door.Ghosts N Conn Ear → N → DoorTells Conn
+door_tells OfDoor net = record { dialled = OfDoor.dialled net; kept = OfDoor.kept net; faults = OfDoor.door_faults net }
 
 -- ## A link over a connection
 
@@ -40,3 +47,9 @@ pub data Dialogue {Conn : Type 0} (before after : DoorTells Conn) (Says : WireSt
   starved : Dialogue before after Says (Err Memory)
   held : (conn : Conn) (link : WireState Conn) (outcome : Result Bytes Failure) → Visits before after conn link.conn → Says (fresh conn) link outcome →
       Dialogue before after Says outcome
+
+-- The same of a door and its connections, by what these tell: what was said is told by the calls that the link carried.
+abbrev pub Dials : {N Conn Ear : Type 0} → a_door.Ghosts N Conn Ear → a_source.Ghosts Conn → a_sink.Ghosts Conn → N → N →
+    ((List Call → Type 0) → Result Bytes Failure → Type 0) → Result Bytes Failure → Type 0
+Dials OfDoor OfSource OfSink net net_after Says outcome = Dialogue (door_tells OfDoor net) (door_tells OfDoor net_after)
+    (λ a b outcome. Says (WireCarries OfSink.taken OfSource.left OfSource.read_faults OfSink.write_faults a b) outcome) outcome

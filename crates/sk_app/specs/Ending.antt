@@ -1,6 +1,7 @@
 -- How a program ends: what it writes, and its exit status.
 use Rattle.std.specs.Prelude.{◌≡◌, ◌⊎◌, ◌++◌, ℕ, [], ◌∷◌, Option, Some, None, Result, Ok, Err}
 use Rattle.sk_base.specs.Outside.{Takes, TakesFront}
+use Rattle.sk_base.specs.declared.sink.Sink as a_sink
 use Rattle.sk_resp.specs.Spelling.{Bytes, lf}
 use Rattle.sk_app.specs.Failures.{line_of, status_of}
 use Rattle.sk_app.specs.declared.failure.Failure.{Failure}
@@ -24,3 +25,7 @@ Reports None wanted status before after = (status ≡ wanted) × Takes before []
 abbrev pub Concludes : Result Bytes Failure → ℕ → Option Bytes → Option Bytes → Type 0
 Concludes (Ok output) status before after = Writes output 0 status before after
 Concludes (Err failure) status before after = Reports (line_of failure) (status_of failure) status before after
+
+-- The program came to an outcome that is one of these, and with it to the status, and to what the sink has.
+abbrev pub Ends : {K : Type 0} → a_sink.Ghosts K → K → K → ℕ → (Result Bytes Failure → Type 0) → Type 0
+Ends OfSink sink sink_after status Comes = (outcome : _) × Concludes outcome status (OfSink.taken sink) (OfSink.taken sink_after) × Comes outcome

@@ -1,10 +1,12 @@
 pub mod Failures
 pub mod Ending
 pub mod Jobs
+pub mod Capping
 pub mod Dialogue
 pub mod Pushing
 pub mod Paging
 pub mod Classes
 pub mod Serving
+pub mod Soaking
 pub mod Programs
 pub mod Working

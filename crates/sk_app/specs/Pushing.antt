@@ -8,6 +8,8 @@ use Rattle.sk_client.specs.declared.client_fault.ClientFault.TheVariants as faul
 use Rattle.sk_line.specs.Push.{IsPush}
 use Rattle.sk_line.specs.declared.push_line.PushLine.{PushLine}
 use Rattle.sk_link.specs.Call.{Call}
+use Rattle.sk_middle.specs.declared.chain.Through.{Through}
+use Rattle.sk_middle.specs.declared.chain.Through.TheVariants as through
 use Rattle.sk_payload.specs.Draft.{draft_fault}
 use Rattle.sk_payload.specs.declared.draft.JobDraft.{JobDraft}
 use Rattle.sk_payload.specs.declared.draft_fault.DraftFault.TheVariants as draft_
@@ -49,14 +51,49 @@ pub record Pushes (Carried : List Call → Type 0) (job : PushJob) (outcome : Re
   pub sent : Sends Carried (request job) pushed
   pub told : outcome ≡ outcome_of job.draft.jid pushed
 
+-- ## The chain
+
+-- what the chain makes of the job: the job of another draft, or none where it stops the draft
+abbrev pub Passes : (JobDraft → Through → Type 0) → PushJob → Option PushJob → Type 0
+Passes Applied job (Some next) = Applied job.draft (through.Push next.draft) × (next ≡ record job { draft = next.draft })
+Passes Applied job None = (place : ℕ) × Applied job.draft (through.Stopped place)
+
+-- Only a job that goes to its queue now goes through the chain.
+abbrev pub handed_by : Option Lock → Option ℤ → (JobDraft → Through → Type 0) → PushJob → Option PushJob → Type 0
+handed_by (Some lock) at_ Applied job next = next ≡ Some job
+handed_by None (Some at_) Applied job next = next ≡ Some job
+handed_by None None Applied job next = Passes Applied job next
+
+-- the job that is pushed for this one, or none
+abbrev pub Hands : (JobDraft → Through → Type 0) → PushJob → Option PushJob → Type 0
+Hands Applied job next = handed_by job.draft.lock job.at Applied job next
+
 -- ## The program
 
--- The words are no line of `push`, or their job can't be written; then nothing was done. Or there was no memory. Or the job of the words, with the
--- moment and the words that were drawn, was spoken of.
-pub data PushRun (words : List Text) (Untouched : Type 0) (Drawn : ℕ → ℕ → ℕ → Type 0) (Speaks : PushJob → Result Bytes Failure → Type 0) : Result Bytes Failure → Type 0 where
-  refused : ((line : PushLine) → IsPush words line → ⊥) → Untouched → PushRun words Untouched Drawn Speaks (Err failure.Line)
-  unwritten : (line : PushLine) (now_ first second : ℕ) (job : PushJob) → IsPush words line → Drawn now_ first second → IsJob line now_ first second job →
-      (draft_fault job.draft ≡ None → ⊥) → Untouched → PushRun words Untouched Drawn Speaks (Err failure.Line)
-  starved : PushRun words Untouched Drawn Speaks (Err failure.Memory)
-  spoke : (line : PushLine) (now_ first second : ℕ) (job : PushJob) (outcome : Result Bytes Failure) → IsPush words line → Drawn now_ first second →
-      IsJob line now_ first second job → Speaks job outcome → PushRun words Untouched Drawn Speaks outcome
+-- what is told of a job that the chain stopped
+abbrev pub stopped : Bytes
+stopped = ended (codes "stopped")
+
+-- the words' job, with the moment and the words that were drawn, and the job that is pushed for it
+pub record Wanted (words : List Text) (Drawn : ℕ → ℕ → ℕ → Type 0) (Applied : JobDraft → Through → Type 0) (next : Option PushJob) : Type 0 where
+  pub line : PushLine
+  pub moment : ℕ
+  pub first : ℕ
+  pub second : ℕ
+  pub job : PushJob
+  pub is_line : IsPush words line
+  pub drawn : Drawn moment first second
+  pub is_job : IsJob line moment first second job
+  pub handed : Hands Applied job next
+
+-- The words are no line of `push`, or the job that is to be pushed can't be written, or the chain stopped it; then nothing was done. Or there was no
+-- memory. Or it was spoken of.
+pub data PushRun (words : List Text) (Untouched : Type 0) (Drawn : ℕ → ℕ → ℕ → Type 0) (Applied : JobDraft → Through → Type 0)
+    (Speaks : PushJob → Result Bytes Failure → Type 0) : Result Bytes Failure → Type 0 where
+  refused : ((line : PushLine) → IsPush words line → ⊥) → Untouched → PushRun words Untouched Drawn Applied Speaks (Err failure.Line)
+  unwritten : (job : PushJob) → Wanted words Drawn Applied (Some job) → (draft_fault job.draft ≡ None → ⊥) → Untouched →
+      PushRun words Untouched Drawn Applied Speaks (Err failure.Line)
+  halted : Wanted words Drawn Applied None → Untouched → PushRun words Untouched Drawn Applied Speaks (Ok stopped)
+  starved : PushRun words Untouched Drawn Applied Speaks (Err failure.Memory)
+  spoke : (job : PushJob) (outcome : Result Bytes Failure) → Wanted words Drawn Applied (Some job) → Speaks job outcome →
+      PushRun words Untouched Drawn Applied Speaks outcome

@@ -13,6 +13,8 @@ pub enum Program {
     Push,
     /// The page of a server is written.
     Status,
+    /// A large run of a store.
+    Soak,
 }
 
 // The program with this name.
@@ -30,6 +32,9 @@ fn named(name: &str) -> Option<Program>
     }
     if name == "status" {
         return Some(Program::Status);
+    }
+    if name == "soak" {
+        return Some(Program::Soak);
     }
     None
 }

@@ -1,26 +1,25 @@
-// The program `push`: its words are read, the job is made and tried whether it can be written; then a connection is made, one request pushes the job, the
-// connection is left to the door, and what came of it is told.
-ghost use Rattle.std.specs.Prelude.{◌≡◌, ◌⊎◌, ◌∷◌, [], ℕ, None, Err, Result, IfErr, OnOk, map, string_bytes};
+// The program `push`: its words are read, the job is made, handed to the chain, and tried whether it can be written; then a connection is made, one
+// request pushes the job, the connection is left to the door, and what came of it is told.
+ghost use Rattle.std.specs.Prelude.{◌≡◌, ◌⊎◌, None, Err, IfErr, OnOk, map, string_bytes};
 ghost use Rattle.sk_base.specs.Outside.{Rose};
-ghost use Rattle.sk_base.specs.Yields.{Yields, YieldsAll};
 ghost use Rattle.sk_client.specs.Push.{Accepted, Fails};
 ghost use Rattle.sk_payload.specs.Draft.{draft_fault};
-ghost use Rattle.sk_resp.specs.Spelling.{Bytes};
-ghost use Rattle.sk_link.specs.Wire.{WireCarries};
-ghost use Rattle.sk_app.specs.Dialogue.{Dialogue};
-ghost use Rattle.sk_app.specs.Ending.{Concludes};
-ghost use Rattle.sk_app.specs.Pushing.{PushRun, Pushes, outcome_of, request};
-ghost use Rattle.sk_app.specs.declared.failure.Failure.{Failure};
+ghost use Rattle.sk_app.specs.Dialogue.{Dials};
+ghost use Rattle.sk_app.specs.Ending.{Ends};
+ghost use Rattle.sk_app.specs.Jobs.{Draws};
+ghost use Rattle.sk_middle.specs.Applied.{applied};
+ghost use Rattle.sk_app.specs.Pushing.{Hands, PushRun, Pushes, outcome_of, request};
 ghost use Rattle.sk_app.specs.declared.failure.Failure.TheVariants.{Line, Memory};
 
 use crate::Failure;
-use crate::ending::{conclude, line};
+use crate::ending::{self, conclude, line};
 use crate::job::{PushJob, job_of};
 use sk_base::{Clock, Dice, Sink};
 use sk_client::{ClientFault, push, push_at, push_unique};
 use sk_edge::Door;
 use sk_line::read_push;
 use sk_link::{Link, WireLink};
+use sk_middle::{ClientChain, Through};
 use sk_payload::DraftFault;
 use sk_resp::{Text, Word};
 use std::alloc::Global;
@@ -66,10 +65,7 @@ fn push_over<L: Link>(alloc: Global, link: &mut L, job: &PushJob) -> Result<Word
 // Pushes the job over a connection of its own.
 fn push_to<N: Door>(alloc: Global, net: &mut N, job: &PushJob) -> Result<Word, Failure>
     requires { draft_fault job.now.draft ≡ None }
-    ensures told { Dialogue (record { dialled = N.dialled net.old; kept = N.kept net.old; faults = N.door_faults net.old })
-        (record { dialled = N.dialled net.new; kept = N.kept net.new; faults = N.door_faults net.new })
-        (λ a b outcome. Pushes (WireCarries N.Conn.taken N.Conn.left N.Conn.read_faults N.Conn.write_faults a b) job.now outcome)
-        result }
+    ensures told { Dials N.Door N.Conn.Source N.Conn.Sink net.old net.new (λ carried. Pushes carried job.now) result }
     ensures never { result ≡ Err Line → ⊥ }
 {
     let conn = net.connect(job.address.host.text(), job.address.port)?;
@@ -77,6 +73,20 @@ fn push_to<N: Door>(alloc: Global, net: &mut N, job: &PushJob) -> Result<Word, F
     let outcome = push_over(alloc, &mut link, job);
     net.leave(link.into_conn());
     outcome
+}
+
+// The job that is pushed for this one: one that goes to its queue now goes through the chain, which may stop it. Others are pushed as they are.
+fn hand_on(chain: &ClientChain, job: PushJob) -> Option<PushJob>
+    ensures { Hands (applied chain.now) job result }
+{
+    let PushJob { address, draft, at } = job;
+    if draft.lock.is_some() || at.is_some() {
+        return Some(PushJob { address, draft, at });
+    }
+    match chain.apply(draft) {
+        Through::Push(draft) => Some(PushJob { address, draft, at }),
+        Through::Stopped(_) => None,
+    }
 }
 
 // The job can be written.
@@ -95,41 +105,44 @@ fn try_draft(alloc: Global, job: &PushJob) -> Result<(), Failure>
 fn outcome_by<N: Door, C: Clock, D: Dice>(
     alloc: Global,
     words: &[String],
+    chain: &ClientChain,
     net: &mut N,
     clock: &mut C,
     dice: &mut D,
 ) -> Result<Word, Failure>
     ensures told { PushRun (map string_bytes words.now) (net.new ≡ net.old)
-        (λ now_ first second. Yields (C.moments clock.old) now_ (C.moments clock.new) × YieldsAll (D.words dice.old) (first ∷ second ∷ []) (D.words dice.new))
-        (λ job outcome. Dialogue (record { dialled = N.dialled net.old; kept = N.kept net.old; faults = N.door_faults net.old })
-        (record { dialled = N.dialled net.new; kept = N.kept net.new; faults = N.door_faults net.new })
-        (λ a b outcome. Pushes (WireCarries N.Conn.taken N.Conn.left N.Conn.read_faults N.Conn.write_faults a b) job outcome)
-        outcome) result }
+        (Draws C.Clock D.Dice clock.old dice.old clock.new dice.new)
+        (applied chain.now)
+        (λ job outcome. Dials N.Door N.Conn.Source N.Conn.Sink net.old net.new (λ carried. Pushes carried job) outcome) result }
     ensures untouched { result ≡ Err Line → net.new ≡ net.old }
 {
     let line = read_push(alloc, words)?;
     let job = job_of(alloc, line, clock, dice)?;
+    let Some(job) = hand_on(chain, job) else {
+        return Ok(ending::line(alloc, b"stopped", b"")?);
+    };
     try_draft(alloc, &job)?;
     push_to(alloc, net, &job)
 }
 
 /// Pushes the job that the words, which begin with `push`, ask for, and writes its id and LF; or, where the lock of a unique job is held, `held`, a space,
-/// the id of the job that holds it, and LF. Answers the status: 0 for these, and else what [`Failure::status`] says, or 4 where the sink failed.
+/// the id of the job that holds it, and LF. A job without `--at` and `--unique` goes through the chain first: what that makes of it is pushed, and where
+/// it stops the job, `stopped` and LF are written, and no connection is made. Answers the status: 0 for these, and else what [`Failure::status`] says,
+/// or 4 where the sink failed.
 pub fn run_push<K: Sink, N: Door, C: Clock, D: Dice>(
     alloc: Global,
     words: &[String],
+    chain: &ClientChain,
     sink: &mut K,
     net: &mut N,
     clock: &mut C,
     dice: &mut D,
 ) -> u8
-    ensures told { (outcome : Result Bytes Failure) × Concludes outcome result (K.taken sink.old) (K.taken sink.new)
-        × PushRun (map string_bytes words.now) (net.new ≡ net.old)
-        (λ now_ first second. Yields (C.moments clock.old) now_ (C.moments clock.new) × YieldsAll (D.words dice.old) (first ∷ second ∷ []) (D.words dice.new))
-        (λ job outcome. Dialogue (record { dialled = N.dialled net.old; kept = N.kept net.old; faults = N.door_faults net.old })
-        (record { dialled = N.dialled net.new; kept = N.kept net.new; faults = N.door_faults net.new })
-        (λ a b outcome. Pushes (WireCarries N.Conn.taken N.Conn.left N.Conn.read_faults N.Conn.write_faults a b) job outcome)
-        outcome) outcome }
+    ensures told { Ends K.Sink sink.old sink.new result
+        (PushRun (map string_bytes words.now) (net.new ≡ net.old)
+        (Draws C.Clock D.Dice clock.old dice.old clock.new dice.new)
+        (applied chain.now)
+        (λ job outcome. Dials N.Door N.Conn.Source N.Conn.Sink net.old net.new (λ carried. Pushes carried job) outcome)) }
 
     // With status 4 the sink's count of faults rose.
     ensures sink_cause { result ≡ 4 → Rose (K.write_faults sink.old) (K.write_faults sink.new) }
@@ -137,6 +150,6 @@ pub fn run_push<K: Sink, N: Door, C: Clock, D: Dice>(
     // With status 2 nothing was written, and no connection was made.
     ensures untouched { result ≡ 2 → (sink.new ≡ sink.old) × (net.new ≡ net.old) }
 {
-    let outcome = outcome_by(alloc, words, net, clock, dice);
+    let outcome = outcome_by(alloc, words, chain, net, clock, dice);
     conclude(alloc, sink, outcome)
 }

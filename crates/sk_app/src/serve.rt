@@ -1,12 +1,10 @@
 // The program `serve`: its words are read, connections are served until a SHUTDOWN or until each loop has served its number, and the summary is written.
-ghost use Rattle.std.specs.Prelude.{◌≡◌, ◌<◌, ◌≤◌, Err, IfOk, Result, map, string_bytes};
+ghost use Rattle.std.specs.Prelude.{◌≡◌, ◌<◌, ◌≤◌, Err, IfOk, map, string_bytes};
 ghost use Rattle.sk_base.specs.Outside.{Rose};
 ghost use Rattle.sk_base.specs.declared.limits.TheConstants.{MOST_LOOPS_SERVED};
-ghost use Rattle.sk_resp.specs.Spelling.{Bytes};
 ghost use Rattle.sk_serve.specs.Server.{HasFailed};
-ghost use Rattle.sk_app.specs.Ending.{Concludes};
+ghost use Rattle.sk_app.specs.Ending.{Ends};
 ghost use Rattle.sk_app.specs.Serving.{IsOutcome, ServeRun, Serves, first_line, summary_text};
-ghost use Rattle.sk_app.specs.declared.failure.Failure.{Failure};
 ghost use Rattle.sk_app.specs.declared.failure.Failure.TheVariants.{Line};
 
 use crate::Failure;
@@ -117,9 +115,9 @@ pub fn run_serve<R: Threads + Wait + Sync, K: Sink, N: Door, C: Clock + Send>(
 ) -> u8
 where
     N::Ear: Send,
-    ensures told { (outcome : Result Bytes Failure) × Concludes outcome result (K.taken sink.old) (K.taken sink.new)
-        × ServeRun (map string_bytes words.now) (net.new ≡ net.old)
-        (λ loops. HasFailed N.door_faults N.gathered N.Ear.ear_faults loops net.old net.new) outcome }
+    ensures told { Ends K.Sink sink.old sink.new result
+        (ServeRun (map string_bytes words.now) (net.new ≡ net.old)
+        (λ loops. HasFailed N.door_faults N.gathered N.Ear.ear_faults loops net.old net.new)) }
 
     // With status 4 the sink's count of faults rose.
     ensures sink_cause { result ≡ 4 → Rose (K.write_faults sink.old) (K.write_faults sink.new) }

@@ -1,13 +1,10 @@
 // The program `status`: its words are read, a connection is made, the store is asked for its page, the connection is left to the door, and the page is
 // written.
-ghost use Rattle.std.specs.Prelude.{◌≡◌, ◌⊎◌, Err, IfOk, Result, map, string_bytes};
+ghost use Rattle.std.specs.Prelude.{◌≡◌, ◌⊎◌, Err, IfOk, map, string_bytes};
 ghost use Rattle.sk_base.specs.Outside.{Rose};
-ghost use Rattle.sk_resp.specs.Spelling.{Bytes};
-ghost use Rattle.sk_link.specs.Wire.{WireCarries};
-ghost use Rattle.sk_app.specs.Dialogue.{Dialogue};
-ghost use Rattle.sk_app.specs.Ending.{Concludes};
+ghost use Rattle.sk_app.specs.Dialogue.{Dials};
+ghost use Rattle.sk_app.specs.Ending.{Ends};
 ghost use Rattle.sk_app.specs.Paging.{Asks, StatusRun, page_of, status_words};
-ghost use Rattle.sk_app.specs.declared.failure.Failure.{Failure};
 ghost use Rattle.sk_app.specs.declared.failure.Failure.TheVariants.{Line, Memory};
 
 use crate::Failure;
@@ -50,9 +47,7 @@ fn ask_over<L: Link>(alloc: Global, link: &mut L) -> Result<Word, Failure>
 
 // Asks for the page over a connection of its own.
 fn ask<N: Door>(alloc: Global, net: &mut N, address: &Address) -> Result<Word, Failure>
-    ensures told { Dialogue (record { dialled = N.dialled net.old; kept = N.kept net.old; faults = N.door_faults net.old })
-        (record { dialled = N.dialled net.new; kept = N.kept net.new; faults = N.door_faults net.new })
-        (λ a b outcome. Asks (WireCarries N.Conn.taken N.Conn.left N.Conn.read_faults N.Conn.write_faults a b) outcome) result }
+    ensures told { Dials N.Door N.Conn.Source N.Conn.Sink net.old net.new Asks result }
     ensures never { result ≡ Err Line → ⊥ }
 {
     let conn = net.connect(address.host.text(), address.port)?;
@@ -65,9 +60,7 @@ fn ask<N: Door>(alloc: Global, net: &mut N, address: &Address) -> Result<Word, F
 // What `status` comes to.
 fn outcome_by<N: Door>(alloc: Global, words: &[String], net: &mut N) -> Result<Word, Failure>
     ensures told { StatusRun (map string_bytes words.now) (net.new ≡ net.old)
-        (Dialogue (record { dialled = N.dialled net.old; kept = N.kept net.old; faults = N.door_faults net.old })
-        (record { dialled = N.dialled net.new; kept = N.kept net.new; faults = N.door_faults net.new })
-        (λ a b outcome. Asks (WireCarries N.Conn.taken N.Conn.left N.Conn.read_faults N.Conn.write_faults a b) outcome)) result }
+        (Dials N.Door N.Conn.Source N.Conn.Sink net.old net.new Asks) result }
     ensures untouched { result ≡ Err Line → net.new ≡ net.old }
 {
     let line = read_status(alloc, words)?;
@@ -82,11 +75,9 @@ pub fn run_status<K: Sink, N: Door>(
     sink: &mut K,
     net: &mut N,
 ) -> u8
-    ensures told { (outcome : Result Bytes Failure) × Concludes outcome result (K.taken sink.old) (K.taken sink.new)
-        × StatusRun (map string_bytes words.now) (net.new ≡ net.old)
-        (Dialogue (record { dialled = N.dialled net.old; kept = N.kept net.old; faults = N.door_faults net.old })
-        (record { dialled = N.dialled net.new; kept = N.kept net.new; faults = N.door_faults net.new })
-        (λ a b outcome. Asks (WireCarries N.Conn.taken N.Conn.left N.Conn.read_faults N.Conn.write_faults a b) outcome)) outcome }
+    ensures told { Ends K.Sink sink.old sink.new result
+        (StatusRun (map string_bytes words.now) (net.new ≡ net.old)
+        (Dials N.Door N.Conn.Source N.Conn.Sink net.old net.new Asks)) }
 
     // With status 4 the sink's count of faults rose.
     ensures sink_cause { result ≡ 4 → Rose (K.write_faults sink.old) (K.write_faults sink.new) }

@@ -1,8 +1,6 @@
 // The top call: what the words of a command line ask for. The first of them names the program.
-ghost use Rattle.std.specs.Prelude.{◌≡◌, ◌≤◌, ◌⊎◌, [], ◌∷◌, None, Result, Some, map, string_bytes, vec_len};
+ghost use Rattle.std.specs.Prelude.{◌≡◌, ◌≤◌, ◌⊎◌, None, Some, map, string_bytes, vec_len};
 ghost use Rattle.sk_base.specs.Outside.{Rose};
-ghost use Rattle.sk_base.specs.Yields.{Yields, YieldsAll};
-ghost use Rattle.sk_resp.specs.Spelling.{Bytes};
 ghost use Rattle.sk_pipe.specs.Run.{Completes, IsPipeLine, IsPiped, shipped, status_of};
 ghost use Rattle.sk_pipe.specs.declared.pipe_end.PipeEnd.{PipeEnd};
 ghost use Rattle.sk_serve.specs.Server.{HasFailed};
@@ -10,20 +8,23 @@ ghost use Rattle.sk_base.specs.declared.limits.TheConstants.{MOST_WORKERS};
 ghost use Rattle.sk_launcher.specs.Connections.{classes_of, door_tells};
 ghost use Rattle.sk_launcher.specs.Launching.{Launched};
 ghost use Rattle.sk_link.specs.Wire.{WireCarries};
-ghost use Rattle.sk_app.specs.Dialogue.{Dialogue};
-ghost use Rattle.sk_app.specs.Ending.{Concludes};
+ghost use Rattle.sk_middle.specs.Applied.{applied};
+ghost use Rattle.sk_app.specs.Dialogue.{Dials};
+ghost use Rattle.sk_app.specs.Ending.{Ends};
+ghost use Rattle.sk_app.specs.Jobs.{Draws};
 ghost use Rattle.sk_app.specs.Paging.{Asks, StatusRun};
 ghost use Rattle.sk_app.specs.Programs.{program_of};
 ghost use Rattle.sk_app.specs.Pushing.{PushRun, Pushes};
 ghost use Rattle.sk_app.specs.Serving.{ServeRun};
+ghost use Rattle.sk_app.specs.Soaking.{SoakRun};
 ghost use Rattle.sk_app.specs.Working.{WorkRun};
-ghost use Rattle.sk_app.specs.declared.failure.Failure.{Failure};
-ghost use Rattle.sk_app.specs.declared.program.Program.TheVariants.{Push, Serve, Status, Work};
+ghost use Rattle.sk_app.specs.declared.program.Program.TheVariants.{Push, Serve, Soak, Status, Work};
 
 use crate::program::{Program, program_of};
-use crate::{run_push, run_serve, run_status, run_work};
+use crate::{run_push, run_serve, run_soak, run_status, run_work};
 use sk_base::{Clock, Dice, Sink, Source};
 use sk_edge::Door;
+use sk_middle::ClientChain;
 use sk_pipe::run as run_pipe;
 use sk_policy::DelayRule;
 use sk_worker::Registry;
@@ -37,8 +38,9 @@ use std::thread::Threads;
 /// - `pipe`, alone: commands from the source, and their replies to the sink ([`sk_pipe::run`]).
 /// - `serve ..`: a server ([`run_serve`]).
 /// - `work ..`: workers and a poller for a server ([`run_work`]), which have these teams and rules.
-/// - `push ..`: one job is pushed to a server ([`run_push`]).
+/// - `push ..`: one job is pushed to a server ([`run_push`]), as this chain makes it, which may stop it.
 /// - `status ..`: the page of a server ([`run_status`]).
+/// - `soak ..`: a large run of a store of its own ([`run_soak`]).
 ///
 /// Status 0: all was done. 1: the input of `pipe` has a fault or ends inside a command. 2: the words are no command line; nothing was read, written or
 /// opened. 3, 4: the source, the sink failed. 5: there was no memory. 6: a connection failed or was unreadable, or seats were used up. 7: the store
@@ -49,6 +51,7 @@ pub fn run<R: Threads + Wait + Sync, S: Source, K: Sink, N: Door, C: Clock + Sen
     words: &[String],
     teams: &mut Vec<Registry>,
     rules: Vec<DelayRule>,
+    chain: &ClientChain,
     source: &mut S,
     sink: &mut K,
     net: &mut N,
@@ -70,35 +73,32 @@ where
         → Completes (S.left source.old) (Rose (S.read_faults source.old) (S.read_faults source.new) ⊎ Rose (K.write_faults sink.old) (K.write_faults sink.new)) result }
 
     // A server.
-    ensures served { program_of (map string_bytes words.now) ≡ Some Serve → (outcome : Result Bytes Failure)
-        × Concludes outcome result (K.taken sink.old) (K.taken sink.new) × ServeRun (map string_bytes words.now) (net.new ≡ net.old)
-        (λ loops. HasFailed N.door_faults N.gathered N.Ear.ear_faults loops net.old net.new) outcome }
+    ensures served { program_of (map string_bytes words.now) ≡ Some Serve → Ends K.Sink sink.old sink.new result
+        (ServeRun (map string_bytes words.now) (net.new ≡ net.old)
+        (λ loops. HasFailed N.door_faults N.gathered N.Ear.ear_faults loops net.old net.new)) }
 
     // Workers.
-    ensures worked { program_of (map string_bytes words.now) ≡ Some Work → (outcome : Result Bytes Failure)
-        × Concludes outcome result (K.taken sink.old) (K.taken sink.new)
-        × WorkRun (vec_len teams.old) (map string_bytes words.now) ((net.new ≡ net.old) × (teams.new ≡ teams.old))
+    ensures worked { program_of (map string_bytes words.now) ≡ Some Work → Ends K.Sink sink.old sink.new result
+        (WorkRun (vec_len teams.old) (map string_bytes words.now) ((net.new ≡ net.old) × (teams.new ≡ teams.old))
         (λ line how. Launched (WireCarries N.Conn.taken N.Conn.left N.Conn.read_faults N.Conn.write_faults)
         (Rose (N.door_faults net.old) (N.door_faults net.new)) line (door_tells (N.dialled net.old) (N.kept net.old))
-        (door_tells (N.dialled net.new) (N.kept net.new)) (classes_of teams.old.items) how) outcome }
+        (door_tells (N.dialled net.new) (N.kept net.new)) (classes_of teams.old.items) how)) }
 
     // A push.
-    ensures pushed { program_of (map string_bytes words.now) ≡ Some Push → (outcome : Result Bytes Failure)
-        × Concludes outcome result (K.taken sink.old) (K.taken sink.new)
-        × PushRun (map string_bytes words.now) (net.new ≡ net.old)
-        (λ now_ first second. Yields (C.moments clock.old) now_ (C.moments clock.new) × YieldsAll (D.words dice.old) (first ∷ second ∷ []) (D.words dice.new))
-        (λ job outcome. Dialogue (record { dialled = N.dialled net.old; kept = N.kept net.old; faults = N.door_faults net.old })
-        (record { dialled = N.dialled net.new; kept = N.kept net.new; faults = N.door_faults net.new })
-        (λ a b outcome. Pushes (WireCarries N.Conn.taken N.Conn.left N.Conn.read_faults N.Conn.write_faults a b) job outcome)
-        outcome) outcome }
+    ensures pushed { program_of (map string_bytes words.now) ≡ Some Push → Ends K.Sink sink.old sink.new result
+        (PushRun (map string_bytes words.now) (net.new ≡ net.old)
+        (Draws C.Clock D.Dice clock.old dice.old clock.new dice.new)
+        (applied chain.now)
+        (λ job outcome. Dials N.Door N.Conn.Source N.Conn.Sink net.old net.new (λ carried. Pushes carried job) outcome)) }
 
     // A page.
-    ensures paged { program_of (map string_bytes words.now) ≡ Some Status → (outcome : Result Bytes Failure)
-        × Concludes outcome result (K.taken sink.old) (K.taken sink.new)
-        × StatusRun (map string_bytes words.now) (net.new ≡ net.old)
-        (Dialogue (record { dialled = N.dialled net.old; kept = N.kept net.old; faults = N.door_faults net.old })
-        (record { dialled = N.dialled net.new; kept = N.kept net.new; faults = N.door_faults net.new })
-        (λ a b outcome. Asks (WireCarries N.Conn.taken N.Conn.left N.Conn.read_faults N.Conn.write_faults a b) outcome)) outcome }
+    ensures paged { program_of (map string_bytes words.now) ≡ Some Status → Ends K.Sink sink.old sink.new result
+        (StatusRun (map string_bytes words.now) (net.new ≡ net.old)
+        (Dials N.Door N.Conn.Source N.Conn.Sink net.old net.new Asks)) }
+
+    // A large run.
+    ensures soaked { program_of (map string_bytes words.now) ≡ Some Soak
+        → Ends K.Sink sink.old sink.new result (SoakRun (map string_bytes words.now)) }
 
     // Words that name no program are refused.
     ensures unknown { (IsPipeLine (map string_bytes words.now) → ⊥) → program_of (map string_bytes words.now) ≡ None → result ≡ 2 }
@@ -117,8 +117,9 @@ where
     match program_of(words) {
         Some(Program::Serve) => run_serve(rt, alloc, words, sink, net, clock),
         Some(Program::Work) => run_work(rt, alloc, words, teams, rules, sink, net, clock, dice),
-        Some(Program::Push) => run_push(alloc, words, sink, net, clock, dice),
+        Some(Program::Push) => run_push(alloc, words, chain, sink, net, clock, dice),
         Some(Program::Status) => run_status(alloc, words, sink, net),
+        Some(Program::Soak) => run_soak(alloc, words, sink),
         None => run_pipe(alloc, words, source, sink),
     }
 }

@@ -1,11 +1,9 @@
 // The program `work`: its words are read, a poller and workers take their turns over connections of their own, and how the turns ended is written.
-ghost use Rattle.std.specs.Prelude.{◌≡◌, ◌≤◌, Err, IfOk, Result, map, string_bytes, vec_len};
+ghost use Rattle.std.specs.Prelude.{◌≡◌, ◌≤◌, Err, IfOk, map, string_bytes, vec_len};
 ghost use Rattle.sk_base.specs.Outside.{Rose};
-ghost use Rattle.sk_resp.specs.Spelling.{Bytes};
 ghost use Rattle.sk_base.specs.declared.limits.TheConstants.{MOST_WORKERS};
-ghost use Rattle.sk_app.specs.Ending.{Concludes};
+ghost use Rattle.sk_app.specs.Ending.{Ends};
 ghost use Rattle.sk_app.specs.Working.{IsOutcome, WorkRun, summary_text};
-ghost use Rattle.sk_app.specs.declared.failure.Failure.{Failure};
 ghost use Rattle.sk_launcher.specs.Connections.{classes_of, door_tells};
 ghost use Rattle.sk_launcher.specs.Launching.{Launched};
 ghost use Rattle.sk_link.specs.Wire.{WireCarries};
@@ -86,11 +84,11 @@ pub fn run_work<R: Threads + Wait + Sync, K: Sink, N: Door, C: Clock + Send, D: 
 ) -> u8
     requires rules { vec_len rules ≡ vec_len teams.old }
     requires few { vec_len teams.old ≤ MOST_WORKERS }
-    ensures told { (outcome : Result Bytes Failure) × Concludes outcome result (K.taken sink.old) (K.taken sink.new)
-        × WorkRun (vec_len teams.old) (map string_bytes words.now) ((net.new ≡ net.old) × (teams.new ≡ teams.old))
+    ensures told { Ends K.Sink sink.old sink.new result
+        (WorkRun (vec_len teams.old) (map string_bytes words.now) ((net.new ≡ net.old) × (teams.new ≡ teams.old))
         (λ line how. Launched (WireCarries N.Conn.taken N.Conn.left N.Conn.read_faults N.Conn.write_faults)
         (Rose (N.door_faults net.old) (N.door_faults net.new)) line (door_tells (N.dialled net.old) (N.kept net.old))
-        (door_tells (N.dialled net.new) (N.kept net.new)) (classes_of teams.old.items) how) outcome }
+        (door_tells (N.dialled net.new) (N.kept net.new)) (classes_of teams.old.items) how)) }
 
     // The teams stand in their order again.
     ensures teams { classes_of teams.new.items ≡ classes_of teams.old.items }

@@ -17,6 +17,10 @@ pub enum Call {
     Order,
     /// `decide`: what becomes of a failed job, by its jitter and its text.
     Decide,
+    /// `desks`: the desks of a store behind a lock, with its journal.
+    Desks,
+    /// `threads`: threads that push to one store.
+    Threads,
 }
 
 impl Call {
@@ -29,6 +33,8 @@ impl Call {
             "poll" => Ok(Call::Poll),
             "order" => Ok(Call::Order),
             "decide" => Ok(Call::Decide),
+            "desks" => Ok(Call::Desks),
+            "threads" => Ok(Call::Threads),
             _ => Err(invalid()),
         }
     }

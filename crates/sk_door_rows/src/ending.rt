@@ -13,8 +13,8 @@ fn kind_of(piece: &[u8]) -> (&'static str, &[u8]) {
     }
 }
 
-// Appends a line for each piece of the bytes that ends at an LF, and for what stands behind the last.
-fn add_bytes(out: &mut String, bytes: &[u8]) -> Result<(), AllocError> {
+/// Appends a line for each piece of the bytes that ends at an LF, and for what stands behind the last.
+pub fn add_bytes(out: &mut String, bytes: &[u8]) -> Result<(), AllocError> {
     for piece in bytes.split_inclusive(|b| *b == b'\n') {
         let (kind, text) = kind_of(piece);
         out.push_str("\n")?;

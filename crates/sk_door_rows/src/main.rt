@@ -2,13 +2,19 @@
 //! No contract can say what a call through the store's lock did, and each leaves want of memory free as an answer. Rows show both.
 #![tactic(auto)]
 
+mod action;
 mod call;
+mod chain;
+mod desks;
 mod ending;
 mod faults;
+mod journal;
 mod order;
 mod peer;
 mod play;
 mod poller;
+mod pushers;
+mod seating;
 mod setting;
 mod small;
 mod text;

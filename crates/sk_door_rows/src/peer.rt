@@ -21,8 +21,8 @@ fn add_line(out: &mut Vec<u8>, text: &str, end: &[u8]) -> Result<(), AllocError>
     out.extend_from_slice(end)
 }
 
-// The words of a command, with one blank between each two.
-fn words_of(alloc: Global, text: &str) -> Result<Words, AllocError> {
+/// The words of a command, with one blank between each two.
+pub fn words_of(alloc: Global, text: &str) -> Result<Words, AllocError> {
     let mut words = Vec::new(alloc);
     for word in text.split(' ') {
         let mut bytes = Vec::new(alloc);

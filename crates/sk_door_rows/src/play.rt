@@ -3,15 +3,19 @@ ghost use Rattle.std.specs.Prelude.{◌≡◌, ◌≤◌, vec_len};
 ghost use Rattle.sk_base.specs.declared.limits.TheConstants.{MOST_WORKERS};
 
 use crate::call::Call;
+use crate::chain::chain_of;
+use crate::desks::desks;
 use crate::ending::ending;
 use crate::order::{decision, order};
 use crate::poller::poll;
+use crate::pushers::threads;
 use crate::setting::Setting;
 use crate::small::serve_small;
 use crate::text::invalid;
 use crate::worker::{class, work};
 use sk_app::{Note, run};
 use sk_edge::MemDoor;
+use sk_middle::ClientChain;
 use sk_policy::{DelayRule, plain_delay};
 use sk_worker::{Job, Registry};
 use std::alloc::{AllocError, Global};
@@ -19,13 +23,14 @@ use std::io;
 use std::sync::Wait;
 use std::thread::Threads;
 
-// What comes of the top call, with these teams.
+// What comes of the top call, with these teams and this chain.
 fn top<R: Threads + Wait + Sync>(
     rt: &R,
     alloc: Global,
     setting: Setting,
     teams: &mut Vec<Registry>,
     rules: Vec<DelayRule>,
+    chain: &ClientChain,
 ) -> Result<String, AllocError>
     requires rules { vec_len rules ≡ vec_len teams.old }
     requires few { vec_len teams.old ≤ MOST_WORKERS }
@@ -33,12 +38,14 @@ fn top<R: Threads + Wait + Sync>(
     let Setting {
         call: _,
         words,
+        chain: _,
         mut clock,
         mut dice,
         mut source,
         mut sink,
         heard,
         dialled,
+        actions: _,
     } = setting;
     let mut door = MemDoor::new(alloc, heard, dialled);
     let status = run(
@@ -47,6 +54,7 @@ fn top<R: Threads + Wait + Sync>(
         &words,
         teams,
         rules,
+        chain,
         &mut source,
         &mut sink,
         &mut door,
@@ -74,7 +82,8 @@ fn top_with_a_team<R: Threads + Wait + Sync>(
     teams.push(team)?;
     let mut rules = Vec::new(alloc);
     rules.push(DelayRule::new(plain))?;
-    Ok(top(rt, alloc, setting, &mut teams, rules)?)
+    let chain = chain_of(alloc, setting.chain.as_str())?;
+    Ok(top(rt, alloc, setting, &mut teams, rules, &chain)?)
 }
 
 /// What comes of the setting's call.
@@ -90,5 +99,7 @@ pub fn play<R: Threads + Wait + Sync>(
         Call::Poll => poll(alloc, setting),
         Call::Order => order(alloc, &mut setting),
         Call::Decide => decision(alloc, &setting),
+        Call::Desks => desks(rt, setting),
+        Call::Threads => threads(rt, &setting),
     }
 }

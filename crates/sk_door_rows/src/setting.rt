@@ -1,4 +1,5 @@
 // What a row gives to its call.
+use crate::action::Action;
 use crate::call::Call;
 use crate::peer::Peer;
 use crate::text::{add_bytes_of, invalid, key_of, number, numbers};
@@ -15,6 +16,8 @@ pub struct Setting {
     pub call: Call,
     /// The command line.
     pub words: Vec<String>,
+    /// The functions of the chain of `push`, with blanks between.
+    pub chain: String,
     pub clock: StepClock,
     pub dice: ListDice,
     pub source: Feed,
@@ -23,6 +26,8 @@ pub struct Setting {
     pub heard: Vec<Vec<MemConn>>,
     /// The connections that the door makes.
     pub dialled: Vec<MemConn>,
+    /// What is done at desks, in order.
+    pub actions: Vec<Action>,
 }
 
 // A word of the command line.
@@ -62,22 +67,26 @@ impl Setting {
         Setting {
             call: Call::Top,
             words: Vec::new(alloc),
+            chain: String::new(alloc),
             clock: StepClock { now: 0, step: 0 },
             dice: ListDice::new(Vec::new(alloc)),
             source: Feed::new(Vec::new(alloc), Vec::new(alloc), Vec::new(alloc)),
             sink: Tray::new(alloc, Vec::new(alloc)),
             heard: Vec::new(alloc),
             dialled: Vec::new(alloc),
+            actions: Vec::new(alloc),
         }
     }
 
-    // Adds what a line says: the clock's first moment and its step (`clock`), the words of the dice (`dice`), or what is called, with the words of its
-    // command line. Another line is invalid data.
+    // Adds what a line says: the clock's first moment and its step (`clock`), the words of the dice (`dice`), the functions of the chain (`chain`), what
+    // is done at a desk (`sit`, `ask`, `cut`), or what is called, with the words of its command line. Another line is invalid data.
     fn add(&mut self, alloc: Global, line: &str) -> io::Result<()> {
         let (key, rest) = key_of(line);
         match key {
             "clock" => self.clock = clock(rest)?,
             "dice" => self.dice = ListDice::new(numbers(alloc, rest)?),
+            "chain" => self.chain = String::from_str(alloc, rest)?,
+            "sit" | "ask" | "cut" => self.actions.push(Action::read(alloc, line)?)?,
             _ => {
                 self.call = Call::read(key)?;
                 self.words = words(alloc, rest)?;

@@ -10,8 +10,8 @@ use std::io;
 use std::sync::Wait;
 use std::thread::Threads;
 
-// The rows, the bytes and the batches that the words tell.
-fn limits(words: &[String]) -> io::Result<Limits> {
+/// The rows, the bytes and the batches that the words tell.
+pub fn limits(words: &[String]) -> io::Result<Limits> {
     let [rows, bytes, batches] = words else {
         return Err(invalid());
     };

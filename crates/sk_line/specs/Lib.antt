@@ -2,4 +2,5 @@ pub mod Options
 pub mod Values
 pub mod Lines
 pub mod Push
+pub mod Soak
 pub mod Work

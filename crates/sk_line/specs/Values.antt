@@ -1,5 +1,5 @@
 -- The values of options.
-use Rattle.std.specs.Prelude.{◌≡◌, ◌≤◌, ◌&&◌, ℕ, ℤ, pos, negsuc, nat_le, List, Option, Some, None, Ok, codes, if◌then◌else◌}
+use Rattle.std.specs.Prelude.{◌≡◌, ◌≤◌, ◌-◌, ◌^◌, ◌&&◌, ℕ, ℤ, pos, negsuc, nat_le, List, Option, Some, None, Ok, codes, if◌then◌else◌}
 use Rattle.sk_base.specs.declared.limits.TheConstants.{MOST_RETRIES, MOST_SECONDS}
 use Rattle.std.specs.Fmt.{decimal}
 use Rattle.clap.specs.Words.{Row, Text, first_of}
@@ -30,6 +30,10 @@ pub record IsNumber (least most : ℕ) (text : Text) (value : ℕ) : Type 0 wher
   pub least_is : least ≤ value
   pub most_is : value ≤ most
   pub is : text ≡ decimal value
+
+-- what a run is made from: any word of 64 bits
+abbrev pub IsSeed : Text → ℕ → Type 0
+IsSeed = IsNumber 0 (2 ^ 64 - 1)
 
 -- a port of TCP
 abbrev pub IsPort : Text → ℕ → Type 0

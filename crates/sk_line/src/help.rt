@@ -1,6 +1,7 @@
 // What clap says of words that it refuses, for standard error.
 use crate::push_line::push_command;
 use crate::serve_line::serve_command;
+use crate::soak_line::soak_command;
 use crate::status_line::status_command;
 use crate::work_line::work_command;
 use clap::Command;
@@ -13,6 +14,7 @@ fn command_of<'a>(alloc: Global, name: &str) -> Result<Option<Command<'a>>, Allo
         "serve" => Ok(Some(serve_command(alloc)?)),
         "work" => Ok(Some(work_command(alloc)?)),
         "push" => Ok(Some(push_command(alloc)?)),
+        "soak" => Ok(Some(soak_command(alloc)?)),
         "status" => Ok(Some(status_command(alloc)?)),
         _ => Ok(None),
     }

@@ -18,6 +18,10 @@ pub const CLASS_HELP: &str = "The class that runs it, as Note, Fail or Flip";
 
 pub const ARGS_HELP: &str = "Its arguments, a JSON array, as '[1, \"two\"]'";
 
+pub const SEED_HELP: &str = "What the run is made from, 0 to 18446744073709551615";
+
+pub const JOBS_HELP: &str = "How many jobs it has, 1 to 1000000";
+
 pub const SERVE_PORT_HELP: &str = "The port that it listens at, 1 to 65535";
 
 pub const LOOPS_HELP: &str = "How many connections it serves at a time; further ones wait";

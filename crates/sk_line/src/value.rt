@@ -3,7 +3,7 @@ ghost use Rattle.std.specs.Prelude.{◌≡◌, ℕ, ℤ, Bool, IfOk, MatchOption
 ghost use Rattle.clap.specs.Words.{all_of, first_of, found_of, rows_of};
 ghost use Rattle.sk_base.specs.Name.{is_name};
 ghost use Rattle.sk_line.specs.Lines.{Reads};
-ghost use Rattle.sk_line.specs.Values.{Has, IsArgs, IsNumber, IsRetry, IsScoreText, IsSeconds, IsText, MayHave, within};
+ghost use Rattle.sk_line.specs.Values.{Has, IsArgs, IsNumber, IsRetry, IsScoreText, IsSeconds, IsSeed, IsText, MayHave, within};
 ghost use Rattle.sk_line.specs.Work.{IsFlag, IsNamed};
 
 use crate::LineFault;
@@ -124,6 +124,36 @@ pub fn number_of(
 {
     match text_in(matches, name) {
         Some(text) => number(text, least, most).ok_or(LineFault::Refused),
+        None => Err(LineFault::Refused),
+    }
+}
+
+// The word of 64 bits whose one spelling the text is: digits without a leading zero.
+fn seed(text: &str) -> Option<u64>
+    ensures { MatchOption result ((value : ℕ) → IsSeed text.now value → ⊥) (IsSeed text.now) }
+{
+    let bytes = text.as_bytes();
+    let [first, ..] = bytes else {
+        return None;
+    };
+    if *first == b'+' {
+        return None;
+    }
+    if *first == b'0' && bytes.len() > 1 {
+        return None;
+    }
+    match text.parse::<u64>() {
+        Ok(word) => Some(word),
+        Err(_) => None,
+    }
+}
+
+/// The seed that an option stands for.
+pub fn seed_of(matches: &ArgMatches<'_>, name: &str) -> Result<u64, LineFault>
+    ensures { Reads (Has IsSeed (rows_of (found_of matches.now)) name.now) result }
+{
+    match text_in(matches, name) {
+        Some(text) => seed(text).ok_or(LineFault::Refused),
         None => Err(LineFault::Refused),
     }
 }

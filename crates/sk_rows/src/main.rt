@@ -3,6 +3,7 @@
 #![tactic(auto)]
 
 mod crons;
+mod desk;
 mod heads;
 mod outcome;
 mod repeats;
@@ -37,6 +38,7 @@ fn outcomes(alloc: Global, row: &Row<'_>, input: &[u8]) -> io::Result<Vec<Outcom
         Form::Crons => Outcome::alone(crons::slots(alloc, input)?),
         Form::Replies => Outcome::alone(replies::written_again(alloc, input)?),
         Form::Steps => Outcome::alone(steps::answers(alloc, &row.words, input)?),
+        Form::Desk => Outcome::alone(desk::answers(alloc, &row.words, input)?),
     }
 }
 

@@ -18,6 +18,8 @@ pub enum Form {
     Replies,
     /// `steps`: commands for a store, one a line. Its replies, its page, its tally and its seats' phases are compared.
     Steps,
+    /// `desk`: commands for the desk of one seat, one a line. Its replies, and the calls that it kept, are compared.
+    Desk,
 }
 
 /// A row: `FORM STATUS NAME WORD ..`, with blanks between.
@@ -28,7 +30,7 @@ pub struct Row<'a> {
     pub status: u8,
     /// The files are `NAME.in` and `NAME.out`.
     pub name: &'a str,
-    /// The command line; of steps the limits, where they aren't the program's.
+    /// The command line; of steps and of a desk the limits, where they aren't the program's.
     pub words: Vec<String>,
 }
 
@@ -41,6 +43,7 @@ impl Form {
             "crons" => Some(Form::Crons),
             "replies" => Some(Form::Replies),
             "steps" => Some(Form::Steps),
+            "desk" => Some(Form::Desk),
             _ => None,
         }
     }

@@ -21,16 +21,22 @@ struct Step {
     command: Command,
 }
 
-// The command whose words stand in the line, with one blank between each two, so that an empty word has a blank on each side.
-fn read_words(alloc: Global, line: &str) -> io::Result<Command> {
+/// The words of the line, with one blank between each two, so that an empty word has a blank on each side.
+pub fn words_in(alloc: Global, line: &str) -> io::Result<Words> {
     let mut words = Vec::new(alloc);
     for word in line.split(' ') {
         words.push(Word::new(word.as_bytes().to_vec(alloc)?))?;
     }
-    if words.is_empty() {
+    Ok(Words::new(words))
+}
+
+// The command whose words stand in the line.
+fn read_words(alloc: Global, line: &str) -> io::Result<Command> {
+    let words = words_in(alloc, line)?;
+    if words.list().is_empty() {
         return Err(invalid());
     }
-    match read_command(alloc, Words::new(words)) {
+    match read_command(alloc, words) {
         Ok(command) => Ok(command),
         Err(_) => Err(invalid()),
     }
@@ -51,8 +57,8 @@ fn read_step(alloc: Global, line: &str) -> io::Result<Step> {
     Ok(Step { seat, now, command })
 }
 
-// The limits that the words are, of rows, of bytes and of batches; those of the program for no words. Others are invalid data.
-fn read_limits(words: &[String]) -> io::Result<Limits> {
+/// The limits that the words are, of rows, of bytes and of batches; those of the program for no words. Others are invalid data.
+pub fn read_limits(words: &[String]) -> io::Result<Limits> {
     let [rows, bytes, batches] = words else {
         return if words.is_empty() {
             Ok(SHIPPED_LIMITS)

@@ -1,0 +1,4 @@
+use Rattle.sk_door_rows.proofs.pushers.threads.Given as goal
+
+abbrev pub ghosts-threads_on : goal.ghosts-threads_on
+ghosts-threads_on g a = record { name = a.blank.name; parts = a.blank.parts }

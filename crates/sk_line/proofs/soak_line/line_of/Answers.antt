@@ -1,0 +1,8 @@
+use Rattle.sk_line.proofs.Reading.{passed}
+use Rattle.sk_line.proofs.soak_line.line_of.Goals as goal
+
+pub returns-in_err-seed : goal.returns-in_err-seed
+returns-in_err-seed c = passed _ _ c.from_residual.ensures.1 c.in_err-seed.ensures (λ line p. (line.seed, p.seed))
+
+pub returns-in_err-jobs : goal.returns-in_err-jobs
+returns-in_err-jobs c = passed _ _ c.from_residual-in_err-jobs.ensures.1 c.in_err-jobs.ensures (λ line p. (line.jobs, p.jobs))
