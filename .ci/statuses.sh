@@ -41,6 +41,14 @@ expect 'a port of 0' 2 $?
 expect 'more loops than there may be' 2 $?
 "$program" push Note '{}' </dev/null 2>/dev/null
 expect 'arguments that are no array' 2 $?
+first=$("$program" soak 1 1)
+expect 'a run of one job' 0 $?
+[ "$first" = "$("$program" soak 1 1)" ]
+expect 'the same run again' 0 $?
+"$program" soak 1 0 2>/dev/null
+expect 'a run of no job' 2 $?
+"$program" soak 18446744073709551616 1 2>/dev/null
+expect 'a seed of 65 bits' 2 $?
 if command -v python3 >/dev/null; then
     # A server for one connection, which answers this to whatever comes; its port is printed first.
     peer() {
