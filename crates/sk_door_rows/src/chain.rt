@@ -21,8 +21,8 @@ fn hold(draft: JobDraft) -> Option<JobDraft>
 }
 
 // What comes of adding a function.
-fn added(result: Result<(), ChainFault>) -> io::Result<()> {
-    match result {
+fn added(came: Result<(), ChainFault>) -> io::Result<()> {
+    match came {
         Ok(()) => Ok(()),
         Err(_) => Err(invalid()),
     }
