@@ -1,9 +1,10 @@
 // The call of a row in its setting.
-ghost use Rattle.std.specs.Prelude.{◌≡◌, ◌≤◌, vec_len};
+ghost use Rattle.std.specs.Prelude.{◌≡◌, ◌≤◌, vec_len, IfSome};
+ghost use Rattle.sk_middle.specs.Identity.{KeepsIdentity};
 ghost use Rattle.sk_base.specs.declared.limits.TheConstants.{MOST_WORKERS};
 
 use crate::call::Call;
-use crate::chain::chain_of;
+use crate::chain::{add_step, hold};
 use crate::desks::desks;
 use crate::ending::ending;
 use crate::order::{decision, order};
@@ -13,9 +14,10 @@ use crate::setting::Setting;
 use crate::small::serve_small;
 use crate::text::invalid;
 use crate::worker::{class, work};
-use sk_app::{Note, run};
+use sk_app::{Note, cap, run};
 use sk_edge::MemDoor;
 use sk_middle::ClientChain;
+use sk_payload::JobDraft;
 use sk_policy::{DelayRule, plain_delay};
 use sk_worker::{Job, Registry};
 use std::alloc::{AllocError, Global};
@@ -38,7 +40,7 @@ fn top<R: Threads + Wait + Sync>(
     let Setting {
         call: _,
         words,
-        chain: _,
+        chained: _,
         mut clock,
         mut dice,
         mut source,
@@ -64,7 +66,7 @@ fn top<R: Threads + Wait + Sync>(
     ending(alloc, status, &sink, &door)
 }
 
-// What comes of it with one team, which has the class Note.
+// What comes of it with one team, which has the class Note, and a chain of `cap` and `hold` where the row has one.
 fn top_with_a_team<R: Threads + Wait + Sync>(
     rt: &R,
     alloc: Global,
@@ -82,7 +84,23 @@ fn top_with_a_team<R: Threads + Wait + Sync>(
     teams.push(team)?;
     let mut rules = Vec::new(alloc);
     rules.push(DelayRule::new(plain))?;
-    let chain = chain_of(alloc, setting.chain.as_str())?;
+    let cap: Box<dyn Fn(JobDraft) -> Option<JobDraft> + Send> = Box::new(
+        alloc,
+        |draft: JobDraft| -> Option<JobDraft>
+            ensures { IfSome result (KeepsIdentity draft) }
+        { cap(draft) },
+    )?;
+    let hold: Box<dyn Fn(JobDraft) -> Option<JobDraft> + Send> = Box::new(
+        alloc,
+        |draft: JobDraft| -> Option<JobDraft>
+            ensures { IfSome result (KeepsIdentity draft) }
+        { hold(draft) },
+    )?;
+    let mut chain = ClientChain::new(alloc);
+    if setting.chained {
+        add_step(alloc, &mut chain, "cap", cap)?;
+        add_step(alloc, &mut chain, "hold", hold)?;
+    }
     Ok(top(rt, alloc, setting, &mut teams, rules, &chain)?)
 }
 

@@ -16,8 +16,8 @@ pub struct Setting {
     pub call: Call,
     /// The command line.
     pub words: Vec<String>,
-    /// The functions of the chain of `push`, with blanks between.
-    pub chain: String,
+    /// The chain of `push` has `cap`, the shipped program's function, and behind it `hold`.
+    pub chained: bool,
     pub clock: StepClock,
     pub dice: ListDice,
     pub source: Feed,
@@ -67,7 +67,7 @@ impl Setting {
         Setting {
             call: Call::Top,
             words: Vec::new(alloc),
-            chain: String::new(alloc),
+            chained: false,
             clock: StepClock { now: 0, step: 0 },
             dice: ListDice::new(Vec::new(alloc)),
             source: Feed::new(Vec::new(alloc), Vec::new(alloc), Vec::new(alloc)),
@@ -78,14 +78,14 @@ impl Setting {
         }
     }
 
-    // Adds what a line says: the clock's first moment and its step (`clock`), the words of the dice (`dice`), the functions of the chain (`chain`), what
-    // is done at a desk (`sit`, `ask`, `cut`), or what is called, with the words of its command line. Another line is invalid data.
+    // Adds what a line says: the clock's first moment and its step (`clock`), the words of the dice (`dice`), that there is a chain (`chain`), what is
+    // done at a desk (`sit`, `ask`, `cut`), or what is called, with the words of its command line. Another line is invalid data.
     fn add(&mut self, alloc: Global, line: &str) -> io::Result<()> {
         let (key, rest) = key_of(line);
         match key {
             "clock" => self.clock = clock(rest)?,
             "dice" => self.dice = ListDice::new(numbers(alloc, rest)?),
-            "chain" => self.chain = String::from_str(alloc, rest)?,
+            "chain" => self.chained = true,
             "sit" | "ask" | "cut" => self.actions.push(Action::read(alloc, line)?)?,
             _ => {
                 self.call = Call::read(key)?;
