@@ -12,6 +12,7 @@ use crate::search::compare_scores;
 use sk_base::Score;
 use sk_cmd::Scored;
 use sk_payload::Payload;
+use sk_resp::compare_bytes;
 use std::cmp::Ordering;
 
 /// A text in a set of jobs, and its score there. The payload shares the text with its row.
@@ -28,7 +29,7 @@ pub fn compare_text(set: Scored, text: &[u8], key: &TextKey) -> Ordering
 {
     let sets = set_rank(set).cmp(&set_rank(key.set));
     match sets {
-        Ordering::Equal => text.cmp(key.payload.text().bytes()),
+        Ordering::Equal => compare_bytes(text, key.payload.text().bytes()),
         _ => sets,
     }
 }

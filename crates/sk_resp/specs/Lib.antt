@@ -13,3 +13,4 @@ pub mod ReplyStream
 pub mod ReplyMachine
 pub mod Laws
 pub mod WordOrder
+pub mod Groups

@@ -28,3 +28,4 @@ pub use std::alloc::AllocError as Memory;
 pub use text::Text;
 pub use wire_fault::WireFault;
 pub use word::{Word, Words};
+pub use word_order::compare_bytes;

@@ -10,7 +10,7 @@ mod state;
 mod text;
 
 use crate::say::write_say;
-use crate::spelling::{write_bulk, write_header, write_line};
+use crate::spelling::{write_bulk, write_header, write_int, write_line};
 use crate::{Memory, Say, Word};
 pub use fault::ReplyFault;
 pub use feeder::ReplyFeeder;
@@ -102,12 +102,13 @@ pub fn write_reply(alloc: Global, reply: &Reply, out: &mut Vec<u8>) -> Result<()
         }
         Reply::Int(n) => {
             out.push(b':')?;
-            write_line(n.to_string(alloc)?.as_bytes(), out)
+            write_int(*n, out)?;
+            write_line(b"", out)
         }
-        Reply::Bulk(bytes) => write_bulk(alloc, bytes.bytes(), out),
+        Reply::Bulk(bytes) => write_bulk(bytes.bytes(), out),
         Reply::Null => write_line(b"$-1", out),
         Reply::Array(replies) => {
-            write_header(alloc, replies.list.len(), out)?;
+            write_header(replies.list.len(), out)?;
             for reply in &replies.list {
                 write_reply(alloc, reply, out)?;
             }

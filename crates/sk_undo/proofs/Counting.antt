@@ -1,13 +1,17 @@
 -- How many keys match: those from the first to the last, which stand together.
 use Rattle.std.proofs.Common.{◌≡◌, ◌-◌, Bool, true, false, cond, List, [], ◌∷◌, refl, arith}
 use Rattle.std.specs.BTreeMap.{is_at}
-use Rattle.std.specs.List.{count_by}
+use Rattle.std.specs.List.{count_by, list_any}
 use Rattle.std.specs.Ordering.{is_eq, is_le, is_lt}
 use Rattle.std.specs.declared.cmp.Ordering.{Ordering}
 use Rattle.std.proofs.lemmas.List.Sums.{sum_by-cons}
 use Rattle.sk_undo.specs.Partitioned.{all_pass}
 use Rattle.sk_undo.specs.Sorted.{IsQuery, is_ordered, rank, rank_past}
 use Rattle.sk_undo.proofs.Sorted.{le_rest, lt_rest}
+
+pub none_counted : {K : Type 0} (t : K → Bool) (keys : List K) → list_any t keys ≡ false → count_by t keys ≡ 0
+none_counted t [] h = refl
+none_counted t (first ∷ keys) h = let e = sum_by-cons (λ key. cond (t key) 1 0) first keys in grind (arith, e, h, none_counted t keys)
 
 module _ {K : Type 0} {cmp : K → K → Ordering} {order : K → Ordering} (query : IsQuery cmp order) where
   none_past : (keys : List K) → all_pass (λ key. is_lt (order key)) keys ≡ true → count_by (is_at order) keys ≡ 0

@@ -1,7 +1,10 @@
 -- A walk down for the first item that passes.
-use Rattle.std.proofs.Common.{◌≡◌, ◌+◌, ◌≤◌, ◌<◌, Bool, true, false, List, [], ◌∷◌, ◌++◌, length, refl, arith}
+use Rattle.std.proofs.Common.{◌≡◌, ◌+◌, ◌≤◌, ◌<◌, Bool, true, false, List, [], ◌∷◌, ◌++◌, length, slice_get, refl, arith}
 use Rattle.std.specs.List.{position_or_len}
+use Rattle.std.specs.Ordering.{is_eq, is_le}
+use Rattle.std.specs.declared.cmp.Ordering.{Ordering}
 use Rattle.sk_undo.specs.Partitioned.{all_pass, is_partitioned}
+use Rattle.sk_undo.specs.Sorted.{is_match, is_match_or, rank}
 
 module _ {T : Type 0} (t : T → Bool) where
   all_partitioned : (xs : List T) → all_pass t xs ≡ true → is_partitioned t xs ≡ true
@@ -44,3 +47,13 @@ module _ {T : Type 0} (t : T → Bool) where
   pub position_right : (xs : List T) (x : T) (ys : List T) → length xs ≤ position_or_len t xs → position_or_len t (xs ++ x ∷ ys) ≡ length xs + position_or_len t (x ∷ ys)
   position_right [] x ys h = grind (arith, h)
   position_right (y ∷ xs) x ys h = grind (arith, h, position_right xs x ys)
+
+-- whether the first item that isn't before what is looked for matches it
+module _ {T : Type 0} (order : T → Ordering) where
+  pub match_left : (last : Bool) (xs : List T) (x : T) (ys : List T) → is_le (order x) ≡ true → is_match_or order last (slice_get (xs ++ x ∷ ys) (rank order (xs ++ x ∷ ys))) ≡ is_match_or order (is_eq (order x)) (slice_get xs (rank order xs))
+  match_left last [] x ys h = grind (arith, h)
+  match_left last (y ∷ xs) x ys h = grind (arith, h, match_left last xs x ys)
+
+  pub match_right : (last : Bool) (xs : List T) (x : T) (ys : List T) → is_le (order x) ≡ false → is_partitioned (λ y. is_le (order y)) (xs ++ x ∷ ys) ≡ true → is_match_or order last (slice_get (xs ++ x ∷ ys) (rank order (xs ++ x ∷ ys))) ≡ is_match_or order last (slice_get ys (rank order ys))
+  match_right last [] x ys h r = grind (arith, h)
+  match_right last (y ∷ xs) x ys h r = grind (arith, h, r, match_right last xs x ys, all_here (λ z. is_le (order z)) xs x ys)

@@ -8,7 +8,7 @@ use Rattle.std.specs.declared.cmp.Ordering.{Ordering}
 use Rattle.sk_undo.specs.Entries.{entries_in, keys_in}
 use Rattle.sk_undo.specs.Moves.{moved, put_down}
 use Rattle.sk_undo.specs.Partitioned.{all_pass, is_partitioned}
-use Rattle.sk_undo.specs.Sorted.{IsQuery, is_match, is_ordered, rank}
+use Rattle.sk_undo.specs.Sorted.{IsQuery, is_found, is_match, is_ordered, rank}
 use Rattle.sk_undo.proofs.Sorted.{lt_rest}
 
 module _ {K V : Type 0} (t : K → Bool) where
@@ -25,6 +25,14 @@ module _ {K V : Type 0} (t : K → Bool) where
   partitioned_keys (x ∷ xs) = grind (arith, all_keys xs, partitioned_keys xs)
 
 module _ {K V : Type 0} (order : K → Ordering) where
+  match_keys : (xs : List (V × K)) (at : ℕ) → is_match (λ e. order e.1) (slice_get xs at) ≡ is_match order (slice_get (keys_in xs) at)
+  match_keys [] at = refl
+  match_keys (x ∷ xs) zero = refl
+  match_keys (x ∷ xs) (suc at) = match_keys xs at
+
+  pub found_keys : (xs : List (V × K)) → is_found (λ e. order e.1) xs ≡ is_found order (keys_in xs)
+  found_keys xs = match_keys xs (rank (λ e. order e.1) xs) ∙ ap (λ at. is_match order (slice_get (keys_in xs) at)) (position_keys (λ key. is_le (order key)) xs)
+
   rank_first : (x : V × K) (xs : List (V × K)) → is_le (order x.1) ≡ true → rank order (keys_in (x ∷ xs)) ≡ 0
   rank_first x xs h = grind (arith, h)
 

@@ -9,3 +9,4 @@ pub mod Ranges
 pub mod Searches
 pub mod Sides
 pub mod Sorted
+pub mod Tags

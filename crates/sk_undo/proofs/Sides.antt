@@ -48,3 +48,10 @@ module _ {X : Type 0} where
 
   pub remove_past : (xs : List X) (x : X) (ys : List X) (i : ℕ) → length xs < i → remove (xs ++ x ∷ ys) i ≡ xs ++ x ∷ remove ys (i - length xs - 1)
   remove_past xs x ys i h = remove_right xs x ys i (i - length xs - 1) (omega (arith, h))
+
+  -- a list of one item
+  pub alone : (xs : List X) (x : X) (ys : List X) → length (xs ++ x ∷ ys) ≡ 1 → xs ++ x ∷ ys ≡ x ∷ []
+  alone [] x [] h = refl
+  alone [] x (y ∷ ys) h = absurd (omega (arith, h))
+  alone (z ∷ []) x ys h = absurd (omega (arith, h))
+  alone (z ∷ z' ∷ xs) x ys h = absurd (omega (arith, h))

@@ -1,5 +1,5 @@
 -- What a node of the tree is seen as, and what holds of it.
-use Rattle.std.specs.Prelude.{◌≡◌, ◌+◌, ◌≤◌, List, [], ◌∷◌, ◌++◌, length}
+use Rattle.std.specs.Prelude.{◌≡◌, ◌+◌, ◌<◌, ◌≤◌, List, [], ◌∷◌, ◌++◌, length}
 use Rattle.sk_undo.specs.Balance.{DifferBy, most}
 use Rattle.sk_undo.specs.declared.sequence.Node.{Node}
 use Rattle.sk_undo.specs.declared.sequence.Node.TheVariants.{Empty, Fork}
@@ -14,3 +14,8 @@ module _ {T : Type 0} where
   abbrev pub IsCounted : Node T → Type 0
   IsCounted Empty = Unit {0}
   IsCounted (Fork l x n r) = (n ≡ length l + length r + 1) × (n ≤ most) × DifferBy 0 (length l) (length r)
+
+  -- the same after an edit of one item in a side, before the node is balanced again and its number set
+  abbrev pub IsNear : Node T → Type 0
+  IsNear Empty = Unit {0}
+  IsNear (Fork l x n r) = (length l + length r < most) × DifferBy 3 (length l) (length r)

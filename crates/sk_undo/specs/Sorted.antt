@@ -35,6 +35,11 @@ module _ {K : Type 0} (order : K → Ordering) where
   is_match None = false
   is_match (Some key) = is_eq (order key)
 
+  -- the same, where the answer is given for a key that isn't there
+  abbrev pub is_match_or : Bool → Option K → Bool
+  is_match_or last None = last
+  is_match_or last (Some key) = is_eq (order key)
+
   -- A key matches. The first that does stands at the rank.
   abbrev pub is_found : List K → Bool
   is_found keys = is_match (slice_get keys (rank keys))

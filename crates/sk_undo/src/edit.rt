@@ -17,6 +17,7 @@ pub enum Edit<K, T> {
 }
 
 /// Moves an entry to another place, with another tag, and answers the tag that it had. Takes no memory.
+#[tactic(auto, using(crate::proofs::Tags::moved_there))]
 pub fn shift<K: Drop, T: Drop>(entries: &mut Sequence<(K, T)>, from: usize, to: usize, tag: K) -> K
     requires from { from < length entries.old }
     requires to { to < length entries.old }
@@ -24,6 +25,9 @@ pub fn shift<K: Drop, T: Drop>(entries: &mut Sequence<(K, T)>, from: usize, to: 
     ensures tag { option_map (λ e. e.0) (slice_get entries.old from) ≡ Some result }
     ensures len { length entries.new ≡ length entries.old }
 {
+    if from == to {
+        return entries.retag(from, tag);
+    }
     let (entry, spare) = entries.remove(from);
     let (old, item) = entry;
     entries.insert(to, (tag, item), spare);

@@ -11,7 +11,7 @@ mod undo_map;
 mod undo_multiset;
 mod undo_set;
 
-pub use predicate::{Predicate, Visit};
+pub use predicate::{Predicate, Probe, Visit};
 pub use query::Query;
 pub use std::alloc::AllocError as Memory;
 pub use undo_list::UndoList;

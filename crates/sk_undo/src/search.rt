@@ -1,11 +1,12 @@
 // Where what is looked for stands among tagged keys in order, found in logarithmic time.
-ghost use Rattle.std.specs.Prelude.{◌≡◌, ◌<◌, ◌≤◌, true, IfSome, length, slice_get};
+ghost use Rattle.std.specs.Prelude.{◌≡◌, ◌<◌, ◌≤◌, true, IfSome, length};
 ghost use Rattle.std.specs.Option.{is_some};
 ghost use Rattle.std.specs.Ordering.{is_le, is_lt};
 ghost use Rattle.sk_undo.specs.Entries.{keys_in};
-ghost use Rattle.sk_undo.specs.Sorted.{is_found, is_match, is_ordered, rank, rank_past};
+ghost use Rattle.sk_undo.specs.Sorted.{is_found, is_ordered, rank, rank_past};
 
-use crate::{Predicate, Query, UndoList};
+use crate::{Predicate, Probe, Query, UndoList};
+use std::cmp::Ordering;
 
 // Passes the keys that match, and those behind them.
 #[derive(Drop)]
@@ -35,6 +36,20 @@ impl<'a, K: Ord, V, Q: Query<K>> Predicate<(V, K)> for Past<'a, Q> {
     }
 }
 
+// How what is looked for compares with a key.
+#[derive(Drop)]
+struct Sought<'a, Q> {
+    query: &'a Q,
+}
+
+impl<'a, K: Ord, V, Q: Query<K>> Probe<(V, K)> for Sought<'a, Q> {
+    ghost order = { λ t e. Q.order t.query.now e.1 };
+
+    fn probe(&self, entry: &(V, K)) -> Ordering {
+        self.query.cmp_key(&entry.1)
+    }
+}
+
 /// How many keys stand before those that match.
 pub fn rank<K: Ord + Drop, V: Drop, Q: Query<K>>(entries: &UndoList<V, K>, query: &Q) -> usize
     requires { is_ordered K.cmp (keys_in entries.now.list.current) ≡ true }
@@ -53,20 +68,18 @@ pub fn rank_past<K: Ord + Drop, V: Drop, Q: Query<K>>(entries: &UndoList<V, K>, 
     entries.partition_point(&Past { query })
 }
 
-// Whether a key stands at an index and matches.
-fn is_match_at<K: Ord + Drop, V: Drop, Q: Query<K>>(
+/// How many keys stand before those that match, and whether one does.
+pub fn seek<K: Ord + Drop, V: Drop, Q: Query<K>>(
     entries: &UndoList<V, K>,
-    at: usize,
     query: &Q,
-) -> bool
-    ensures is { result ≡ is_match (Q.order query.now) (slice_get (keys_in entries.now.list.current) at) }
-    ensures within { result ≡ true → at < length entries.now.list.current }
+) -> (usize, bool)
+    requires { is_ordered K.cmp (keys_in entries.now.list.current) ≡ true }
+    ensures place { result.0 ≡ rank (Q.order query.now) (keys_in entries.now.list.current) }
+    ensures there { result.1 ≡ is_found (Q.order query.now) (keys_in entries.now.list.current) }
+    ensures within { result.0 ≤ length entries.now.list.current }
+    ensures inside { result.1 ≡ true → result.0 < length entries.now.list.current }
 {
-    if at < entries.len() {
-        query.cmp_key(&entries.get(at).1).is_eq()
-    } else {
-        false
-    }
+    entries.seek(&Sought { query })
 }
 
 /// The index of the first key that matches.
@@ -79,10 +92,8 @@ pub fn find<K: Ord + Drop, V: Drop, Q: Query<K>>(
     ensures place { IfSome result (λ at. at ≡ rank (Q.order query.now) (keys_in entries.now.list.current)) }
     ensures within { IfSome result (λ at. at < length entries.now.list.current) }
 {
-    let at = rank(entries, query);
-    if is_match_at(entries, at, query) {
-        Some(at)
-    } else {
-        None
+    match seek(entries, query) {
+        (at, true) => Some(at),
+        (_, false) => None,
     }
 }

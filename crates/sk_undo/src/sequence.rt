@@ -1,11 +1,15 @@
 // A list as a weight-balanced tree: each node keeps the number of its items, so that an item is found, put in and taken out by its place in
 // logarithmic time. The memory of an item can be made before it is put in, and comes back with it when it is taken out.
-ghost use Rattle.std.specs.Prelude.{◌≡◌, ◌+◌, ◌*◌, ◌^◌, ◌<◌, ◌≤◌, [], ◌∷◌, ◌++◌, true, length, slice_index_or, MatchOption, IfSome, OnOk, drop, map, take};
+ghost use Rattle.std.specs.Prelude.{◌≡◌, ◌+◌, ◌*◌, ◌^◌, ◌<◌, ◌≤◌, ◌∷◌, ◌++◌, true, length, slice_get, slice_index_or, MatchOption, IfSome, OnOk, drop, map, take, option_map, unwrap_or, [], ◌↔◌, IsTrue};
 ghost use Rattle.std.specs.List.{insert, position_or_len, remove};
 ghost use Rattle.sk_undo.specs.Balance.{DifferBy, most};
+ghost use Rattle.std.specs.Ordering.{is_le};
 ghost use Rattle.sk_undo.specs.Partitioned.{is_partitioned};
+ghost use Rattle.sk_undo.specs.Sorted.{is_found, is_match_or, rank};
+ghost use Rattle.sk_undo.specs.Moves.{with_tag};
+ghost use Rattle.sk_undo.specs.Node.{IsNear, items_in};
 
-use crate::{Memory, Predicate, Visit};
+use crate::{Memory, Predicate, Probe, Visit};
 use std::alloc::Global;
 use std::marker::Model;
 use std::mem;
@@ -77,6 +81,7 @@ impl<T: Drop> Sequence<T> {
         Sequence { root: None }
     }
 
+    #[inline(always)]
     pub fn len(&self) -> usize
         ensures is { result ≡ length self.now }
         ensures small { result ≤ most }
@@ -91,6 +96,7 @@ impl<T: Drop> Sequence<T> {
     }
 
     // The sides of the root and its item.
+    #[inline(always)]
     fn sides(&self) -> Option<(&Sequence<T>, &T, &Sequence<T>)>
         ensures is { MatchOption result (self.now ≡ []) (λ p. self.now ≡ p.0.now ++ p.1.now ∷ p.2.now) }
         ensures small { length self.now ≤ most }
@@ -124,19 +130,64 @@ impl<T: Drop> Sequence<T> {
     }
 
     /// The place of the first item that passes, where all behind it pass too; the length where none does. Logarithmic.
-    #[tactic(auto, using(crate::proofs::Descents::first_left, crate::proofs::Descents::first_right, crate::proofs::Descents::partitioned_left, crate::proofs::Descents::partitioned_right))]
     pub fn partition_point<F: Predicate<T>>(&self, test: &F) -> usize
         requires { is_partitioned (F.passes test.now) self.now ≡ true }
         ensures is { result ≡ position_or_len (F.passes test.now) self.now }
         ensures within { result ≤ length self.now }
     {
+        let _len = self.len(); // its contract bounds the sums
+        self.point_behind(test, 0)
+    }
+
+    // The same behind so many items.
+    #[tactic(auto, using(crate::proofs::Descents::first_left, crate::proofs::Descents::first_right, crate::proofs::Descents::partitioned_left, crate::proofs::Descents::partitioned_right))]
+    fn point_behind<F: Predicate<T>>(&self, test: &F, before: usize) -> usize
+        requires is_partitioned { is_partitioned (F.passes test.now) self.now ≡ true }
+        requires small { before + length self.now ≤ most }
+        ensures is { result ≡ before + position_or_len (F.passes test.now) self.now }
+        ensures within { result ≤ before + length self.now }
+    {
         match self.sides() {
-            None => 0,
+            None => before,
             Some((l, x, r)) => {
                 if test.test(x) {
-                    l.partition_point(test)
+                    l.point_behind(test, before)
                 } else {
-                    l.len() + 1 + r.partition_point(test)
+                    r.point_behind(test, before + l.len() + 1)
+                }
+            }
+        }
+    }
+
+    /// How many items stand before those that match what is looked for and those behind them, and whether the first of these matches. Logarithmic.
+    pub fn seek<P: Probe<T>>(&self, probe: &P) -> (usize, bool)
+        requires { is_partitioned (λ x. is_le (P.order probe.now x)) self.now ≡ true }
+        ensures place { result.0 ≡ rank (P.order probe.now) self.now }
+        ensures there { result.1 ≡ is_found (P.order probe.now) self.now }
+        ensures within { result.0 ≤ length self.now }
+        ensures inside { result.1 ≡ true → result.0 < length self.now }
+    {
+        let _len = self.len(); // its contract bounds the places
+        self.seek_behind(probe, 0, false)
+    }
+
+    // The same behind so many items. `last` is the answer where all items stand before it.
+    #[tactic(auto, using(crate::proofs::Descents::first_left, crate::proofs::Descents::first_right, crate::proofs::Descents::partitioned_left, crate::proofs::Descents::partitioned_right, crate::proofs::Descents::match_left, crate::proofs::Descents::match_right))]
+    fn seek_behind<P: Probe<T>>(&self, probe: &P, before: usize, last: bool) -> (usize, bool)
+        requires rises { is_partitioned (λ x. is_le (P.order probe.now x)) self.now ≡ true }
+        requires small { before + length self.now ≤ most }
+        ensures place { result.0 ≡ before + rank (P.order probe.now) self.now }
+        ensures there { result.1 ≡ is_match_or (P.order probe.now) last (slice_get self.now (rank (P.order probe.now) self.now)) }
+        ensures within { result.0 ≤ before + length self.now }
+    {
+        match self.sides() {
+            None => (before, last),
+            Some((l, x, r)) => {
+                let order = probe.probe(x);
+                if order.is_le() {
+                    l.seek_behind(probe, before, order.is_eq())
+                } else {
+                    r.seek_behind(probe, before + l.len() + 1, last)
                 }
             }
         }
@@ -242,17 +293,37 @@ impl<T: Drop> Sequence<T> {
     }
 
     /// Puts an item in at a place. Takes no memory.
+    #[tactic(auto, using(crate::proofs::Sides::insert_left, crate::proofs::Sides::insert_past))]
     pub fn insert(&mut self, at: usize, item: T, spare: Spare<T>)
         requires within { at ≤ length self.old }
         requires small { length self.old < most }
         ensures is { self.new ≡ insert self.old at item }
         ensures len { length self.new ≡ length self.old + 1 }
     {
-        let whole = mem::replace(self, Sequence::new());
-        *self = whole.put(at, item, spare);
+        match &mut self.root {
+            None => *self = fork(Sequence::new(), item, Sequence::new(), spare),
+            Some(node) => match &mut **node {
+                Node::Empty => *self = fork(Sequence::new(), item, Sequence::new(), spare),
+                Node::Fork(left, _, n, right) => {
+                    let here = left.len();
+                    if at <= here {
+                        left.insert(at, item, spare);
+                    } else {
+                        right.insert(at - here - 1, item, spare);
+                    }
+                    if are_level(left, right) {
+                        *n += 1;
+                    } else {
+                        let root = mem::replace(&mut self.root, None);
+                        *self = turned(root);
+                    }
+                }
+            },
+        }
     }
 
     /// Takes out the item at a place, with the memory that it was kept in. Takes no memory.
+    #[tactic(auto, using(crate::proofs::Sides::remove_left, crate::proofs::Sides::remove_past, crate::proofs::Sides::remove_here, crate::proofs::Sides::remove_by_last))]
     pub fn remove(&mut self, at: usize) -> (T, Spare<T>)
         requires { at < length self.old }
         ensures item { result.0 ≡ slice_index_or self.old at result.0 }
@@ -260,12 +331,38 @@ impl<T: Drop> Sequence<T> {
         ensures len { length self.new + 1 ≡ length self.old }
         ensures small { length self.old ≤ most }
     {
-        let whole = mem::replace(self, Sequence::new());
-        let (rest, item, spare) = whole.cut(at);
-        *self = rest;
-        (item, spare)
+        match &mut self.root {
+            None => unreachable!(),
+            Some(node) => match &mut **node {
+                Node::Empty => unreachable!(),
+                Node::Fork(left, own, n, right) => {
+                    let here = left.len();
+                    let out = if at < here {
+                        left.remove(at)
+                    } else if here < at {
+                        right.remove(at - here - 1)
+                    } else if here == 0 {
+                        let rest = mem::replace(right, Sequence::new());
+                        let root = mem::replace(&mut self.root, None);
+                        *self = rest;
+                        return alone(root);
+                    } else {
+                        let (last, free) = left.remove(here - 1);
+                        (mem::replace(own, last), free)
+                    };
+                    if are_level(left, right) {
+                        *n -= 1;
+                    } else {
+                        let root = mem::replace(&mut self.root, None);
+                        *self = turned(root);
+                    }
+                    out
+                }
+            },
+        }
     }
 
+    #[inline(always)]
     fn open(self) -> Option<Parts<T>>
         ensures is { MatchOption result (self ≡ []) (λ p. self ≡ p.left ++ p.item ∷ p.right) }
         ensures balanced { IfSome result (λ p. DifferBy 0 (length p.left) (length p.right)) }
@@ -282,71 +379,38 @@ impl<T: Drop> Sequence<T> {
             }),
         }
     }
+}
 
-    // Puts an item in at a place.
-    #[tactic(auto, using(crate::proofs::Sides::insert_left, crate::proofs::Sides::insert_past))]
-    fn put(self, at: usize, item: T, spare: Spare<T>) -> Sequence<T>
-        requires within { at ≤ length self }
-        requires small { length self < most }
-        ensures { result ≡ insert self at item }
+impl<K: Drop, T: Drop> Sequence<(K, T)> {
+    /// Gives the entry at a place another tag, and answers the one that it had. Takes no memory.
+    #[tactic(auto, using(crate::proofs::Tags::tag_left, crate::proofs::Tags::tag_here, crate::proofs::Tags::tag_right, crate::proofs::Tags::get_left, crate::proofs::Tags::get_here, crate::proofs::Tags::get_right))]
+    pub fn retag(&mut self, at: usize, tag: K) -> K
+        requires { at < length self.old }
+        ensures is { self.new ≡ with_tag at tag self.old }
+        ensures tag { option_map (λ e. e.0) (slice_get self.old at) ≡ Some result }
+        ensures len { length self.new ≡ length self.old }
     {
-        match self.open() {
-            None => fork(Sequence::new(), item, Sequence::new(), spare),
-            Some(
-                Parts {
-                    left,
-                    item: own,
-                    right,
-                    spare: kept,
-                },
-            ) => {
-                let here = left.len();
-                if at <= here {
-                    join(left.put(at, item, spare), own, right, kept)
-                } else {
-                    join(left, own, right.put(at - here - 1, item, spare), kept)
-                }
-            }
-        }
-    }
-
-    // Takes out the item at a place; the rest is the left side of the answer.
-    #[tactic(auto, using(crate::proofs::Sides::remove_left, crate::proofs::Sides::remove_past, crate::proofs::Sides::remove_here, crate::proofs::Sides::remove_by_last))]
-    fn cut(self, at: usize) -> (Sequence<T>, T, Spare<T>)
-        requires { at < length self }
-        ensures item { result.1 ≡ slice_index_or self at result.1 }
-        ensures rest { result.0 ≡ remove self at }
-        ensures small { length self ≤ most }
-    {
-        match self.open() {
+        match &mut self.root {
             None => unreachable!(),
-            Some(
-                Parts {
-                    left,
-                    item,
-                    right,
-                    spare,
-                },
-            ) => {
-                let here = left.len();
-                if at < here {
-                    let (rest, out, free) = left.cut(at);
-                    (join(rest, item, right, spare), out, free)
-                } else if here < at {
-                    let (rest, out, free) = right.cut(at - here - 1);
-                    (join(left, item, rest, spare), out, free)
-                } else if here == 0 {
-                    (right, item, spare)
-                } else {
-                    let (rest, last, free) = left.cut(here - 1);
-                    (join(rest, last, right, spare), item, free)
+            Some(node) => match &mut **node {
+                Node::Empty => unreachable!(),
+                Node::Fork(left, entry, _, right) => {
+                    let here = left.len();
+                    if at < here {
+                        left.retag(at, tag)
+                    } else if here < at {
+                        right.retag(at - here - 1, tag)
+                    } else {
+                        mem::replace(&mut entry.0, tag)
+                    }
                 }
-            }
+            },
         }
     }
 }
 
 // A node over two balanced sides.
+#[inline(always)]
 fn fork<T: Drop>(left: Sequence<T>, item: T, right: Sequence<T>, spare: Spare<T>) -> Sequence<T>
     requires small { length left + length right < most }
     requires balanced { DifferBy 0 (length left) (length right) }
@@ -358,7 +422,46 @@ fn fork<T: Drop>(left: Sequence<T>, item: T, right: Sequence<T>, spare: Spare<T>
     Sequence { root: Some(node) }
 }
 
+// Whether neither side is too long.
+#[inline(always)]
+fn are_level<T: Drop>(left: &Sequence<T>, right: &Sequence<T>) -> bool
+    ensures { IsTrue result ↔ DifferBy 0 (length left.now) (length right.now) }
+{
+    left.len() + 1 <= 3 * (right.len() + 1) && right.len() + 1 <= 3 * (left.len() + 1)
+}
+
+// The node at a root after an edit of one item, balanced again.
+#[inline(never)]
+fn turned<T: Drop>(root: Option<Box<Node<T>>>) -> Sequence<T>
+    requires { IfSome root (λ node. IsNear node.value) }
+    ensures { result ≡ unwrap_or (option_map (λ node. items_in node.value) root) [] }
+{
+    match root {
+        None => Sequence::new(),
+        Some(mut node) => match mem::replace(&mut *node, Node::Empty) {
+            Node::Empty => Sequence::new(),
+            Node::Fork(left, item, _, right) => join(left, item, right, Spare { node }),
+        },
+    }
+}
+
+// The item of a root that has no other one, and the memory that it is kept in.
+#[tactic(auto, using(crate::proofs::Sides::alone))]
+fn alone<T: Drop>(root: Option<Box<Node<T>>>) -> (T, Spare<T>)
+    requires { length (unwrap_or (option_map (λ node. items_in node.value) root) []) ≡ 1 }
+    ensures { unwrap_or (option_map (λ node. items_in node.value) root) [] ≡ result.0 ∷ [] }
+{
+    match root {
+        None => unreachable!(),
+        Some(mut node) => match mem::replace(&mut *node, Node::Empty) {
+            Node::Empty => unreachable!(),
+            Node::Fork(_, item, _, _) => (item, Spare { node }),
+        },
+    }
+}
+
 // A node over two sides after an edit of one item, balanced again where one side is too long.
+#[inline(always)]
 fn join<T: Drop>(left: Sequence<T>, item: T, right: Sequence<T>, spare: Spare<T>) -> Sequence<T>
     requires small { length left + length right < most }
     requires nearly { DifferBy 3 (length left) (length right) }
@@ -374,6 +477,7 @@ fn join<T: Drop>(left: Sequence<T>, item: T, right: Sequence<T>, spare: Spare<T>
 }
 
 // The left side is too long: its item comes to the root, or that of its own right side where that is too long in turn.
+#[inline(never)]
 fn rotate_right<T: Drop>(
     left: Sequence<T>,
     item: T,
@@ -411,6 +515,7 @@ fn rotate_right<T: Drop>(
 }
 
 // The right side is too long.
+#[inline(never)]
 fn rotate_left<T: Drop>(
     left: Sequence<T>,
     item: T,

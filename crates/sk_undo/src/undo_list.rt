@@ -5,12 +5,14 @@ ghost use Rattle.std.specs.List.{insert, position_or_len, remove};
 ghost use Rattle.std.specs.Option.{is_some};
 ghost use Rattle.sk_undo.specs.Balance.{most};
 ghost use Rattle.sk_undo.specs.Moves.{moved};
+ghost use Rattle.std.specs.Ordering.{is_le};
 ghost use Rattle.sk_undo.specs.Partitioned.{is_partitioned};
+ghost use Rattle.sk_undo.specs.Sorted.{is_found, rank};
 ghost use Rattle.sk_undo.specs.Versions.{begun, closed, committed, edited, undone};
 
 use crate::edit::{Edit, shift, take_all_back};
 use crate::sequence::{Sequence, Spare};
-use crate::{Memory, Predicate, Visit};
+use crate::{Memory, Predicate, Probe, Visit};
 use std::alloc::Global;
 use std::marker::Model;
 
@@ -114,6 +116,17 @@ impl<K: Drop, T: Drop> UndoList<K, T> {
         ensures within { result ≤ length self.now.list.current }
     {
         self.entries.partition_point(test)
+    }
+
+    /// How many entries stand before those that match what is looked for and those behind them, and whether the first of these matches. Logarithmic.
+    pub fn seek<P: Probe<(K, T)>>(&self, probe: &P) -> (usize, bool)
+        requires { is_partitioned (λ entry. is_le (P.order probe.now entry)) self.now.list.current ≡ true }
+        ensures place { result.0 ≡ rank (P.order probe.now) self.now.list.current }
+        ensures there { result.1 ≡ is_found (P.order probe.now) self.now.list.current }
+        ensures within { result.0 ≤ length self.now.list.current }
+        ensures inside { result.1 ≡ true → result.0 < length self.now.list.current }
+    {
+        self.entries.seek(probe)
     }
 
     /// The place of the first entry that passes, of those from the place `first` to the one before `end`, where all behind it up to `end` pass too;

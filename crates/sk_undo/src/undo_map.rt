@@ -8,7 +8,7 @@ ghost use Rattle.sk_undo.specs.Entries.{keys_in, with_entry, with_new};
 ghost use Rattle.sk_undo.specs.Sorted.{is_ordered, is_sorted, rank, rank_past};
 ghost use Rattle.sk_undo.specs.Versions.{begun, closed, committed, edited, undone};
 
-use crate::search::{find, rank, rank_past};
+use crate::search::{find, rank, rank_past, seek};
 use crate::{Memory, Query, UndoList};
 use std::alloc::Global;
 use std::marker::Model;
@@ -38,13 +38,13 @@ impl<K: Ord, V> Model for UndoMap<K, V> {
 }
 
 // Puts an entry in at its place, where its key has none.
-fn put_new<K: Ord + Drop, V: Drop>(entries: &mut UndoList<V, K>, key: K, value: V)
+fn put_new<K: Ord + Drop, V: Drop>(entries: &mut UndoList<V, K>, at: usize, key: K, value: V)
     requires room { 0 < entries.old.room }
-    requires ordered { is_ordered K.cmp (keys_in entries.old.list.current) ≡ true }
+    requires place { at ≡ rank (K.cmp key) (keys_in entries.old.list.current) }
+    requires within { at ≤ length entries.old.list.current }
     ensures list { entries.new.list ≡ edited (with_new K.cmp entries.old.list.current key value) entries.old.list }
     ensures room { entries.old.room ≤ entries.new.room + 1 }
 {
-    let at = rank(entries, &key);
     entries.insert(at, (value, key));
 }
 
@@ -132,9 +132,11 @@ impl<K: Ord + Drop, V: Drop> UndoMap<K, V> {
         ensures list { self.new.list ≡ edited (insert_entry K.cmp self.old.list.current key value) self.old.list }
         ensures room { self.old.room ≤ self.new.room + 1 }
     {
-        match find(&self.entries, &key) {
-            Some(at) => self.entries.shift(at, at, value),
-            None => put_new(&mut self.entries, key, value),
+        let (at, is_there) = seek(&self.entries, &key);
+        if is_there {
+            self.entries.shift(at, at, value);
+        } else {
+            put_new(&mut self.entries, at, key, value);
         }
     }
 
@@ -145,10 +147,11 @@ impl<K: Ord + Drop, V: Drop> UndoMap<K, V> {
         ensures list { self.new.list ≡ edited (with_entry K.cmp self.old.list.current key value) self.old.list }
         ensures room { self.old.room ≤ self.new.room + 1 }
     {
-        if find(&self.entries, &key).is_some() {
+        let (at, is_there) = seek(&self.entries, &key);
+        if is_there {
             return false;
         }
-        put_new(&mut self.entries, key, value);
+        put_new(&mut self.entries, at, key, value);
         true
     }
 

@@ -8,7 +8,7 @@ ghost use Rattle.sk_undo.specs.Balance.{most};
 ghost use Rattle.sk_undo.specs.Sorted.{is_ordered, rank, rank_past};
 ghost use Rattle.sk_undo.specs.Versions.{begun, closed, committed, edited, undone};
 
-use crate::search::{find, rank, rank_past};
+use crate::search::{find, rank, rank_past, seek};
 use crate::{Memory, Query, UndoList};
 use std::alloc::Global;
 use std::marker::Model;
@@ -93,7 +93,10 @@ impl<K: Ord + Drop> UndoMultiset<K> {
         ensures small { result ≤ most }
     {
         let _len = self.keys.len(); // its contract bounds the number
-        let first = rank(&self.keys, query);
+        let (first, is_there) = seek(&self.keys, query);
+        if !is_there {
+            return 0;
+        }
         let end = rank_past(&self.keys, query);
         end.saturating_sub(first)
     }

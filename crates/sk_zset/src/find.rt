@@ -7,8 +7,9 @@ ghost use Rattle.sk_zset.specs.Pairs.{has, score_of};
 
 use crate::bounds::compare;
 use sk_base::Score;
-use sk_resp::Word;
+use sk_resp::{Word, compare_bytes};
 use sk_undo::{Predicate, UndoList};
+use std::cmp::Ordering;
 
 // Passes the pair of a score and a member, and those that stand behind it.
 #[derive(Drop)]
@@ -21,9 +22,11 @@ impl<'a> Predicate<(Score, Word)> for From<'a> {
     ghost passes = { λ t p. not (precedes p (t.score, t.member.now)) };
 
     fn test(&self, pair: &(Score, Word)) -> bool {
-        compare(pair.0, self.score)
-            .then(pair.1.bytes().cmp(self.member))
-            .is_ge()
+        let scores = compare(pair.0, self.score);
+        match scores {
+            Ordering::Equal => compare_bytes(pair.1.bytes(), self.member).is_ge(),
+            _ => scores.is_ge(),
+        }
     }
 }
 

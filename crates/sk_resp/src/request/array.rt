@@ -13,6 +13,19 @@ use sk_base::limits::{LONGEST_COMMAND, LONGEST_LENGTH_LINE, LONGEST_WORD, MOST_W
 use std::alloc::Global;
 use std::mem;
 
+// Room is made at once for so many words of a command.
+const USUAL_WORDS: usize = 8;
+
+// Makes room at the first of so many words.
+fn make_room(words: &mut Vec<Word>, count: usize) -> Result<(), Memory>
+    ensures { words.new.items ≡ words.old.items }
+{
+    if words.is_empty() {
+        words.reserve(count.min(USUAL_WORDS))?;
+    }
+    Ok(())
+}
+
 impl State {
     // Begins an array of that many words.
     fn open_array(&mut self, alloc: Global, count: usize)
@@ -137,6 +150,7 @@ impl State {
         ensures fault { IfErr result (λ e. e ≡ WireFault.Memory) }
     {
         let len = word.bytes().len();
+        make_room(&mut self.words, self.count)?;
         self.words.push(word)?;
         self.total += len;
         if self.words.len() < self.count {

@@ -11,9 +11,9 @@ use std::alloc::Global;
 pub fn write_request(alloc: Global, words: &Words, out: &mut Vec<u8>) -> Result<(), Memory>
     ensures { OnOk result (out.new.items ≡ out.old.items ++ array words.now) }
 {
-    write_header(alloc, words.list().len(), out)?;
+    write_header(words.list().len(), out)?;
     for word in words.list() {
-        write_bulk(alloc, word.bytes(), out)?;
+        write_bulk(word.bytes(), out)?;
     }
     Ok(())
 }

@@ -9,7 +9,7 @@ use Rattle.sk_resp.proofs.request.state.State.add_word.Goals as goal
 pub returns-then-len-self-clause-ok : goal.returns-then-len-self-clause-ok
 returns-then-len-self-clause-ok c =
     let s = c.args.self.now in
-    let more = c.in_ok-push.ensures.items in
+    let more = c.in_ok-push.ensures.items ∙ ap (λ words. words ++ c.args.word ∷ []) c.make_room.ensures in
     let size : length c.args.word ≡ length c.bytes-len.result.now = ap length (sym c.bytes-len.ensures) in
     goes
     (wanting_more s.count s.total (length c.bytes-len.result.now) s.words.items c.push.new.self.items c.args.word c.requires.wanting
@@ -20,7 +20,7 @@ returns-then-len-self-clause-ok c =
 pub returns-clause-ok : goal.returns-clause-ok
 returns-clause-ok c =
     let s = c.args.self.now in
-    let more = c.in_ok-push.ensures.items in
+    let more = c.in_ok-push.ensures.items ∙ ap (λ words. words ++ c.args.word ∷ []) c.make_room.ensures in
     let size : length c.args.word ≡ length c.bytes-len.result.now = ap length (sym c.bytes-len.ensures) in
     let result : c.new-2.result ≡ c.push.new.self.items = c.new-2.ensures ∙ ap (λ v. v.items) c.replace.ensures.value in
     let is_command = command_whole s.count s.total (length c.bytes-len.result.now) s.words.items c.push.new.self.items c.args.word c.requires.wanting
