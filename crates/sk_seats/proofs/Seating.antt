@@ -20,18 +20,18 @@ use Rattle.sk_seats.specs.Order.{InOrder}
 use Rattle.sk_seats.specs.Works.{staged}
 
 -- all stand behind the seat
-abbrev AreBehind : ℕ → Phases → Type 0
+abbrev pub AreBehind : ℕ → Phases → Type 0
 AreBehind seat phases = AllByRecursion (λ other. nat_cmp seat other ≡ Less) (keys_of phases)
 
 none_goes : (seat : ℕ) (phases : Phases) → AreBehind seat phases → filter (λ p. not (is_at (nat_cmp seat) p.0)) phases ≡ phases
 none_goes seat [] behind = refl
 none_goes seat (p ∷ phases) behind = grind (arith, behind, none_goes seat phases)
 
-none_found : (seat : ℕ) (phases : Phases) → AreBehind seat phases → lookup (is_at (nat_cmp seat)) phases ≡ None
+pub none_found : (seat : ℕ) (phases : Phases) → AreBehind seat phases → lookup (is_at (nat_cmp seat)) phases ≡ None
 none_found seat [] behind = refl
 none_found seat (p ∷ phases) behind = grind (arith, behind, none_found seat phases)
 
-further : (seat other : ℕ) (phases : Phases) → nat_cmp seat other ≡ Less → AreBehind other phases → AreBehind seat phases
+pub further : (seat other : ℕ) (phases : Phases) → nat_cmp seat other ≡ Less → AreBehind other phases → AreBehind seat phases
 further seat other [] before behind = tt
 further seat other (p ∷ phases) before behind = (grind (arith, behind, before), further seat other phases before behind.1)
 

@@ -1,4 +1,5 @@
 pub mod Held
+pub mod JobFilter
 pub mod Order
 pub mod Seats
 pub mod Phases

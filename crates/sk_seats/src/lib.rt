@@ -1,6 +1,7 @@
 //! What the seats are doing, and the jobs in a worker's hands.
 #![tactic(auto)]
 
+mod job_filter;
 mod phase;
 mod seats;
 mod work;

@@ -1,8 +1,11 @@
 // What a seat is doing, and what becomes of the jobs in its hands.
-ghost use Rattle.std.specs.Prelude.{◌≡◌, ◌<◌, length};
+ghost use Rattle.std.specs.Prelude.{◌≡◌, ◌<◌, Some, length, slice_get};
+ghost use Rattle.sk_seats.specs.JobFilter.{with_jobs, without_job, without_jobs};
 ghost use Rattle.sk_seats.specs.Phases.{holding, releasing_at, staging_at, works_of};
 ghost use Rattle.sk_seats.specs.Works.{most_works};
+ghost use Rattle.sk_seats.specs.declared.work.Work.{Work};
 
+use crate::job_filter::JobFilter;
 use crate::work::Stage;
 use crate::works::Works;
 use sk_payload::Payload;
@@ -45,6 +48,34 @@ impl Phase {
     {
         if let Phase::Joined(_, works) = self {
             works.release(at);
+        }
+    }
+
+    /// Counts the jobs in the seat's hands.
+    pub(crate) fn count_in(&self, filter: &mut JobFilter)
+        ensures { filter.new ≡ with_jobs (works_of self.now) filter.old }
+    {
+        if let Phase::Joined(_, works) = self {
+            filter.add_all(works.list());
+        }
+    }
+
+    /// No longer counts the jobs in the seat's hands.
+    pub(crate) fn count_out(&self, filter: &mut JobFilter)
+        ensures { filter.new ≡ without_jobs (works_of self.now) filter.old }
+    {
+        if let Phase::Joined(_, works) = self {
+            filter.remove_all(works.list());
+        }
+    }
+
+    /// No longer counts the job at an index of those in the seat's hands.
+    pub(crate) fn count_out_at(&self, at: usize, filter: &mut JobFilter)
+        requires { at < length (works_of self.now) }
+        ensures { (work : Work) → slice_get (works_of self.now) at ≡ Some work → filter.new ≡ without_job work.payload filter.old }
+    {
+        if let Phase::Joined(_, works) = self {
+            filter.remove(&works.get(at).payload);
         }
     }
 }

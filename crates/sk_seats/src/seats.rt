@@ -1,20 +1,28 @@
 // What the seats are doing. A worker's seat is kept with its phase, by its number; every other seat is Plain. The jobs in a seat's hands change
-// without memory.
-ghost use Rattle.std.specs.Prelude.{◌≡◌, ◌<◌, [], OnErr, OnOk, false, length};
+// without memory. A filter counts the jobs in all hands, so that the seats are looked at only for a job that they may have.
+ghost use Rattle.std.specs.Prelude.{◌≡◌, ◌<◌, [], IfOk, OnErr, OnOk, false, length, option_copied, replicate};
+ghost use Rattle.std.specs.Map.{values_of};
 ghost use Rattle.sk_payload.specs.Head.{names};
-ghost use Rattle.sk_seats.specs.Phases.{has, holding, is_plain, phase_in, releasing_at, staging_at, turned, works_of};
+ghost use Rattle.sk_seats.specs.Phases.{has, holding, is_plain, or_plain, phase_in, releasing_at, staging_at, turned, works_of};
 ghost use Rattle.sk_seats.specs.Held.{held_by};
+ghost use Rattle.sk_seats.specs.JobFilter.{with_phases, without_jobs};
 ghost use Rattle.sk_seats.specs.Order.{InOrder};
 ghost use Rattle.sk_seats.specs.Works.{most_works};
 
+use crate::job_filter::JobFilter;
 use crate::phase::Phase;
 use crate::work::Stage;
 use crate::works::Works;
+use sk_base::limits::MOST_PREFETCH;
 use sk_payload::Payload;
 use sk_resp::{Memory, Text};
 use std::alloc::Global;
 use std::collections::BTreeMap;
 use std::marker::Model;
+
+// How many counts there are at least for each seat: 64 for each job that it may have. With all hands full a place of a job is then another's once in
+// 21 times, and all three are about once in ten thousand.
+const COUNTS: usize = 64 * MOST_PREFETCH;
 
 /// The phases of the seats. Contracts see the seats that aren't Plain, each with its phase, in the order of their numbers.
 #[derive(Drop)]
@@ -22,6 +30,7 @@ pub struct Seats {
     alloc: Global,
     phases: BTreeMap<u32, Phase>,
     plain: Phase,
+    in_hands: JobFilter,
 }
 
 impl Model for Seats {
@@ -45,6 +54,7 @@ impl Seats {
             alloc,
             phases: BTreeMap::new(alloc),
             plain: Phase::Plain,
+            in_hands: JobFilter::none(alloc),
         }
     }
 
@@ -59,7 +69,8 @@ impl Seats {
         }
     }
 
-    /// Whether some seat has a payload of this payload's job. Looks at the workers' seats one after another.
+    /// Whether some seat has a payload of this payload's job. Constant where none has, for all but about one in ten thousand jobs: else the workers'
+    /// seats are looked at, one after another.
     #[tactic(auto, using(crate::proofs::Seating::among_values))]
     pub fn have(&self, payload: &Payload) -> bool
         ensures { result ≡ held_by self.now payload.now }
@@ -67,6 +78,9 @@ impl Seats {
         let Some(head) = payload.head() else {
             return false;
         };
+        if !self.in_hands.may_have(&head.jid) {
+            return false;
+        }
         for phase in self.phases.values() {
             if has(phase, &head.jid) {
                 return true;
@@ -75,13 +89,26 @@ impl Seats {
         false
     }
 
-    /// The seat is one of this process, without a job.
+    // There are counts enough for one more seat. Where they are too few, the works of all seats are counted anew, with room for twice as many seats.
+    fn make_room(&mut self) -> Result<(), Memory>
+        ensures { self.new ≡ self.old }
+    {
+        let size = self.phases.len().saturating_add(1).saturating_mul(COUNTS);
+        if self.in_hands.len() < size {
+            self.in_hands = counted(self.alloc, &self.phases, size.saturating_mul(2))?;
+        }
+        Ok(())
+    }
+
+    /// The seat is one of this process, without a job. Takes the memory to count its jobs.
     pub fn join(&mut self, seat: u32, ident: Text) -> Result<(), Memory>
         ensures ok { OnOk result (self.new ≡ turned seat (Phase.Joined ident []) self.old) }
         ensures err { OnErr result (self.new ≡ self.old) }
     {
+        self.make_room()?;
         let works = Works::new(self.alloc)?;
         let before = self.phases.insert(seat, Phase::Joined(ident, works))?;
+        count_out(&mut self.in_hands, before.as_ref());
         let_go(before);
         Ok(())
     }
@@ -92,6 +119,7 @@ impl Seats {
         requires room { length (works_of (phase_in self.old seat)) < most_works }
         ensures { self.new ≡ turned seat (holding payload (phase_in self.old seat)) self.old }
     {
+        self.in_hands.add(&payload);
         match self.phases.get_mut(&seat) {
             Some(phase) => phase.hold(payload),
             None => unreachable!(),
@@ -115,7 +143,10 @@ impl Seats {
         ensures { self.new ≡ turned seat (releasing_at at (phase_in self.old seat)) self.old }
     {
         match self.phases.get_mut(&seat) {
-            Some(phase) => phase.release(at),
+            Some(phase) => {
+                phase.count_out_at(at, &mut self.in_hands);
+                phase.release(at);
+            }
             None => unreachable!(),
         }
     }
@@ -125,8 +156,29 @@ impl Seats {
     pub fn cut(&mut self, seat: u32)
         ensures { self.new ≡ turned seat Phase.Plain self.old }
     {
+        count_out(&mut self.in_hands, self.phases.get(&seat));
         let_go(self.phases.remove(&seat));
     }
+}
+
+// No longer counts the jobs in the hands of a seat with this phase.
+fn count_out(filter: &mut JobFilter, phase: Option<&Phase>)
+    ensures { filter.new ≡ without_jobs (works_of (or_plain (option_copied phase.entry))) filter.old }
+{
+    if let Some(phase) = phase {
+        phase.count_out(filter);
+    }
+}
+
+// A filter of so many counts, in which the jobs in the hands of all seats are counted.
+fn counted(alloc: Global, phases: &BTreeMap<u32, Phase>, size: usize) -> Result<JobFilter, Memory>
+    ensures { IfOk result (λ filter. filter ≡ with_phases (values_of phases.now.entries) (replicate size 0)) }
+{
+    let mut filter = JobFilter::new(alloc, size)?;
+    for phase in phases.values() {
+        phase.count_in(&mut filter);
+    }
+    Ok(filter)
 }
 
 // Lets go of a phase.
