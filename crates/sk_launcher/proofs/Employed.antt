@@ -1,5 +1,5 @@
 -- What follows of workers that were hired, took turns and left, where none had a fault.
-use Rattle.std.proofs.Common.{◌≡◌, ◌≤◌, ◌<◌, ◌+◌, ◌++◌, ◌∙◌, sym, ap, subst, ℕ, zero, suc, Bool, true, false, List, [], ◌∷◌, map, length, Option, Some, None, option_map, Result, Ok, Err, refl, arith, append_assoc, slice_index_or, take}
+use Rattle.std.proofs.Common.{◌≡◌, ◌≤◌, ◌<◌, ◌++◌, ◌∙◌, sym, ap, subst, ℕ, zero, suc, Bool, true, false, List, [], ◌∷◌, map, length, Option, Some, None, option_map, Result, Ok, Err, refl, arith, append_assoc, take}
 use Rattle.std.specs.Prelude.{option_to_list}
 use Rattle.std.proofs.Math.Seq.{take-append_seam}
 use Rattle.std.specs.Bool.{MatchBool}
@@ -13,11 +13,15 @@ use Rattle.sk_worker.specs.declared.turn.Turn.{Turn}
 use Rattle.sk_worker.specs.declared.turn.WorkFault.{WorkFault}
 use Rattle.sk_launcher.specs.Connections.{Each, none as none_hired, one_more as one_hired}
 use Rattle.sk_launcher.specs.Faults.{by_poll, by_work}
-use Rattle.sk_launcher.specs.Launching.{AllWorked, AreWhole, Employs, HasJoined, HasLeft, HaveTaken, Hire, Hires, HiresAll, InThreads, Leaves, Office, hindrance_of, kept_fault, work_faults}
+use Rattle.sk_launcher.specs.Counting.{TallyView}
+use Rattle.sk_launcher.specs.Launching.{AllWorked, AreWhole, Employs, HasLeft, Hire, Hires, HiresAll, InThreads, Leaves, Office, hindrance_of, kept_fault, work_faults}
 use Rattle.sk_launcher.specs.Polling.{PollState, PollerTurn}
+use Rattle.sk_launcher.specs.Teams.{HaveReturned, Team, done_in}
 use Rattle.sk_launcher.specs.Turning.{Turns, none, one_more, WentOn, whole, broken}
 use Rattle.sk_launcher.specs.TurningLaws.{went_on_none}
-use Rattle.sk_launcher.specs.Working.{IsNoted, WorkState, WorkerTurn, begins}
+use Rattle.sk_launcher.specs.Working.{IsNoted, WorkState, WorkerTurn, own_team}
+use Rattle.sk_launcher.proofs.Done.{Ran, all_returned, leaves_ran, ran_alike, ran_then, went_on_ran, with_others}
+use Rattle.sk_launcher.proofs.Zips.{all_alike, all_of, all_on, map_both, zip_along, zip_by, zip_if}
 use Rattle.sk_launcher.specs.declared.launch_fault.LaunchFault.{LaunchFault}
 
 -- ## Lists
@@ -63,13 +67,6 @@ same_length Step (x ∷ xs) (y ∷ ys) zip = ap suc (same_length Step xs ys zip.
 same_length Step [] (y ∷ ys) zip = absurd zip
 same_length Step (x ∷ xs) [] zip = absurd zip
 
-pub zip_map : {A B : Type 0} (R : A → A → Type 0) (Q : B → B → Type 0) (f : A → B) → ((x y : A) → R x y → Q (f x) (f y)) →
-    (xs ys : List A) → AllZip R xs ys → AllZip Q (map f xs) (map f ys)
-zip_map R Q f by [] [] zip = tt
-zip_map R Q f by (x ∷ xs) (y ∷ ys) zip = (by x y zip.0, zip_map R Q f by xs ys zip.1)
-zip_map R Q f by [] (y ∷ ys) zip = absurd zip
-zip_map R Q f by (x ∷ xs) [] zip = absurd zip
-
 pub all_same : {A : Type 0} (R : A → A → Type 0) → ((x : A) → R x x) → (xs : List A) → AllZip R xs xs
 all_same R same [] = tt
 all_same R same (x ∷ xs) = (same x, all_same R same xs)
@@ -78,18 +75,12 @@ pub seam : {A : Type 0} (ws xs : List A) (n : ℕ) → n ≡ length ws → take 
 seam ws xs n is = rw is (take-append_seam ws xs)
 
 -- Who took so many turns at least, and no more, took so many.
-pub all_taken : {A B : Type 0} (f : A → B) (taken : B → ℕ) (R : A → A → Type 0) (turns : ℕ) → ((x y : A) → R x y → taken (f x) ≤ turns → taken (f y) ≤ turns) →
-    (xs ys : List A) → AllZip R xs ys → AllByRecursion (λ b. taken b ≤ turns) (map f xs) → All (λ y. turns ≤ taken (f y)) ys →
-    AllByRecursion (λ b. taken b ≡ turns) (map f ys)
-all_taken f taken R turns keeps xs ys zip most least =
-    both (λ b. taken b ≤ turns) (λ b. turns ≤ taken b) (λ b. taken b ≡ turns) (λ b p q. omega (arith, p, q)) (map f ys) (upper xs ys zip most)
-    (all_listed (λ b. turns ≤ taken b) f ys least)
-  where
-    upper : (vs ws : List _) → AllZip R vs ws → AllByRecursion (λ b. taken b ≤ turns) (map f vs) → AllByRecursion (λ b. taken b ≤ turns) (map f ws)
-    upper [] [] z p = tt
-    upper (v ∷ vs) (w ∷ ws) z p = (keeps v w z.0 p.0, upper vs ws z.1 p.1)
-    upper [] (w ∷ ws) z p = absurd z
-    upper (v ∷ vs) [] z p = absurd z
+pub all_taken : {B : Type 0} (taken : B → ℕ) (R : B → B → Type 0) (turns : ℕ) → ((x y : B) → R x y → taken x ≤ turns → taken y ≤ turns) →
+    (xs ys : List B) → AllZip R xs ys → AllByRecursion (λ b. taken b ≤ turns) xs → AllByRecursion (λ b. turns ≤ taken b) ys →
+    AllByRecursion (λ b. taken b ≡ turns) ys
+all_taken taken R turns keeps xs ys zip most least =
+    both (λ b. taken b ≤ turns) (λ b. turns ≤ taken b) (λ b. taken b ≡ turns) (λ b p q. omega (arith, p, q)) ys
+    (along R (λ b. taken b ≤ turns) (λ b. taken b ≤ turns) keeps xs ys zip most) least
 
 pub all_up : {A : Type 0} (f : A → ℕ) (turns : ℕ) (xs : List A) → AllByRecursion (λ x. f x ≤ 0) xs → AllByRecursion (λ x. f x ≤ turns) xs
 all_up f turns [] all = tt
@@ -126,6 +117,14 @@ none_right (x ∷ xs) ys is = absurd (cc is)
 no_option : {A B : Type 0} (f : A → B) (o : Option A) → option_to_list (option_map f o) ≡ [] → o ≡ None
 no_option f None is = refl
 no_option f (Some x) is = absurd (cc is)
+
+-- Where nobody had a fault, none of those who left had one.
+pub none_faulty : {A : Type 0} (now before mid gone others : List A) → now ≡ mid ++ others → mid ≡ before ++ gone → now ≡ [] → gone ≡ []
+none_faulty now before mid gone others is grown empty = none_right before gone (sym grown ∙ none_left mid others (sym is ∙ empty))
+
+-- what was given back by those who left, and what is left over
+pub teams_now : {A : Type 0} (now before gone others : List A) (mid : List A) → now ≡ mid ++ others → mid ≡ before ++ gone → before ≡ [] → now ≡ gone ++ others
+teams_now now before gone others mid is grown empty = is ∙ ap (λ ts. ts ++ others) (grown ∙ ap (λ ts. ts ++ gone) empty)
 
 -- ## A worker without a fault hasn't ended
 
@@ -262,27 +261,64 @@ module _ {Conn : Type 0} (Carried : WireState Conn → WireState Conn → List C
 
   -- ## The teams
 
+  -- one that met a fault only in joining or leaving told nothing
+  fresh_team : (a b : Office Conn) (h : Hire (WireState Conn)) (hires : Hires Carried own a h b) → a.teams ≡ own_team h.fresh ∷ b.teams
+  fresh_team a b h hires = hires.next ∙ ap (λ t. t ∷ b.teams) (sym hires.starts.team_is)
+
+  teams_used : (a b : Office Conn) (hires : List (Hire (WireState Conn))) → Each (Hires Carried own) a hires b → a.teams ≡ map (λ h. own_team h.fresh) hires ++ b.teams
+  teams_used a b hires none_hired = refl
+  teams_used a b hires (one_hired xs mid to h before last) =
+      let used = map (λ (z : Hire (WireState Conn)). own_team z.fresh) xs in
+      teams_used a mid xs before ∙ ap (λ ts. used ++ ts) (fresh_team mid b h last) ∙ sym (append_assoc used (own_team h.fresh ∷ []) b.teams)
+      ∙ ap (λ ts. ts ++ b.teams) (sym (map_end (λ (z : Hire (WireState Conn)). own_team z.fresh) xs h))
+
+  hired_ran : (a b : Office Conn) (h : Hire (WireState Conn)) → Hires Carried own a h b → Ran h.fresh h.joined
+  hired_ran a b h hires = ran_alike h.fresh h.joined (ap (λ (w : WorkState _). w.settings) hires.starts.joins.becomes)
+      (ap (λ (w : WorkState _). w.told) hires.starts.joins.becomes) (ap (λ (w : WorkState _). w.tally) hires.starts.joins.becomes)
+
+  hired_none : (a b : Office Conn) (h : Hire (WireState Conn)) → Hires Carried own a h b → h.fresh.tally.counts.done ≡ 0
+  hired_none a b h hires = ap (λ (t : TallyView). t.counts.done) hires.starts.tally
+
+  each_of : (P : Hire (WireState Conn) → Type 0) → ((a b : Office Conn) (h : Hire (WireState Conn)) → Hires Carried own a h b → P h) →
+      (a b : Office Conn) (hires : List (Hire (WireState Conn))) → Each (Hires Carried own) a hires b → AllByRecursion P hires
+  each_of P one a b hires none_hired = tt
+  each_of P one a b hires (one_hired xs mid to h before last) = all_end P xs h (each_of P one a mid xs before) (one mid b h last)
+
+  -- Where none had a fault, the workers did what the runs of their teams returned.
+  pub teams_returned : (poller done : PollState (WireState Conn)) (before after : Office Conn) (worked gone : List (WorkState (WireState Conn))) →
+      Employs Carried own poller done before after worked → AllZip (Leaves Carried) worked gone → work_faults gone ≡ [] →
+      HaveReturned before.teams (map own_team gone ++ after.teams) (done_in (map (λ w. w.tally.counts) gone))
+  teams_returned poller done before after worked gone e left no_fault =
+      let hires = e.hiring.0 in
+      let fresh = λ (h : Hire (WireState Conn)). h.fresh in
+      let joined = λ (h : Hire (WireState Conn)). h.joined in
+      let tells : AllByRecursion Tells worked = along (WentOn (WorkerTurn Carried)) Tells Tells (went_on_tells Carried) e.hired worked e.working.worked
+      (all_tell before after e.hired e.hiring) in
+      let unended = all_left_whole Carried worked gone left tells no_fault in
+      let first : AllZip Ran (map fresh hires) (map joined hires) = zip_by Ran fresh joined hires (each_of (λ h. Ran h.fresh h.joined) hired_ran before after hires e.hiring.1) in
+      let second : AllZip Ran (map joined hires) worked = subst (λ ws. AllZip Ran ws worked) e.hiring.2
+      (zip_if (WentOn (WorkerTurn Carried)) Ran (λ w. w.ended ≡ false) (went_on_ran Carried) e.hired worked e.working.worked unended) in
+      let third : AllZip Ran worked gone = zip_along (Leaves Carried) Ran (leaves_ran Carried) worked gone left in
+      let all : AllZip Ran (map fresh hires) gone = all_on Ran ran_then (map fresh hires) worked gone (all_on Ran ran_then (map fresh hires) (map joined hires) worked first second) third in
+      let none : AllByRecursion (λ w. w.tally.counts.done ≡ 0) (map fresh hires) = all_of fresh (λ w. w.tally.counts.done ≡ 0) hires
+      (each_of (λ h. h.fresh.tally.counts.done ≡ 0) hired_none before after hires e.hiring.1) in
+      subst (λ ts. HaveReturned ts (map own_team gone ++ after.teams) (done_in (map (λ w. w.tally.counts) gone)))
+      (sym (teams_used before after hires e.hiring.1 ∙ ap (λ ts. ts ++ after.teams) (sym (mapped fresh own_team hires))))
+      (with_others after.teams (map own_team (map fresh hires)) (map own_team gone) (done_in (map (λ w. w.tally.counts) gone)) (all_returned (map fresh hires) gone all none))
+
   module _ (keeps : (classes : List Bytes) → (own classes).classes ≡ classes) where
-    classes_by : (a b : Office Conn) (h : Hire (WireState Conn)) → (hires : Hires Carried own a h b) → h.joined.settings.classes ≡ hires.classes
-    classes_by a b h hires =
-        ap (λ (w : WorkState _). w.settings.classes) hires.starts.joins.becomes ∙ ap (λ (s : Settings). s.classes) hires.starts.settings_are ∙ keeps hires.classes
-
-    teams_used : (a b : Office Conn) (hires : List (Hire (WireState Conn))) → Each (Hires Carried own) a hires b →
-        a.teams ≡ map (λ w. w.settings.classes) (map (λ h. h.joined) hires) ++ b.teams
-    teams_used a b hires none_hired = refl
-    teams_used a b hires (one_hired xs mid to h before last) =
-        let classes = λ (w : WorkState (WireState Conn)). w.settings.classes in
-        let joined = λ (z : Hire (WireState Conn)). z.joined in
-        let used = map classes (map joined xs) in
-        teams_used a mid xs before ∙ ap (λ ts. used ++ ts) last.team ∙ sym (append_assoc used (last.classes ∷ []) b.teams)
-        ∙ ap (λ t. (used ++ t ∷ []) ++ b.teams) (sym (classes_by mid b h last)) ∙ ap (λ ts. ts ++ b.teams) (sym (map_end classes (map joined xs) h.joined))
-        ∙ ap (λ ws. map classes ws ++ b.teams) (sym (map_end joined xs h))
-
     -- Who left had the teams that are used up.
     pub teams_back : (poller done : PollState (WireState Conn)) (before after : Office Conn) (worked gone : List (WorkState (WireState Conn))) →
-        Employs Carried own poller done before after worked → AllZip (Leaves Carried) worked gone → map (λ w. w.settings.classes) gone ++ after.teams ≡ before.teams
+        Employs Carried own poller done before after worked → AllZip (Leaves Carried) worked gone →
+        map (λ t. t.classes) (map own_team gone ++ after.teams) ≡ map (λ t. t.classes) before.teams
     teams_back poller done before after worked gone e left =
         let classes = λ (w : WorkState (WireState Conn)). w.settings.classes in
+        let of_team = λ (t : Team). t.classes in
         let worked_same = same_map (Leaves Carried) classes classes (λ x y p. ap (λ (s : Settings). s.classes) (leaves_settled Carried x y p)) worked gone left in
         let hired_same = same_map (WentOn (WorkerTurn Carried)) classes classes (λ x y p. ap (λ (s : Settings). s.classes) (went_on_settles Carried x y p)) e.hired worked e.working.worked in
-        ap (λ ts. ts ++ after.teams) (worked_same ∙ hired_same ∙ ap (map classes) e.hiring.2) ∙ sym (teams_used before after e.hiring.0 e.hiring.1)
+        let joined_same = all_alike (λ (h : Hire (WireState Conn)). h.fresh.settings.classes) (λ (h : Hire (WireState Conn)). h.joined.settings.classes) e.hiring.0
+        (each_of (λ h. h.joined.settings.classes ≡ h.fresh.settings.classes) (λ a b h hires. ap (λ (w : WorkState _). w.settings.classes) hires.starts.joins.becomes) before after e.hiring.0 e.hiring.1) in
+        map_both of_team (map own_team gone) after.teams
+        ∙ ap (λ cs. cs ++ map of_team after.teams) (mapped own_team of_team gone ∙ worked_same ∙ hired_same ∙ ap (map classes) e.hiring.2 ∙ mapped (λ h. h.joined) classes e.hiring.0 ∙ joined_same
+        ∙ sym (mapped (λ h. own_team h.fresh) of_team e.hiring.0))
+        ∙ sym (map_both of_team (map (λ h. own_team h.fresh) e.hiring.0) after.teams) ∙ ap (map of_team) (sym (teams_used before after e.hiring.0 e.hiring.1))

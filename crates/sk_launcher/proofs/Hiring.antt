@@ -7,35 +7,36 @@ use Rattle.sk_link.specs.Call.{Call}
 use Rattle.sk_link.specs.Wire.{WireState}
 use Rattle.sk_policy.specs.Order.{Order}
 use Rattle.sk_worker.specs.Stage.{Settings}
-use Rattle.sk_launcher.specs.Connections.{Each, one_more, Gives}
+use Rattle.sk_launcher.specs.Connections.{one_more, Gives}
 use Rattle.sk_launcher.specs.Counting.{no_turns}
-use Rattle.sk_launcher.specs.Launching.{HasJoined, Hire, Hires, HiresAll, HiresOne, IsStarted, Office}
-use Rattle.sk_launcher.specs.Working.{WorkState, settings}
+use Rattle.sk_launcher.specs.Launching.{HasJoined, Hire, HiresAll, HiresOne, IsStarted, Office}
+use Rattle.sk_launcher.specs.Teams.{Team}
+use Rattle.sk_launcher.specs.Working.{WorkState, own_team, settings}
 use Rattle.sk_launcher.proofs.Employed.{all_listed, map_end}
 
 module _ {Conn : Type 0} (Carried : WireState Conn → WireState Conn → List Call → Type 0) where
-  pub started_by : (conn : Conn) (own : Settings) (a b : WorkState (WireState Conn)) → a.link ≡ record { conn = conn; pending = []; ended = false } →
-      a.settings ≡ own → a.held ≡ [] → a.ended ≡ false → a.fault ≡ None → a.tally ≡ record { taken = 0; counts = no_turns } → HasJoined Carried a b →
-      (h : Hire (WireState Conn)) × IsStarted Carried conn own h × (b ≡ h.joined)
-  started_by conn own a b link settled held whole fault tally joins = (
+  pub started_by : (conn : Conn) (own : Settings) (team : Team) (a b : WorkState (WireState Conn)) → a.link ≡ record { conn = conn; pending = []; ended = false } →
+      a.settings ≡ own → own_team a ≡ team → a.held ≡ [] → a.ended ≡ false → a.fault ≡ None → a.tally ≡ record { taken = 0; counts = no_turns } → HasJoined Carried a b →
+      (h : Hire (WireState Conn)) × IsStarted Carried conn own team h × (b ≡ h.joined)
+  started_by conn own team a b link settled teamed held whole fault tally joins = (
     record { fresh = a; joined = b },
-    record { link = link; settings_are = settled; held = held; whole = whole; fault = fault; tally = tally; joins = joins },
+    record { link = link; settings_are = settled; team_is = teamed; held = held; whole = whole; fault = fault; tally = tally; joins = joins },
     refl,
   )
 
-  pub hires_by : (ident' : Bytes) (order' : Order) (prefetch : ℕ) (a b : Office Conn) (conn : Conn) (ident : Bytes) (order : Order) (classes : List Bytes)
-      (w : WorkState (WireState Conn)) → Gives a.door conn b.door → a.teams ≡ classes ∷ b.teams → ident ≡ ident' → order ≡ order' →
-      ((h : Hire (WireState Conn)) × IsStarted Carried conn (settings ident order prefetch classes) h × (w ≡ h.joined)) →
+  pub hires_by : (ident' : Bytes) (order' : Order) (prefetch : ℕ) (a b : Office Conn) (conn : Conn) (ident : Bytes) (order : Order) (team : Team)
+      (w : WorkState (WireState Conn)) → Gives a.door conn b.door → a.teams ≡ team ∷ b.teams → ident ≡ ident' → order ≡ order' →
+      ((h : Hire (WireState Conn)) × IsStarted Carried conn (settings ident order prefetch team.classes) team h × (w ≡ h.joined)) →
       HiresOne Carried (settings ident' order' prefetch) a w b
-  hires_by ident' order' prefetch a b conn ident order classes w gives team ident_is order_is (h, started, is) = (
+  hires_by ident' order' prefetch a b conn ident order team w gives next ident_is order_is (h, started, is) = (
     h,
     record {
       conn = conn;
-      classes = classes;
-      gives = gives;
       team = team;
-      starts = subst (λ z. IsStarted Carried conn (settings z order' prefetch classes) h) ident_is
-          (subst (λ z. IsStarted Carried conn (settings ident z prefetch classes) h) order_is started);
+      gives = gives;
+      next = next;
+      starts = subst (λ z. IsStarted Carried conn (settings z order' prefetch team.classes) team h) ident_is
+          (subst (λ z. IsStarted Carried conn (settings ident z prefetch team.classes) team h) order_is started);
     },
     is,
   )

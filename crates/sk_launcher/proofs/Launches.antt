@@ -1,5 +1,6 @@
 -- How a launch is told by its parts.
-use Rattle.std.proofs.Common.{◌≡◌, ◌≤◌, ◌<◌, ℕ, ℤ, List, [], ◌∷◌, subst, sym, arith, inl, inr, Result, Ok, Err}
+use Rattle.std.proofs.Common.{◌≡◌, ◌∙◌, ap, ◌≤◌, ◌-◌, ◌^◌, min, ℕ, ℤ, List, [], ◌∷◌, subst, sym, arith, inl, inr, Result, Ok, Err}
+use Rattle.std.specs.Prelude.{IfOk}
 use Rattle.std.specs.Result.{IsErrAnd}
 use Rattle.sk_base.specs.Outside.{Rose}
 use Rattle.sk_resp.specs.Spelling.{Bytes}
@@ -10,8 +11,11 @@ use Rattle.sk_poller.specs.Stage.{Watch}
 use Rattle.sk_poller.specs.declared.poller.Loop.{Loop}
 use Rattle.sk_worker.specs.Stage.{Settings}
 use Rattle.sk_launcher.specs.Connections.{DoorTells}
-use Rattle.sk_launcher.specs.Launching.{Hindered, Launched, Office, Process, closed, starved}
+use Rattle.sk_launcher.specs.Launching.{Hindered, IsAnswer, Launched, Office, Process, closed, starved}
 use Rattle.sk_launcher.specs.Polling.{PollState}
+use Rattle.sk_launcher.specs.Counting.{no_turns, total_from}
+use Rattle.sk_launcher.specs.Teams.{AreDone, HaveReturned, Team, done_in}
+use Rattle.sk_launcher.proofs.Done.{total_done}
 use Rattle.sk_launcher.specs.declared.counts.Counts.{Counts}
 use Rattle.sk_launcher.specs.declared.launch_fault.LaunchFault.{LaunchFault}
 use Rattle.sk_launcher.specs.declared.launch_fault.LaunchFault.TheVariants as fault
@@ -29,20 +33,20 @@ rose_within before mid now le (inl lt) = inl (omega (arith, le, lt))
 rose_within before mid now le (inr top) = inr top
 
 module _ {Conn : Type 0} (Carried : WireState Conn → WireState Conn → List Call → Type 0) where
-  by_cause : (DoorFailed : Type 0) (line : WorkLine) (before after : DoorTells Conn) (teams : List (List Bytes)) (f : LaunchFault) → Hindered DoorFailed (f ∷ []) →
-      after ≡ before → Launched Carried DoorFailed line before after teams (Err f)
-  by_cause DoorFailed line before after teams fault.Memory h same = starved same
-  by_cause DoorFailed line before after teams fault.Door h same = closed h same
-  by_cause DoorFailed line before after teams (fault.Link f) h same = absurd h
-  by_cause DoorFailed line before after teams (fault.Refused r) h same = absurd h
-  by_cause DoorFailed line before after teams fault.GenLimit h same = absurd h
+  by_cause : (DoorFailed : Type 0) (line : WorkLine) (before after : DoorTells Conn) (teams teams' : List Team) (f : LaunchFault) → Hindered DoorFailed (f ∷ []) →
+      after ≡ before → Launched Carried DoorFailed line before after teams teams' (Err f)
+  by_cause DoorFailed line before after teams teams' fault.Memory h same = starved same
+  by_cause DoorFailed line before after teams teams' fault.Door h same = closed h same
+  by_cause DoorFailed line before after teams teams' (fault.Link f) h same = absurd h
+  by_cause DoorFailed line before after teams teams' (fault.Refused r) h same = absurd h
+  by_cause DoorFailed line before after teams teams' fault.GenLimit h same = absurd h
 
   -- There was no connection for the poller, or no memory.
-  pub not_ready : (DoorFailed : Type 0) (line : WorkLine) (before after : DoorTells Conn) (teams : List (List Bytes)) (f : LaunchFault) (r : Result Counts LaunchFault) →
-      IsErrAnd r (λ e. e ≡ f) → Hindered DoorFailed (f ∷ []) → after ≡ before → Launched Carried DoorFailed line before after teams r
-  not_ready DoorFailed line before after teams f (Ok counts) is h same = absurd is
-  not_ready DoorFailed line before after teams f (Err e) is h same =
-      subst (λ z. Launched Carried DoorFailed line before after teams (Err z)) (sym is) (by_cause DoorFailed line before after teams f h same)
+  pub not_ready : (DoorFailed : Type 0) (line : WorkLine) (before after : DoorTells Conn) (teams teams' : List Team) (f : LaunchFault) (r : Result Counts LaunchFault) →
+      IsErrAnd r (λ e. e ≡ f) → Hindered DoorFailed (f ∷ []) → after ≡ before → Launched Carried DoorFailed line before after teams teams' r
+  not_ready DoorFailed line before after teams teams' f (Ok counts) is h same = absurd is
+  not_ready DoorFailed line before after teams teams' f (Err e) is h same =
+      subst (λ z. Launched Carried DoorFailed line before after teams teams' (Err z)) (sym is) (by_cause DoorFailed line before after teams teams' f h same)
 
   hindered_also : (A B : Type 0) → (A → B) → (faults : List LaunchFault) → Hindered A faults → Hindered B faults
   hindered_also A B f [] h = tt
@@ -77,3 +81,14 @@ module _ {Conn : Type 0} (Carried : WireState Conn → WireState Conn → List C
     counts_are = p.counts_are;
     all = p.all;
   }
+
+sum_done : (counts : List Counts) → (total_from no_turns counts).done ≡ min (done_in counts) (2 ^ 64 - 1)
+sum_done counts = let is = total_done counts no_turns 0 (omega arith) in omega (arith, is)
+
+-- The counts of a launch without a fault are those of all workers.
+pub are_done : (before after : List Team) (faults : List LaunchFault) (counts : List Counts) (answered result : Result Counts LaunchFault) → IsAnswer faults counts answered →
+    result ≡ answered → (faults ≡ [] → HaveReturned before after (done_in counts)) → IfOk result (λ sum. AreDone before after sum.done)
+are_done before after faults counts answered (Ok sum) is same returned =
+    let one = subst (λ r. IsAnswer faults counts r) (sym same) is in
+    (done_in counts, returned one.0, ap (λ (c : Counts). c.done) one.1 ∙ sum_done counts)
+are_done before after faults counts answered (Err f) is same returned = tt

@@ -1,12 +1,12 @@
 -- How workers leave, one after another.
-use Rattle.std.proofs.Common.{◌≡◌, ◌∙◌, sym, ap, List, [], ◌∷◌, ◌++◌, append_assoc, append-nil, map, refl, option_map}
+use Rattle.std.proofs.Common.{◌≡◌, ◌∙◌, sym, ap, List, [], ◌∷◌, ◌++◌, append_assoc, append-nil, map, option_map}
 use Rattle.std.specs.Prelude.{option_to_list}
 use Rattle.std.specs.List.{AllZip}
 use Rattle.sk_link.specs.Wire.{WireState}
 use Rattle.sk_launcher.specs.Connections.{DoorTells, Each, one_more, Keeping}
 use Rattle.sk_launcher.specs.Faults.{by_work}
 use Rattle.sk_launcher.specs.Launching.{AllReturned, Returned, Returns, work_faults}
-use Rattle.sk_launcher.specs.Working.{WorkState}
+use Rattle.sk_launcher.specs.Working.{WorkState, own_team}
 use Rattle.sk_launcher.proofs.Employed.{map_end}
 
 grow : {A : Type 0} (before xs xs' m m' l : List A) → xs ≡ before ++ m → xs' ≡ xs ++ l → m' ≡ m ++ l → xs' ≡ before ++ m'
@@ -28,7 +28,7 @@ work_faults_end (w ∷ gone) one =
 returned_more : {Link : Type 0} (gone : List (WorkState Link)) (one : WorkState Link) (first before after : Returns) → AllReturned gone first before →
     Returned one before after → AllReturned (gone ++ one ∷ []) first after
 returned_more gone one first before after p q = record {
-  teams = grow first.teams before.teams after.teams (map (λ w. w.settings.classes) gone) _ (one.settings.classes ∷ []) p.teams q.teams (map_end (λ (w : WorkState _). w.settings.classes) gone one);
+  teams = grow first.teams before.teams after.teams (map own_team gone) _ (own_team one ∷ []) p.teams q.teams (map_end own_team gone one);
   tallies = grow first.tallies before.tallies after.tallies (map (λ w. w.tally) gone) _ (one.tally ∷ []) p.tallies q.tallies (map_end (λ (w : WorkState _). w.tally) gone one);
   faults = grow first.faults before.faults after.faults (work_faults gone) _ (option_to_list (option_map by_work one.fault)) p.faults q.faults (work_faults_end gone one);
 }

@@ -1,5 +1,6 @@
 pub mod Zips
 pub mod Threads
+pub mod Done
 pub mod Least
 pub mod Employed
 pub mod Hiring

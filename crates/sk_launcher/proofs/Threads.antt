@@ -1,6 +1,5 @@
 -- What one turn of a thread comes to.
-use Rattle.std.proofs.Common.{◌≡◌, ◌∙◌, sym, ap, subst, ℕ, List, [], Bool, Option, Some, None, refl, is_some, true, false, Result, Err}
-use Rattle.std.specs.Prelude.{map}
+use Rattle.std.proofs.Common.{◌≡◌, ◌≤◌, ◌∙◌, sym, ap, subst, ℕ, List, Bool, Option, Some, None, refl, is_some, true, false, Result, Err}
 use Rattle.std.specs.Bool.{MatchBool}
 use Rattle.std.specs.Result.{is_err}
 use Rattle.sk_base.specs.Yields.{YieldsAll}
@@ -12,7 +11,7 @@ use Rattle.sk_poller.specs.declared.report.PollFault.{PollFault}
 use Rattle.sk_poller.specs.declared.report.PollReport.{PollReport}
 use Rattle.sk_worker.specs.Event.{Choice, Event, moments as moments_of}
 use Rattle.sk_worker.specs.Leaving.{LeaveOf, Leaves as GivesBack, leaving}
-use Rattle.sk_worker.specs.Run.{Run}
+use Rattle.sk_worker.specs.Run.{Run, RunsTold}
 use Rattle.sk_worker.specs.Saying.{JoinOf, Joins}
 use Rattle.sk_worker.specs.Stage.{Settings}
 use Rattle.sk_launcher.specs.Counting.{TallyView}
@@ -20,10 +19,12 @@ use Rattle.sk_worker.specs.Turn.{Parts, TurnOf, TurnTranscript}
 use Rattle.sk_worker.specs.declared.turn.Turn.{Turn}
 use Rattle.sk_worker.specs.declared.turn.WorkFault.{WorkFault}
 use Rattle.sk_launcher.specs.Launching.{HasJoined, HasLeft, kept_fault}
-use Rattle.sk_launcher.specs.Polling.{IsNoted as IsPollNoted, PollState, PollerTurn}
-use Rattle.sk_launcher.specs.Turning.{WentOn}
-use Rattle.sk_launcher.specs.TurningLaws.{went_on_one}
-use Rattle.sk_launcher.specs.Working.{IsNoted, WorkState, WorkerTurn, settings}
+use Rattle.sk_launcher.specs.Polling as polling
+use Rattle.sk_launcher.specs.Polling.{IsNoted as IsPollNoted, PollState, PollerAdvances, PollerTurn}
+use Rattle.sk_launcher.specs.Turning.{Advances, WentOn}
+use Rattle.sk_launcher.specs.TurningLaws.{went_on_more, went_on_one}
+use Rattle.sk_launcher.proofs.Zips.{advances_on}
+use Rattle.sk_launcher.specs.Working.{IsNoted, WorkState, WorkerAdvances, WorkerTurn, begins, ends, settings}
 
 pub none_of : {A : Type 0} (o : Option A) → is_some o ≡ false → o ≡ None
 none_of None is = refl
@@ -50,19 +51,19 @@ turn_told : (w : Settings) (before : List Bytes) (events : List Event) (after : 
 turn_told w before events after result false is told = told
 turn_told w before events after result true is told = absurd (cc is)
 
-pub worker_turned : {Link : Type 0} (Carried : Link → Link → List Call → Type 0) (OfJobs : List Run → Type 0)
+pub worker_turned : {Link : Type 0} (Carried : Link → Link → List Call → Type 0)
     (OfRules : List Choice → Type 0) (a b : WorkState Link) (moments : Option (ℕ → ℕ)) (result r : Result Turn WorkFault) → result ≡ r → a.ended ≡ false
     → b.moments ≡ moments
-    → ((events : List Event) × Parts (λ cs. Carried a.link b.link cs) OfJobs (λ ms. YieldsAll a.moments ms moments) (λ ws. YieldsAll a.words ws b.words) OfRules events
+    → ((events : List Event) × Parts (λ cs. Carried a.link b.link cs) (λ rs. RunsTold a.settings.classes rs a.told b.told) (λ ms. YieldsAll a.moments ms moments) (λ ws. YieldsAll a.words ws b.words) OfRules events
     × TurnOf a.ended a.settings a.held events b.held result)
     → b.settings ≡ a.settings → IsNoted a r b → WentOn (WorkerTurn Carried) a b
-worker_turned Carried OfJobs OfRules a b moments result r is whole same (events, parts, told) settled noted =
+worker_turned Carried OfRules a b moments result r is whole same (events, parts, told) settled noted =
     went_on_one (WorkerTurn Carried) a b r (record {
       whole = whole;
       events = events;
       parts = record {
         link = parts.link;
-        jobs = tt;
+        jobs = parts.jobs;
         clock = subst (λ m. YieldsAll a.moments (moments_of events) m) (sym same) parts.clock;
         dice = parts.dice;
         rules = tt;
@@ -72,23 +73,51 @@ worker_turned Carried OfJobs OfRules a b moments result r is whole same (events,
       noted = noted;
     })
 
+-- Who went on took one more turn, and that was not one too many.
+pub advances_once : {X Answer Fault : Type 0} (Turn : X → Result Answer Fault → X → Type 0) (ended : X → Bool) → ((a b : X) (r : Result Answer Fault) → Turn a r b → ended a ≡ false) →
+    ((a b : X) (f : Fault) → Turn a (Err f) b → ended b ≡ true) → (taken : X → ℕ) (turns : ℕ) (a b c : X) → Advances (WentOn Turn) taken turns a b → WentOn Turn b c →
+    taken c ≤ turns → Advances (WentOn Turn) taken turns a c
+advances_once Turn ended begins ends taken turns a b c p turn few = record { goes_on = went_on_more Turn ended begins ends a b c p.goes_on turn; most = λ le. few }
+
+pub worker_advances : {Link : Type 0} (Carried : Link → Link → List Call → Type 0) (turns : ℕ) (a b c : WorkState Link) → WorkerAdvances Carried turns a b →
+    WentOn (WorkerTurn Carried) b c → c.tally.taken ≤ turns → WorkerAdvances Carried turns a c
+worker_advances Carried turns a b c p turn few =
+    advances_once (WorkerTurn Carried) (λ w. w.ended) (begins Carried) (ends Carried) (λ w. w.tally.taken) turns a b c p turn few
+
+pub poller_advances : {Link : Type 0} (Carried : Link → Link → List Call → Type 0) (turns : ℕ) (a b c : PollState Link) → PollerAdvances Carried turns a b →
+    WentOn (PollerTurn Carried) b c → c.taken ≤ turns → PollerAdvances Carried turns a c
+poller_advances Carried turns a b c p turn few =
+    advances_once (PollerTurn Carried) (λ p. is_some p.fault) (polling.begins Carried) (polling.ends Carried) (λ p. p.taken) turns a b c p turn few
+
+pub worker_advances_on : {Link : Type 0} (Carried : Link → Link → List Call → Type 0) (turns : ℕ) (a b c : WorkState Link) → WorkerAdvances Carried turns a b →
+    WorkerAdvances Carried turns b c → WorkerAdvances Carried turns a c
+worker_advances_on Carried =
+    advances_on (WentOn (WorkerTurn Carried)) (λ w. w.tally.taken) (went_on_more (WorkerTurn Carried) (λ w. w.ended) (begins Carried) (ends Carried))
+
+pub poller_advances_on : {Link : Type 0} (Carried : Link → Link → List Call → Type 0) (turns : ℕ) (a b c : PollState Link) → PollerAdvances Carried turns a b →
+    PollerAdvances Carried turns b c → PollerAdvances Carried turns a c
+poller_advances_on Carried =
+    advances_on (WentOn (PollerTurn Carried)) (λ p. p.taken) (went_on_more (PollerTurn Carried) (λ p. is_some p.fault) (polling.begins Carried) (polling.ends Carried))
+
 pub same_settings : (ident ident' : Bytes) (order order' : Order) (prefetch prefetch' : ℕ) (classes classes' : List Bytes) → ident' ≡ ident → order' ≡ order
     → prefetch' ≡ prefetch → classes' ≡ classes → settings ident' order' prefetch' classes' ≡ settings ident order prefetch classes
 same_settings ident ident' order order' prefetch prefetch' classes classes' a b c d = cc (a, b, c, d)
 
-abbrev state : {Link : Type 0} → Link → Option (ℕ → ℕ) → Option (ℕ → ℕ) → Settings → List Bytes → Bool → Option WorkFault → TallyView → WorkState Link
-state link moments words own held ended fault tally =
-    record { link = link; moments = moments; words = words; settings = own; held = held; ended = ended; fault = fault; tally = tally }
+abbrev state : {Link : Type 0} → Link → Option (ℕ → ℕ) → Option (ℕ → ℕ) → Settings → List (Option (List Run)) → List Bytes → Bool → Option WorkFault → TallyView →
+    WorkState Link
+state link moments words own told held ended fault tally =
+    record { link = link; moments = moments; words = words; settings = own; told = told; held = held; ended = ended; fault = fault; tally = tally }
 
-same_fields : {Link : Type 0} (link : Link) (moments moments' words words' : Option (ℕ → ℕ)) (own own' : Settings) (held : List Bytes) (ended ended' : Bool)
-    (fault fault' : Option WorkFault) (tally tally' : TallyView) → moments' ≡ moments → words' ≡ words → own' ≡ own → ended' ≡ ended → fault' ≡ fault → tally' ≡ tally
-    → state link moments' words' own' held ended' fault' tally' ≡ state link moments words own held ended fault tally
-same_fields link moments moments' words words' own own' held ended ended' fault fault' tally tally' a b c d e f = cc (a, b, c, d, e, f)
+same_fields : {Link : Type 0} (link : Link) (moments moments' words words' : Option (ℕ → ℕ)) (own own' : Settings) (told told' : List (Option (List Run))) (held : List Bytes) (ended ended' : Bool)
+    (fault fault' : Option WorkFault) (tally tally' : TallyView) → moments' ≡ moments → words' ≡ words → own' ≡ own → told' ≡ told → ended' ≡ ended → fault' ≡ fault → tally' ≡ tally
+    → state link moments' words' own' told' held ended' fault' tally' ≡ state link moments words own told held ended fault tally
+same_fields link moments moments' words words' own own' told told' held ended ended' fault fault' tally tally' a b c d e f g = cc (a, b, c, d, e, f, g)
 
 same_state : {Link : Type 0} (a b : WorkState Link) (ended : Bool) (fault : Option WorkFault) → b.moments ≡ a.moments → b.words ≡ a.words → b.settings ≡ a.settings
-    → b.ended ≡ ended → b.fault ≡ fault → b.tally ≡ a.tally → b ≡ record a { link = b.link; held = b.held; ended = ended; fault = fault }
-same_state a b ended fault moments words settled ends faulty tallied =
-    same_fields b.link a.moments b.moments a.words b.words a.settings b.settings b.held ended b.ended fault b.fault a.tally b.tally moments words settled ends faulty tallied
+    → b.told ≡ a.told → b.ended ≡ ended → b.fault ≡ fault → b.tally ≡ a.tally → b ≡ record a { link = b.link; held = b.held; ended = ended; fault = fault }
+same_state a b ended fault moments words settled told ends faulty tallied =
+    same_fields b.link a.moments b.moments a.words b.words a.settings b.settings a.told b.told b.held ended b.ended fault b.fault a.tally b.tally moments words settled told ends
+    faulty tallied
 
 leave_told : (OfLink : List Call → Type 0) (ident : Bytes) (held after : List Bytes) (result : Result ℕ WorkFault) (ended : Bool) → ended ≡ false
     → LeaveOf OfLink ended ident held after result → GivesBack OfLink ident (leaving held 0) after result
@@ -102,14 +131,14 @@ for_false A B true is b = absurd (cc is)
 pub has_left : {Link : Type 0} (Carried : Link → Link → List Call → Type 0) (A : Type 0) (a b : WorkState Link)
     (result r : Result ℕ WorkFault) → a.ended ≡ false → result ≡ r
     → LeaveOf (Carried a.link b.link) a.ended a.settings.ident a.held b.held result
-    → b.moments ≡ a.moments → b.words ≡ a.words → b.settings ≡ a.settings → b.ended ≡ is_err r → b.fault ≡ kept_fault a.fault r → b.tally ≡ a.tally
+    → b.moments ≡ a.moments → b.words ≡ a.words → b.settings ≡ a.settings → b.told ≡ a.told → b.ended ≡ is_err r → b.fault ≡ kept_fault a.fault r → b.tally ≡ a.tally
     → MatchBool a.ended A (HasLeft Carried a b)
-has_left Carried A a b result r whole is told moments words settled ends faulty tallied =
+has_left Carried A a b result r whole is told moments words settled same ends faulty tallied =
     for_false A (HasLeft Carried a b) a.ended whole (record {
       result = r;
       told = subst (λ z. GivesBack (Carried a.link b.link) a.settings.ident (leaving a.held 0) b.held z) is
           (leave_told (Carried a.link b.link) a.settings.ident a.held b.held result a.ended whole told);
-      becomes = same_state a b (is_err r) (kept_fault a.fault r) moments words settled ends faulty tallied;
+      becomes = same_state a b (is_err r) (kept_fault a.fault r) moments words settled same ends faulty tallied;
     })
 
 join_told : (OfLink : List Call → Type 0) (ident : Bytes) (result : Result (Unit {0}) WorkFault) (ended : Bool) → ended ≡ false
@@ -119,12 +148,12 @@ join_told OfLink ident result true is told = absurd (cc is)
 
 pub has_joined : {Link : Type 0} (Carried : Link → Link → List Call → Type 0) (a b : WorkState Link) (result r : Result (Unit {0}) WorkFault) → a.ended ≡ false
     → result ≡ r → JoinOf a.ended (λ cs. Carried a.link b.link cs) a.settings.ident result → b.held ≡ a.held
-    → b.moments ≡ a.moments → b.words ≡ a.words → b.settings ≡ a.settings → b.ended ≡ is_err r → b.fault ≡ kept_fault a.fault r → b.tally ≡ a.tally
+    → b.moments ≡ a.moments → b.words ≡ a.words → b.settings ≡ a.settings → b.told ≡ a.told → b.ended ≡ is_err r → b.fault ≡ kept_fault a.fault r → b.tally ≡ a.tally
     → HasJoined Carried a b
-has_joined Carried a b result r whole is told kept moments words settled ends faulty tallied = record {
+has_joined Carried a b result r whole is told kept moments words settled same ends faulty tallied = record {
   result = r;
   says = subst (λ z. Joins (Carried a.link b.link) a.settings.ident z) is
       (join_told (Carried a.link b.link) a.settings.ident result a.ended whole told);
-  becomes = same_state a b (is_err r) (kept_fault a.fault r) moments words settled ends faulty tallied
+  becomes = same_state a b (is_err r) (kept_fault a.fault r) moments words settled same ends faulty tallied
       ∙ ap (λ h. record a { link = b.link; held = h; ended = is_err r; fault = kept_fault a.fault r }) kept;
 }

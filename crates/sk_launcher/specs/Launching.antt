@@ -15,8 +15,9 @@ use Rattle.sk_launcher.specs.Connections.{DoorTells, Each, Gives, Keeping}
 use Rattle.sk_launcher.specs.Counting.{TallyView, no_turns, total_from}
 use Rattle.sk_launcher.specs.Faults.{by_poll, by_work, status_of}
 use Rattle.sk_launcher.specs.Polling.{PollState, PollerTurn}
+use Rattle.sk_launcher.specs.Teams.{AreDone, Team}
 use Rattle.sk_launcher.specs.Turning.{WentOn}
-use Rattle.sk_launcher.specs.Working.{WorkState, WorkerTurn, settings}
+use Rattle.sk_launcher.specs.Working.{WorkState, WorkerTurn, own_team, settings}
 use Rattle.sk_launcher.specs.declared.counts.Counts.{Counts}
 use Rattle.sk_launcher.specs.declared.launch_fault.LaunchFault.{LaunchFault}
 use Rattle.sk_launcher.specs.declared.launch_fault.LaunchFault.TheVariants as fault
@@ -51,19 +52,20 @@ pub record Hire (Link : Type 0) : Type 0 where
   pub fresh : WorkState Link
   pub joined : WorkState Link
 
--- a door, and the classes of each team that has no worker yet
+-- a door, and the teams that have no worker yet
 pub record Office (Conn : Type 0) : Type 0 where
   pub door : DoorTells Conn
-  pub teams : List (List Bytes)
+  pub teams : List Team
 
-abbrev pub office : {Conn : Type 0} → DoorTells Conn → List (List Bytes) → Office Conn
+abbrev pub office : {Conn : Type 0} → DoorTells Conn → List Team → Office Conn
 office door teams = record { door = door; teams = teams }
 
--- A worker began over a link to this connection, with these settings, and joined.
+-- A worker began over a link to this connection, with this team and these settings, and joined.
 pub record IsStarted {Conn : Type 0} (Carried : WireState Conn → WireState Conn → List Call → Type 0)
-    (conn : Conn) (own : Settings) (h : Hire (WireState Conn)) : Type 0 where
+    (conn : Conn) (own : Settings) (team : Team) (h : Hire (WireState Conn)) : Type 0 where
   pub link : h.fresh.link ≡ record { conn = conn; pending = []; ended = false }
   pub settings_are : h.fresh.settings ≡ own
+  pub team_is : own_team h.fresh ≡ team
   pub held : h.fresh.held ≡ []
   pub whole : h.fresh.ended ≡ false
   pub fault : h.fresh.fault ≡ None
@@ -74,10 +76,10 @@ pub record IsStarted {Conn : Type 0} (Carried : WireState Conn → WireState Con
 pub record Hires {Conn : Type 0} (Carried : WireState Conn → WireState Conn → List Call → Type 0) (own : List Bytes → Settings)
     (a : Office Conn) (h : Hire (WireState Conn)) (b : Office Conn) : Type 0 where
   pub conn : Conn
-  pub classes : List Bytes
+  pub team : Team
   pub gives : Gives a.door conn b.door
-  pub team : a.teams ≡ classes ∷ b.teams
-  pub starts : IsStarted Carried conn (own classes) h
+  pub next : a.teams ≡ team ∷ b.teams
+  pub starts : IsStarted Carried conn (own team.classes) team h
 
 -- A worker was hired, and this is it once it joined.
 abbrev pub HiresOne : {Conn : Type 0} → (WireState Conn → WireState Conn → List Call → Type 0) → (List Bytes → Settings) →
@@ -124,24 +126,24 @@ abbrev pub work_faults : {Link : Type 0} → List (WorkState Link) → List Laun
 work_faults [] = []
 work_faults (w ∷ workers) = option_to_list (option_map by_work w.fault) ++ work_faults workers
 
--- what workers gave back: the classes of their teams, their tallies, and their faults
+-- what workers gave back: their teams, their tallies, and their faults
 pub record Returns : Type 0 where
-  pub teams : List (List Bytes)
+  pub teams : List Team
   pub tallies : List TallyView
   pub faults : List LaunchFault
 
-abbrev pub returned : List (List Bytes) → List TallyView → List LaunchFault → Returns
+abbrev pub returned : List Team → List TallyView → List LaunchFault → Returns
 returned teams tallies faults = record { teams = teams; tallies = tallies; faults = faults }
 
 -- This worker gave back what it had.
 pub record Returned {Link : Type 0} (gone : WorkState Link) (before after : Returns) : Type 0 where
-  pub teams : after.teams ≡ before.teams ++ gone.settings.classes ∷ []
+  pub teams : after.teams ≡ before.teams ++ own_team gone ∷ []
   pub tallies : after.tallies ≡ before.tallies ++ gone.tally ∷ []
   pub faults : after.faults ≡ before.faults ++ option_to_list (option_map by_work gone.fault)
 
 -- So did all of these.
 pub record AllReturned {Link : Type 0} (gone : List (WorkState Link)) (before after : Returns) : Type 0 where
-  pub teams : after.teams ≡ before.teams ++ map (λ w. w.settings.classes) gone
+  pub teams : after.teams ≡ before.teams ++ map own_team gone
   pub tallies : after.tallies ≡ before.tallies ++ map (λ w. w.tally) gone
   pub faults : after.faults ≡ before.faults ++ work_faults gone
 
@@ -213,9 +215,10 @@ pub record Process {Conn : Type 0} (Carried : WireState Conn → WireState Conn 
   pub all : 0 < turns → faults ≡ [] → AllWorked threads turns done gone
 
 -- The poller got the first connection, and took one turn or met a fault there; the process went on; and its answer is the counts of all workers, where
--- there was no fault, and else a fault with the least status. Where the line has no number of turns there are no counts.
+-- there was no fault, and else a fault with the least status. Where the line has no number of turns there are no counts. The jobs that were done are
+-- the runs that the teams told and that returned.
 pub record Launch {Conn : Type 0} (Carried : WireState Conn → WireState Conn → List Call → Type 0) (DoorFailed : Type 0) (line : WorkLine)
-    (before after : DoorTells Conn) (teams : List (List Bytes)) (result : Result Counts LaunchFault) : Type 0 where
+    (before after : DoorTells Conn) (teams teams' : List Team) (result : Result Counts LaunchFault) : Type 0 where
   pub conn : Conn
   pub door_first : DoorTells Conn
   pub fresh : PollState (WireState Conn)
@@ -229,12 +232,13 @@ pub record Launch {Conn : Type 0} (Carried : WireState Conn → WireState Conn �
   pub process : Process Carried DoorFailed (settings line.ident line.order line.prefetch) line.threads line.turns begun (office door_first teams) after faults counts
   pub answered : IsAnswer faults counts result
   pub some : IfOk result (λ _. 0 < line.turns)
+  pub done : IfOk result (λ counts. AreDone teams teams' counts.done)
 
--- What a launcher did with the line, a door and teams that have these classes, and what it answered. There was no connection for the poller, or no memory;
+-- What a launcher did with the line, a door and teams, as they were before and after, and what it answered. There was no connection for the poller, or no memory;
 -- or it went on.
 pub data Launched {Conn : Type 0} (Carried : WireState Conn → WireState Conn → List Call → Type 0) (DoorFailed : Type 0) (line : WorkLine)
-    (before after : DoorTells Conn) (teams : List (List Bytes)) : Result Counts LaunchFault → Type 0 where
-  closed : DoorFailed → after ≡ before → Launched Carried DoorFailed line before after teams (Err fault.Door)
-  starved : after ≡ before → Launched Carried DoorFailed line before after teams (Err fault.Memory)
-  launched : (result : Result Counts LaunchFault) → Launch Carried DoorFailed line before after teams result →
-      Launched Carried DoorFailed line before after teams result
+    (before after : DoorTells Conn) (teams teams' : List Team) : Result Counts LaunchFault → Type 0 where
+  closed : DoorFailed → after ≡ before → Launched Carried DoorFailed line before after teams teams' (Err fault.Door)
+  starved : after ≡ before → Launched Carried DoorFailed line before after teams teams' (Err fault.Memory)
+  launched : (result : Result Counts LaunchFault) → Launch Carried DoorFailed line before after teams teams' result →
+      Launched Carried DoorFailed line before after teams teams' result

@@ -1,4 +1,5 @@
 pub mod Counting
+pub mod Teams
 pub mod Turning
 pub mod TurningLaws
 pub mod Working

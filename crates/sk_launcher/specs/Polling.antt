@@ -4,6 +4,7 @@ use Rattle.sk_link.specs.Call.{Call}
 use Rattle.sk_poller.specs.Stage.{PollTurn, Watch, watch_of}
 use Rattle.sk_poller.specs.declared.report.PollFault.{PollFault}
 use Rattle.sk_poller.specs.declared.report.PollReport.{PollReport}
+use Rattle.sk_launcher.specs.Turning.{Advances, WentOn}
 use Rattle.sk_launcher.specs.declared.poller_thread.PollerThread.{PollerThread}
 
 -- A poller with its link, the moments and words that its clock and its dice are going to give, and what came of its turns.
@@ -43,6 +44,10 @@ pub record PollerTurn {Link : Type 0} (Carried : Link → Link → List Call →
   pub turn : PollTurn (Carried a.link b.link) a.moments b.moments a.words b.words a.watch result
   pub watch_same : b.watch ≡ a.watch
   pub noted : IsNoted a result b
+
+-- A poller went on with its turns, and took no more than so many in all.
+abbrev pub PollerAdvances : {Link : Type 0} → (Link → Link → List Call → Type 0) → ℕ → PollState Link → PollState Link → Type 0
+PollerAdvances Carried turns a b = Advances (WentOn (PollerTurn Carried)) (λ p. p.taken) turns a b
 
 -- ## Laws of a turn
 

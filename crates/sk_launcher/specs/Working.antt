@@ -1,5 +1,5 @@
--- The turns of a worker in its thread, each with the link, the clock and the dice of that thread. (What jobs tell of their runs,
--- and what delay rules answered, is told by each turn itself, and not here.)
+-- The turns of a worker in its thread, each with the link, the jobs, the clock and the dice of that thread. (What delay rules answered is told by
+-- each turn itself, and not here.)
 use denote.Param.Members.{Mut}
 use Rattle.std.specs.Prelude.{◌≡◌, ◌+◌, ℕ, Bool, true, false, List, map, Option, Some, None, Result, Ok, Err}
 use Rattle.sk_base.specs.Yields.{YieldsAll}
@@ -7,11 +7,14 @@ use Rattle.sk_resp.specs.Spelling.{Bytes}
 use Rattle.sk_link.specs.Call.{Call}
 use Rattle.sk_policy.specs.Order.{Order}
 use Rattle.sk_worker.specs.Event.{Event}
+use Rattle.sk_worker.specs.Run.{Run, RunsTold}
 use Rattle.sk_worker.specs.Stage.{Settings}
 use Rattle.sk_worker.specs.Turn.{Parts, TurnTranscript}
 use Rattle.sk_worker.specs.declared.turn.Turn.{Turn}
 use Rattle.sk_worker.specs.declared.turn.WorkFault.{WorkFault}
 use Rattle.sk_launcher.specs.Counting.{TallyView, counted}
+use Rattle.sk_launcher.specs.Teams.{Team, team_of}
+use Rattle.sk_launcher.specs.Turning.{Advances, WentOn}
 use Rattle.sk_launcher.specs.declared.worker_thread.WorkerThread.{WorkerThread}
 
 -- ## What is seen
@@ -22,6 +25,8 @@ pub record WorkState (Link : Type 0) : Type 0 where
   pub moments : Option (ℕ → ℕ)
   pub words : Option (ℕ → ℕ)
   pub settings : Settings
+  -- what its jobs tell of their runs
+  pub told : List (Option (List Run))
   -- the jobs in hand, the oldest first
   pub held : List Bytes
   -- it had a fault
@@ -35,12 +40,14 @@ settings ident order prefetch classes = record { ident = ident; order = order; p
 -- What a thread of a worker has. A worker keeps boxed jobs and delay rules: what these are made of is as it may be.
 module _ {Rule Job : Type 0} {OfRule : Rule → Type 0} {OfJob : Job → Type 0} {Delays : Mut ((rule : Rule) × OfRule rule) (ℕ × Unit {0}) ℕ} where
   -- a worker in its thread, by what its clock and its dice tell
-  abbrev pub worker_of : {Link C D : Type 0} → (C → Option (ℕ → ℕ)) → (D → Option (ℕ → ℕ)) → WorkerThread Link C D Rule Job OfRule OfJob Delays → WorkState Link
-  worker_of moments words w = record {
+  abbrev pub worker_of : {Link C D : Type 0} → (C → Option (ℕ → ℕ)) → (D → Option (ℕ → ℕ)) → ((job : Job) × OfJob job → Option (List Run)) →
+      WorkerThread Link C D Rule Job OfRule OfJob Delays → WorkState Link
+  worker_of moments words runs w = record {
     link = w.link;
     moments = moments w.clock;
     words = words w.dice;
     settings = settings w.processor.worker.ident w.processor.worker.order w.processor.worker.prefetch w.processor.registry.classes;
+    told = (team_of runs w.processor.registry).told;
     held = w.processor.worker.held.items;
     ended = w.processor.worker.ended;
     fault = w.processor.fault;
@@ -48,11 +55,17 @@ module _ {Rule Job : Type 0} {OfRule : Rule → Type 0} {OfJob : Job → Type 0}
   }
 
   -- one whose dice tells nothing, as a process gives it
-  abbrev pub hired_worker : {Link C D : Type 0} → (C → Option (ℕ → ℕ)) → WorkerThread Link C D Rule Job OfRule OfJob Delays → WorkState Link
-  hired_worker moments w = worker_of moments (λ _. None) w
+  abbrev pub hired_worker : {Link C D : Type 0} → (C → Option (ℕ → ℕ)) → ((job : Job) × OfJob job → Option (List Run)) →
+      WorkerThread Link C D Rule Job OfRule OfJob Delays → WorkState Link
+  hired_worker moments runs w = worker_of moments (λ _. None) runs w
 
-  abbrev pub hired_workers : {Link C D : Type 0} → (C → Option (ℕ → ℕ)) → List (WorkerThread Link C D Rule Job OfRule OfJob Delays) → List (WorkState Link)
-  hired_workers moments staff = map (λ w. hired_worker moments w) staff
+  abbrev pub hired_workers : {Link C D : Type 0} → (C → Option (ℕ → ℕ)) → ((job : Job) × OfJob job → Option (List Run)) →
+      List (WorkerThread Link C D Rule Job OfRule OfJob Delays) → List (WorkState Link)
+  hired_workers moments runs staff = map (λ w. hired_worker moments runs w) staff
+
+-- the team of a worker
+abbrev pub own_team : {Link : Type 0} → WorkState Link → Team
+own_team w = record { classes = w.settings.classes; told = w.told }
 
 -- ## Turns
 
@@ -66,7 +79,7 @@ pub record WorkerTurn {Link : Type 0} (Carried : Link → Link → List Call →
     (a : WorkState Link) (result : Result Turn WorkFault) (b : WorkState Link) : Type 0 where
   pub whole : a.ended ≡ false
   pub events : List Event
-  pub parts : Parts (λ calls. Carried a.link b.link calls) (λ runs. Unit {0})
+  pub parts : Parts (λ calls. Carried a.link b.link calls) (λ runs. RunsTold a.settings.classes runs a.told b.told)
       (λ moments. YieldsAll a.moments moments b.moments) (λ words. YieldsAll a.words words b.words) (λ choices. Unit {0}) events
   pub told : TurnTranscript a.settings a.held events b.held result
   pub settings_same : b.settings ≡ a.settings
@@ -81,3 +94,7 @@ begins Carried a b result turn = turn.whole
 pub ends : {Link : Type 0} (Carried : Link → Link → List Call → Type 0) (a b : WorkState Link) (fault : WorkFault) →
     WorkerTurn Carried a (Err fault) b → b.ended ≡ true
 ends Carried a b fault turn = turn.noted.0
+
+-- A worker went on with its turns, and took no more than so many in all.
+abbrev pub WorkerAdvances : {Link : Type 0} → (Link → Link → List Call → Type 0) → ℕ → WorkState Link → WorkState Link → Type 0
+WorkerAdvances Carried turns a b = Advances (WentOn (WorkerTurn Carried)) (λ w. w.tally.taken) turns a b

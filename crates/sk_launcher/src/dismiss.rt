@@ -2,9 +2,10 @@
 ghost use Rattle.std.specs.Prelude.{◌≡◌, ◌≤◌, ◌<◌, ◌+◌, ◌∷◌, ◌++◌, [], List, None, map, length, vec_len, vec_capacity, option_map, option_to_list, IfOk};
 ghost use Rattle.std.specs.List.{AllZip};
 ghost use Rattle.sk_base.specs.declared.limits.TheConstants.{MOST_WORKERS};
-ghost use Rattle.sk_launcher.specs.Connections.{Each, Keeping, classes_of, door_tells};
+ghost use Rattle.sk_launcher.specs.Connections.{Each, Keeping, door_tells};
 ghost use Rattle.sk_launcher.specs.Faults.{by_work};
 ghost use Rattle.sk_launcher.specs.Launching.{AllReturned, Leaves, Returned, returned};
+ghost use Rattle.sk_launcher.specs.Teams.{teams_of};
 ghost use Rattle.sk_launcher.specs.Working.{WorkState, hired_worker};
 ghost use Rattle.sk_link.specs.Wire.{WireCarries, WireState};
 
@@ -64,10 +65,10 @@ fn dismiss<N: Door, C: Clock>(
     requires tallies { vec_len returns.old.tallies < vec_capacity returns.old.tallies }
     requires faults { vec_len returns.old.faults < vec_capacity returns.old.faults }
     ensures gone { (gone : WorkState (WireState N.Conn))
-        × Leaves (WireCarries N.Conn.taken N.Conn.left N.Conn.read_faults N.Conn.write_faults) (hired_worker C.moments worker) gone
+        × Leaves (WireCarries N.Conn.taken N.Conn.left N.Conn.read_faults N.Conn.write_faults) (hired_worker C.moments runs worker) gone
         × Keeping (door_tells (N.dialled net.old) (N.kept net.old)) gone.link.conn (door_tells (N.dialled net.new) (N.kept net.new))
-        × Returned gone (returned (classes_of returns.old.teams.items) returns.old.tallies.items returns.old.faults.items)
-        (returned (classes_of returns.new.teams.items) returns.new.tallies.items returns.new.faults.items) }
+        × Returned gone (returned (teams_of runs returns.old.teams.items) returns.old.tallies.items returns.old.faults.items)
+        (returned (teams_of runs returns.new.teams.items) returns.new.tallies.items returns.new.faults.items) }
     ensures room { (vec_capacity returns.new.teams ≡ vec_capacity returns.old.teams) × (vec_capacity returns.new.tallies ≡ vec_capacity returns.old.tallies)
         × (vec_capacity returns.new.faults ≡ vec_capacity returns.old.faults) }
     ensures few { (vec_len returns.new.teams ≡ vec_len returns.old.teams + 1) × (vec_len returns.new.tallies ≡ vec_len returns.old.tallies + 1)
@@ -104,12 +105,12 @@ pub(crate) fn dismiss_all<N: Door, C: Clock>(
     requires tallies { vec_len returns.old.tallies + vec_len staff ≤ vec_capacity returns.old.tallies }
     requires faults { vec_len returns.old.faults + vec_len staff ≤ vec_capacity returns.old.faults }
     ensures gone { (gone : List (WorkState (WireState N.Conn)))
-        × AllZip (λ w gone. Leaves (WireCarries N.Conn.taken N.Conn.left N.Conn.read_faults N.Conn.write_faults) (hired_worker C.moments w) gone)
+        × AllZip (λ w gone. Leaves (WireCarries N.Conn.taken N.Conn.left N.Conn.read_faults N.Conn.write_faults) (hired_worker C.moments runs w) gone)
         staff.items gone
         × Each (λ a gone b. Keeping a gone.link.conn b) (door_tells (N.dialled net.old) (N.kept net.old)) gone
         (door_tells (N.dialled net.new) (N.kept net.new))
-        × AllReturned gone (returned (classes_of returns.old.teams.items) returns.old.tallies.items returns.old.faults.items)
-        (returned (classes_of returns.new.teams.items) returns.new.tallies.items returns.new.faults.items) }
+        × AllReturned gone (returned (teams_of runs returns.old.teams.items) returns.old.tallies.items returns.old.faults.items)
+        (returned (teams_of runs returns.new.teams.items) returns.new.tallies.items returns.new.faults.items) }
     ensures room { (vec_capacity returns.new.teams ≡ vec_capacity returns.old.teams) × (vec_capacity returns.new.faults ≡ vec_capacity returns.old.faults) }
     ensures few { (vec_len returns.new.teams ≡ vec_len returns.old.teams + vec_len staff)
         × (vec_len returns.new.faults ≤ vec_len returns.old.faults + vec_len staff) }

@@ -2,13 +2,13 @@
 ghost use Rattle.std.specs.Prelude.{◌≡◌, ◌≤◌, ◌<◌, ◌+◌, ◌∷◌, ◌++◌, [], List, None, IfOk, IfErr, OnOk, OnErr, All, false, length, vec_len, vec_capacity};
 ghost use Rattle.sk_base.specs.Outside.{Rose};
 ghost use Rattle.sk_base.specs.declared.limits.TheConstants.{MOST_PREFETCH};
-ghost use Rattle.sk_launcher.specs.Connections.{Gives, classes_of, door_tells};
+ghost use Rattle.sk_launcher.specs.Connections.{Gives, door_tells};
 ghost use Rattle.sk_launcher.specs.Launching.{Hindered, Hire, HiresAll, HiresOne, IsStarted, office};
+ghost use Rattle.sk_launcher.specs.Teams.{team_of, teams_of};
 ghost use Rattle.sk_launcher.specs.Working.{hired_worker, hired_workers, settings};
 ghost use Rattle.sk_link.specs.Wire.{WireCarries, WireState};
 
 use crate::LaunchFault;
-use crate::component::Component;
 use crate::processor::Processor;
 use crate::tally::Tally;
 use crate::worker_thread::WorkerThread;
@@ -68,7 +68,7 @@ fn start<N: Door, C: Clock>(
 ) -> WorkerThread<WireLink<N::Conn>, C, PcgDice>
     requires { (1 ≤ prefetch) × (prefetch ≤ MOST_PREFETCH) }
     ensures { (h : Hire (WireState N.Conn)) × IsStarted (WireCarries N.Conn.taken N.Conn.left N.Conn.read_faults N.Conn.write_faults) post.conn
-        (settings post.ident post.order prefetch registry.classes) h × (hired_worker C.moments result ≡ h.joined) }
+        (settings post.ident post.order prefetch registry.classes) (team_of runs registry) h × (hired_worker C.moments runs result ≡ h.joined) }
 {
     let worker = Worker::new(alloc, post.ident, post.order, plain, prefetch as usize);
     let mut thread = WorkerThread {
@@ -100,8 +100,8 @@ fn hire_one<N: Door, C: Clock>(
     requires dice { 0 < length outfit.old.dice.items }
     ensures hired { IfOk result (λ worker. HiresOne (WireCarries N.Conn.taken N.Conn.left N.Conn.read_faults N.Conn.write_faults)
         (settings line.now.ident line.now.order line.now.prefetch)
-        (office (door_tells (N.dialled net.old) (N.kept net.old)) (classes_of outfit.old.teams.items)) (hired_worker C.moments worker)
-        (office (door_tells (N.dialled net.new) (N.kept net.new)) (classes_of outfit.new.teams.items))) }
+        (office (door_tells (N.dialled net.old) (N.kept net.old)) (teams_of runs outfit.old.teams.items)) (hired_worker C.moments runs worker)
+        (office (door_tells (N.dialled net.new) (N.kept net.new)) (teams_of runs outfit.new.teams.items))) }
     ensures used { OnOk result ((length outfit.new.teams.items + 1 ≡ length outfit.old.teams.items)
         × (length outfit.new.rules.items + 1 ≡ length outfit.old.rules.items) × (length outfit.new.dice.items + 1 ≡ length outfit.old.dice.items)) }
     ensures err { OnErr result (((door_tells (N.dialled net.new) (N.kept net.new)) ≡ (door_tells (N.dialled net.old) (N.kept net.old))) × (outfit.new ≡ outfit.old)) }
@@ -137,8 +137,8 @@ pub(crate) fn hire_all<N: Door, C: Clock>(
     requires dice { line.now.threads ≤ length outfit.old.dice.items }
     ensures hired { HiresAll (WireCarries N.Conn.taken N.Conn.left N.Conn.read_faults N.Conn.write_faults)
         (settings line.now.ident line.now.order line.now.prefetch)
-        (office (door_tells (N.dialled net.old) (N.kept net.old)) (classes_of outfit.old.teams.items)) (hired_workers C.moments staff.new.items)
-        (office (door_tells (N.dialled net.new) (N.kept net.new)) (classes_of outfit.new.teams.items)) }
+        (office (door_tells (N.dialled net.old) (N.kept net.old)) (teams_of runs outfit.old.teams.items)) (hired_workers C.moments runs staff.new.items)
+        (office (door_tells (N.dialled net.new) (N.kept net.new)) (teams_of runs outfit.new.teams.items)) }
     ensures enough { OnOk result (All (λ w. w.processor.worker.ended ≡ false) staff.new.items → vec_len staff.new ≡ line.now.threads) }
     ensures few { vec_len staff.new ≤ line.now.threads }
     ensures left { length outfit.new.teams.items + vec_len staff.new ≡ length outfit.old.teams.items }

@@ -9,12 +9,12 @@ ghost use Rattle.sk_launcher.specs.Launching.{AllWorked, AreWhole, Employs, Have
 ghost use Rattle.sk_launcher.specs.Faults.{by_poll};
 ghost use Rattle.sk_launcher.specs.Polling.{PollState, PollerTurn, own_poller};
 ghost use Rattle.sk_launcher.specs.Turning.{WentOn};
+ghost use Rattle.sk_launcher.specs.Teams.{HaveReturned, done_in, teams_of};
 ghost use Rattle.sk_launcher.specs.Working.{hired_workers, settings};
 ghost use Rattle.sk_link.specs.Wire.{WireCarries, WireState};
 ghost use Rattle.sk_poller.specs.Loop.{is_loop};
 ghost use Rattle.sk_poller.specs.Stage.{watch_of};
 
-use crate::component::Component;
 use crate::dismiss::{Returns, dismiss_all};
 use crate::faults::least;
 use crate::hire::{Outfit, hire_all};
@@ -173,11 +173,11 @@ fn run_threads<R: Threads + Wait + Sync, L: Link + Drop + Send, C: Clock + Send>
 )
     requires { 0 < vec_len staff.old }
     ensures worked { InThreads L.carried (own_poller C.moments poller.old) (own_poller C.moments poller.new)
-        (hired_workers C.moments staff.old.items) (hired_workers C.moments staff.new.items) }
+        (hired_workers C.moments runs staff.old.items) (hired_workers C.moments runs staff.new.items) }
     ensures same { vec_len staff.new ≡ vec_len staff.old }
-    ensures taken { HaveAtMost shared.now.polls shared.now.turns (own_poller C.moments poller.old) (hired_workers C.moments staff.old.items)
-        → AreWhole (own_poller C.moments poller.new) (hired_workers C.moments staff.new.items)
-        → HaveTaken shared.now.polls shared.now.turns (own_poller C.moments poller.new) (hired_workers C.moments staff.new.items) }
+    ensures taken { HaveAtMost shared.now.polls shared.now.turns (own_poller C.moments poller.old) (hired_workers C.moments runs staff.old.items)
+        → AreWhole (own_poller C.moments poller.new) (hired_workers C.moments runs staff.new.items)
+        → HaveTaken shared.now.polls shared.now.turns (own_poller C.moments poller.new) (hired_workers C.moments runs staff.new.items) }
 {
     run_on(rt, shared, poller, staff.as_mut_slice());
 }
@@ -193,12 +193,12 @@ fn work<R: Threads + Wait + Sync, N: Door, C: Clock + Send>(
     requires { 1 ≤ line.now.threads }
     ensures worked { InThreads (WireCarries N.Conn.taken N.Conn.left N.Conn.read_faults N.Conn.write_faults)
         (own_poller C.moments poller.old) (own_poller C.moments poller.new)
-        (hired_workers C.moments staff.old.items) (hired_workers C.moments staff.new.items) }
+        (hired_workers C.moments runs staff.old.items) (hired_workers C.moments runs staff.new.items) }
     ensures same { vec_len staff.new ≡ vec_len staff.old }
     ensures taken { 0 < line.now.turns → vec_len staff.old ≡ line.now.threads
-        → HaveAtMost 1 0 (own_poller C.moments poller.old) (hired_workers C.moments staff.old.items)
-        → AreWhole (own_poller C.moments poller.new) (hired_workers C.moments staff.new.items)
-        → HaveTaken (line.now.turns + 1) line.now.turns (own_poller C.moments poller.new) (hired_workers C.moments staff.new.items) }
+        → HaveAtMost 1 0 (own_poller C.moments poller.old) (hired_workers C.moments runs staff.old.items)
+        → AreWhole (own_poller C.moments poller.new) (hired_workers C.moments runs staff.new.items)
+        → HaveTaken (line.now.turns + 1) line.now.turns (own_poller C.moments poller.new) (hired_workers C.moments runs staff.new.items) }
 {
     if staff.len() != line.threads as usize {
         return;
@@ -228,17 +228,17 @@ fn employ<R: Threads + Wait + Sync, N: Door, C: Clock + Send>(
     requires begun { poller.old.taken ≤ 1 }
     ensures employed { Employs (WireCarries N.Conn.taken N.Conn.left N.Conn.read_faults N.Conn.write_faults)
         (settings line.now.ident line.now.order line.now.prefetch) (own_poller C.moments poller.old) (own_poller C.moments poller.new)
-        (office (door_tells (N.dialled net.old) (N.kept net.old)) (classes_of outfit.old.teams.items))
-        (office (door_tells (N.dialled net.new) (N.kept net.new)) (classes_of outfit.new.teams.items))
-        (hired_workers C.moments staff.new.items) }
+        (office (door_tells (N.dialled net.old) (N.kept net.old)) (teams_of runs outfit.old.teams.items))
+        (office (door_tells (N.dialled net.new) (N.kept net.new)) (teams_of runs outfit.new.teams.items))
+        (hired_workers C.moments runs staff.new.items) }
     ensures cause { Hindered (Rose (N.door_faults net.old) (N.door_faults net.new)) (hindrance_of result) }
-    ensures all { OnOk result (0 < line.now.turns → AreWhole (own_poller C.moments poller.new) (hired_workers C.moments staff.new.items)
-        → AllWorked line.now.threads line.now.turns (own_poller C.moments poller.new) (hired_workers C.moments staff.new.items)) }
+    ensures all { OnOk result (0 < line.now.turns → AreWhole (own_poller C.moments poller.new) (hired_workers C.moments runs staff.new.items)
+        → AllWorked line.now.threads line.now.turns (own_poller C.moments poller.new) (hired_workers C.moments runs staff.new.items)) }
     ensures few { vec_len staff.new ≤ line.now.threads }
     ensures left { length outfit.new.teams.items + vec_len staff.new ≡ length outfit.old.teams.items }
     ensures later { N.door_faults net.old ≤ N.door_faults net.new }
 {
-    if poller.is_broken() {
+    if poller.fault.is_some() {
         return Ok(());
     }
     let hired = hire_all(alloc, line, outfit, net, clock, staff);
@@ -276,7 +276,7 @@ fn dismiss_poller<N: Door, C: Clock>(
 // The teams that had no worker come back behind the others.
 fn return_teams(mut left: VecDeque<Registry>, teams: &mut Vec<Registry>)
     requires { vec_len teams.old + length left.items ≤ vec_capacity teams.old }
-    ensures { classes_of teams.new.items ≡ classes_of teams.old.items ++ classes_of left.items }
+    ensures { teams_of runs teams.new.items ≡ teams_of runs teams.old.items ++ teams_of runs left.items }
 {
     while let Some(team) = left.pop_front() {
         teams.push_reserved(team);
@@ -334,9 +334,11 @@ fn run_process<R: Threads + Wait + Sync, N: Door, C: Clock + Send>(
     ensures process { Process (WireCarries N.Conn.taken N.Conn.left N.Conn.read_faults N.Conn.write_faults)
         (Rose (N.door_faults net.old) (N.door_faults net.new)) (settings line.now.ident line.now.order line.now.prefetch)
         line.now.threads line.now.turns (own_poller C.moments poller)
-        (office (door_tells (N.dialled net.old) (N.kept net.old)) (classes_of outfit.teams.items))
+        (office (door_tells (N.dialled net.old) (N.kept net.old)) (teams_of runs outfit.teams.items))
         (door_tells (N.dialled net.new) (N.kept net.new)) returns.new.faults.items (map (λ t. t.counts) returns.new.tallies.items) }
     ensures teams { classes_of returns.new.teams.items ≡ classes_of outfit.teams.items }
+    ensures done { returns.new.faults.items ≡ []
+        → HaveReturned (teams_of runs outfit.teams.items) (teams_of runs returns.new.teams.items) (done_in (map (λ t. t.counts) returns.new.tallies.items)) }
     ensures later { N.door_faults net.old ≤ N.door_faults net.new }
 {
     let hired = employ(
@@ -383,7 +385,7 @@ pub fn launch<R: Threads + Wait + Sync, N: Door, C: Clock + Send, D: Dice>(
     requires loops { list_all is_loop line.loops.items ≡ true }
     ensures told { Launched (WireCarries N.Conn.taken N.Conn.left N.Conn.read_faults N.Conn.write_faults)
         (Rose (N.door_faults net.old) (N.door_faults net.new)) line (door_tells (N.dialled net.old) (N.kept net.old))
-        (door_tells (N.dialled net.new) (N.kept net.new)) (classes_of teams.old.items) result }
+        (door_tells (N.dialled net.new) (N.kept net.new)) (teams_of runs teams.old.items) (teams_of runs teams.new.items) result }
     ensures teams { classes_of teams.new.items ≡ classes_of teams.old.items }
     ensures later { N.door_faults net.old ≤ N.door_faults net.new }
 {

@@ -1,7 +1,6 @@
 //! The threads of a process of workers: a poller and processors, each with a link, a clock and a dice of its own, as Sidekiq's launcher runs them.
 #![tactic(auto)]
 
-mod component;
 mod counts;
 mod dismiss;
 mod faults;

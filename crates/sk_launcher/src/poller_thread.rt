@@ -1,10 +1,9 @@
 // What the thread of the poller has.
-ghost use Rattle.std.specs.Prelude.{◌≡◌, ◌≤◌, ◌<◌, ◌+◌, ◌-◌, ◌^◌, None, false, is_some};
-ghost use Rattle.sk_launcher.specs.Polling.{PollerTurn, begins, ends, poller_of};
+ghost use Rattle.std.specs.Prelude.{◌≡◌, ◌≤◌, ◌<◌, ◌+◌, ◌-◌, ◌^◌, None};
+ghost use Rattle.sk_launcher.specs.Polling.{PollerAdvances, PollerTurn, poller_of};
 ghost use Rattle.sk_launcher.specs.Turning.{WentOn};
-ghost use Rattle.sk_launcher.specs.TurningLaws.{went_on_none, went_on_more};
 
-use crate::component::Component;
+use crate::shared::Shared;
 use sk_base::limits::POLL_PAUSE;
 use sk_base::{Clock, Dice};
 use sk_link::Link;
@@ -42,19 +41,17 @@ impl<L: Link + Drop, C: Clock, D: Dice + Drop> PollerThread<L, C, D> {
             Err(fault) => self.fault = Some(fault),
         }
     }
-}
 
-impl<L: Link + Drop, C: Clock, D: Dice + Drop> Component for PollerThread<L, C, D> {
-    ghost went_on = { λ a b. WentOn (PollerTurn L.carried)
-        (poller_of C.moments D.words a)
-        (poller_of C.moments D.words b) };
-
-    ghost is_broken = { λ a. is_some a.fault };
-
-    ghost taken = { λ a. a.taken };
-
-    /// Pauses, and takes a turn of the poller.
-    fn turn(&mut self, alloc: Global) {
+    // Pauses, and takes a turn of the poller.
+    fn turn(&mut self, alloc: Global)
+        requires whole { self.old.fault ≡ None }
+        requires few { self.old.taken < 2 ^ 64 - 1 }
+        ensures went_on { WentOn (PollerTurn L.carried)
+            (poller_of C.moments D.words self.old)
+            (poller_of C.moments D.words self.new) }
+        ensures taken { self.new.fault ≡ None → self.new.taken ≡ self.old.taken + 1 }
+        ensures most { self.new.taken ≤ self.old.taken + 1 }
+    {
         self.clock.pause(POLL_PAUSE);
         match self
             .poller
@@ -65,15 +62,24 @@ impl<L: Link + Drop, C: Clock, D: Dice + Drop> Component for PollerThread<L, C, 
         }
     }
 
-    fn is_broken(&self) -> bool {
-        self.fault.is_some()
+    /// Takes turns until it has taken as many in all as the threads' poller takes, or it or another thread met a fault.
+    pub fn run(&mut self, shared: &Shared)
+        ensures { PollerAdvances L.carried shared.now.polls
+            (poller_of C.moments D.words self.old)
+            (poller_of C.moments D.words self.new) }
+    {
+        if self.fault.is_some() {
+            return;
+        }
+        for _turn in self.taken..shared.polls {
+            if shared.is_stopped() {
+                return;
+            }
+            self.turn(shared.alloc);
+            if self.fault.is_some() {
+                shared.stop();
+                return;
+            }
+        }
     }
-
-    fn taken(&self) -> u64 {
-        self.taken
-    }
-
-    ghost stays = { λ a. went_on_none _ _ };
-
-    ghost goes_on = { λ a b c p q. went_on_more _ _ (begins _) (ends _) _ _ _ p q };
 }

@@ -1,12 +1,11 @@
 // What the thread of a worker has.
-ghost use Rattle.std.specs.Prelude.{◌≡◌, false};
+ghost use Rattle.std.specs.Prelude.{◌≡◌, ◌≤◌, ◌<◌, ◌+◌, ◌-◌, ◌^◌, false};
 ghost use Rattle.sk_launcher.specs.Launching.{HasJoined, Leaves};
 ghost use Rattle.sk_launcher.specs.Turning.{WentOn};
-ghost use Rattle.sk_launcher.specs.TurningLaws.{went_on_none, went_on_more};
-ghost use Rattle.sk_launcher.specs.Working.{WorkerTurn, begins, ends, worker_of};
+ghost use Rattle.sk_launcher.specs.Working.{WorkerAdvances, WorkerTurn, worker_of};
 
-use crate::component::Component;
 use crate::processor::Processor;
+use crate::shared::Shared;
 use sk_base::limits::IDLE_PAUSE;
 use sk_base::{Clock, Dice};
 use sk_link::Link;
@@ -27,8 +26,8 @@ impl<L: Link + Drop, C: Clock, D: Dice + Drop> WorkerThread<L, C, D> {
     pub fn join(&mut self, alloc: Global)
         requires { self.old.processor.worker.ended ≡ false }
         ensures joined { HasJoined L.carried
-            (worker_of C.moments D.words self.old)
-            (worker_of C.moments D.words self.new) }
+            (worker_of C.moments D.words runs self.old)
+            (worker_of C.moments D.words runs self.new) }
     {
         let processor = &mut self.processor;
         if let Err(fault) = processor.worker.join(alloc, &mut self.link) {
@@ -39,8 +38,8 @@ impl<L: Link + Drop, C: Clock, D: Dice + Drop> WorkerThread<L, C, D> {
     /// The worker leaves, after its last turn: it gives back the jobs that it holds. One that had a fault doesn't.
     pub fn leave(&mut self, alloc: Global)
         ensures left { Leaves L.carried
-            (worker_of C.moments D.words self.old)
-            (worker_of C.moments D.words self.new) }
+            (worker_of C.moments D.words runs self.old)
+            (worker_of C.moments D.words runs self.new) }
     {
         let processor = &mut self.processor;
         if processor.worker.ended {
@@ -52,17 +51,17 @@ impl<L: Link + Drop, C: Clock, D: Dice + Drop> WorkerThread<L, C, D> {
     }
 }
 
-impl<L: Link + Drop, C: Clock, D: Dice + Drop> Component for WorkerThread<L, C, D> {
-    ghost went_on = { λ a b. WentOn (WorkerTurn L.carried)
-        (worker_of C.moments D.words a)
-        (worker_of C.moments D.words b) };
-
-    ghost is_broken = { λ a. a.processor.worker.ended };
-
-    ghost taken = { λ a. a.processor.tally.taken };
-
-    /// Takes a turn of the worker. It pauses where it found no job.
-    fn turn(&mut self, alloc: Global) {
+impl<L: Link + Drop, C: Clock, D: Dice + Drop> WorkerThread<L, C, D> {
+    // Takes a turn of the worker. It pauses where it found no job.
+    fn turn(&mut self, alloc: Global)
+        requires whole { self.old.processor.worker.ended ≡ false }
+        requires few { self.old.processor.tally.taken < 2 ^ 64 - 1 }
+        ensures went_on { WentOn (WorkerTurn L.carried)
+            (worker_of C.moments D.words runs self.old)
+            (worker_of C.moments D.words runs self.new) }
+        ensures taken { self.new.processor.worker.ended ≡ false → self.new.processor.tally.taken ≡ self.old.processor.tally.taken + 1 }
+        ensures most { self.new.processor.tally.taken ≤ self.old.processor.tally.taken + 1 }
+    {
         let processor = &mut self.processor;
         match processor.worker.turn(
             alloc,
@@ -81,15 +80,38 @@ impl<L: Link + Drop, C: Clock, D: Dice + Drop> Component for WorkerThread<L, C, 
         }
     }
 
-    fn is_broken(&self) -> bool {
+    /// It met a fault.
+    pub fn is_broken(&self) -> bool
+        ensures { result ≡ self.now.processor.worker.ended }
+    {
         self.processor.worker.ended
     }
 
-    fn taken(&self) -> u64 {
+    /// How many turns had an answer.
+    pub fn taken(&self) -> u64
+        ensures { result ≡ self.now.processor.tally.taken }
+    {
         self.processor.tally.taken()
     }
 
-    ghost stays = { λ a. went_on_none _ _ };
-
-    ghost goes_on = { λ a b c p q. went_on_more _ _ (begins _) (ends _) _ _ _ p q };
+    /// Takes turns until it has taken so many in all, or it or another thread met a fault.
+    pub fn run(&mut self, shared: &Shared)
+        ensures { WorkerAdvances L.carried shared.now.turns
+            (worker_of C.moments D.words runs self.old)
+            (worker_of C.moments D.words runs self.new) }
+    {
+        if self.is_broken() {
+            return;
+        }
+        for _turn in self.taken()..shared.turns {
+            if shared.is_stopped() {
+                return;
+            }
+            self.turn(shared.alloc);
+            if self.is_broken() {
+                shared.stop();
+                return;
+            }
+        }
+    }
 }

@@ -89,7 +89,7 @@ calls-append (asked call ∷ xs) ys = ap (λ cs. call ∷ cs) (calls-append xs y
 calls-append (ran run ∷ xs) ys = calls-append xs ys
 calls-append (chose choice ∷ xs) ys = calls-append xs ys
 
-runs-append : (xs ys : List Event) → runs (xs ++ ys) ≡ runs xs ++ runs ys
+pub runs-append : (xs ys : List Event) → runs (xs ++ ys) ≡ runs xs ++ runs ys
 runs-append [] ys = refl
 runs-append (ordered drawn ∷ xs) ys = runs-append xs ys
 runs-append (asked call ∷ xs) ys = runs-append xs ys

@@ -10,3 +10,4 @@ pub mod Lost
 pub mod Started
 pub mod Quiet
 pub mod Works
+pub mod Done

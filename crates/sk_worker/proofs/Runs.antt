@@ -1,7 +1,8 @@
 -- What the jobs of a registry tell after one of them ran.
-use Rattle.std.proofs.Common.{◌≡◌, ◌≢◌, ◌<◌, ◌==◌, inl, inr, ℕ, false, cond, List, [], ◌∷◌, map, length, get_or, set, refl, sym, subst, ap, ◌∙◌, Option, Some, None, unwrap_or, option_map, append-nil, eq-eqb}
+use Rattle.std.proofs.Common.{◌≡◌, ◌≢◌, ◌<◌, ◌==◌, ◌++◌, append_assoc, inl, inr, ℕ, false, cond, List, [], ◌∷◌, map, length, get_or, set, refl, sym, subst, ap, ◌∙◌, Option, Some, None, unwrap_or, option_map, append-nil, eq-eqb}
 use Rattle.std.proofs.lemmas.List.{get_or-set_same, get_or-set_other, get_or-map, map-set, length-map}
 use Rattle.std.proofs.lemmas.Bool.Decides.{eqb_tells}
+use Rattle.std.proofs.lemmas.List.Elements.{filter-append}
 use Rattle.std.proofs.lemmas.Bool.{cond-true, cond-false, ne_eqb}
 use Rattle.sk_base.specs.Outside.{Takes}
 use Rattle.sk_resp.specs.Spelling.{Bytes}
@@ -14,6 +15,20 @@ takes-none (Some told) = (told, refl, sym (append-nil told))
 
 pub RunsTold-none : (classes : List Bytes) (told : List (Option (List Run))) → RunsTold classes [] told told
 RunsTold-none classes told = record { each = λ i. takes-none (get_or told i None) }
+
+-- what is told first, and then more
+pub takes-more : {A : Type 0} (before mid after : Option (List A)) (first more : List A) → Takes before first mid → Takes mid more after → Takes before (first ++ more) after
+takes-more before mid None first more p q = tt
+takes-more before mid (Some after) first more p (told, is, grown) =
+    let (begun, was, first_is) = subst (λ o. Takes before first o) is p in
+    (begun, was, grown ∙ ap (λ xs. xs ++ more) first_is ∙ append_assoc begun first more)
+
+pub RunsTold-more : (classes : List Bytes) (first more : List Run) (before mid after : List (Option (List Run))) → RunsTold classes first before mid →
+    RunsTold classes more mid after → RunsTold classes (first ++ more) before after
+RunsTold-more classes first more before mid after p q = record {
+  each = λ i. subst (λ runs. Takes (get_or before i None) runs (get_or after i None)) (sym (filter-append _ first more))
+      (takes-more (get_or before i None) (get_or mid i None) (get_or after i None) (runs_at classes i first) (runs_at classes i more) (p.each i) (q.each i));
+}
 
 -- the place is that of the run's class, or another
 one_run : (classes : List Bytes) (run : Run) (k i : ℕ) → place_of classes run.head.class ≡ Some k → runs_at classes i (run ∷ []) ≡ cond (k == i) (run ∷ []) []

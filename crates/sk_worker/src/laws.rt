@@ -4,7 +4,7 @@ ghost use Rattle.sk_resp.specs.Spelling.{Bytes};
 ghost use Rattle.sk_link.specs.Walk.{Walk};
 ghost use Rattle.sk_worker.specs.Event.{Event};
 ghost use Rattle.sk_worker.specs.Forms.{Form, ReturnedForm};
-ghost use Rattle.sk_worker.specs.Laws.{EmptyTurnsFindNoJob, StartedJobsRunOnce, TurnsWithoutJobsAreEmpty};
+ghost use Rattle.sk_worker.specs.Laws.{DoneTurnsReturned, EmptyTurnsFindNoJob, StartedJobsRunOnce, TurnsWithoutJobsAreEmpty};
 ghost use Rattle.sk_worker.specs.Stage.{Step, Settings, holding, over, returned};
 ghost use Rattle.sk_worker.specs.declared.turn.Turn.{Turn};
 
@@ -34,4 +34,10 @@ pub fn a_started_job_runs_once()
 pub fn ok_is_said_after_a_run_that_returned()
     ensures { (w : Settings) (c said : Bytes) (events : List Event)
         → Walk (Step w) (holding c) events (returned said) → ReturnedForm w c said events }
+{}
+
+/// A turn that answers [`crate::Turn::Done`] had one run that returned, and every other turn without a fault had none. So the turns that were done are
+/// as many as the runs that returned.
+pub fn a_done_turn_has_one_run_that_returned()
+    ensures { (w : Settings) → DoneTurnsReturned w }
 {}

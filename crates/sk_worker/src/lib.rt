@@ -16,8 +16,9 @@ mod worker;
 
 pub use job::{Job, Outcome, Raised};
 pub use laws::{
-    a_started_job_runs_once, a_turn_has_one_of_four_forms, a_turn_that_finds_no_job_is_empty,
-    an_empty_turn_found_each_queue_empty, ok_is_said_after_a_run_that_returned,
+    a_done_turn_has_one_run_that_returned, a_started_job_runs_once, a_turn_has_one_of_four_forms,
+    a_turn_that_finds_no_job_is_empty, an_empty_turn_found_each_queue_empty,
+    ok_is_said_after_a_run_that_returned,
 };
 pub use registry::{AddFault, Classes, Registry, Slot};
 pub use std::alloc::AllocError as Memory;

@@ -1,18 +1,19 @@
 use Rattle.std.proofs.Common.{◌≡◌, ◌∙◌, ap, map, refl, rules, sym, subst}
 use Rattle.sk_base.specs.Outside.{Rose}
 use Rattle.sk_link.specs.Wire.{WireCarries}
-use Rattle.sk_launcher.specs.Connections.{classes_of, door_tells}
+use Rattle.sk_launcher.specs.Connections.{door_tells}
 use Rattle.sk_launcher.specs.Launching.{IsAnswer, Process, launched, office}
 use Rattle.sk_launcher.specs.Polling.{own_poller}
+use Rattle.sk_launcher.specs.Teams.{HaveReturned, done_in, teams_of}
 use Rattle.sk_launcher.specs.Working.{settings}
-use Rattle.sk_launcher.proofs.Launches.{not_ready, process_within, rose_within, same_watch}
+use Rattle.sk_launcher.proofs.Launches.{are_done, not_ready, process_within, rose_within, same_watch}
 use Rattle.sk_launcher.proofs.launcher.launch.Goals as goal
 
 pub returns-in_err-staff-clause-told : goal.returns-in_err-staff-clause-told
-returns-in_err-staff-clause-told g c = not_ready _ _ _ _ _ _ _ _ c.from_residual.ensures.1 tt refl
+returns-in_err-staff-clause-told g c = not_ready _ _ _ _ _ _ _ _ _ c.from_residual.ensures.1 tt refl
 
 pub returns-in_err-ready-clause-told : goal.returns-in_err-ready-clause-told
-returns-in_err-ready-clause-told g c = not_ready _ _ _ _ _ _ _ _ c.from_residual-in_err-ready.ensures.1 c.in_err-ready.ensures.cause c.in_err-ready.ensures.err
+returns-in_err-ready-clause-told g c = not_ready _ _ _ _ _ _ _ _ _ c.from_residual-in_err-ready.ensures.1 c.in_err-ready.ensures.cause c.in_err-ready.ensures.err
 
 pub returns-clause-told : goal.returns-clause-told
 returns-clause-told g c =
@@ -27,6 +28,8 @@ returns-clause-told g c =
     let poller = own_poller g.C.Clock.moments c.start_poller-poller.result in
     let door = door_tells (g.N.Door.dialled first) (g.N.Door.kept first) in
     let after = door_tells (g.N.Door.dialled last) (g.N.Door.kept last) in
+    let teams_then = teams_of (λ v. (goal.Job-dyn g v).runs v.1) c.args.teams.now.items in
+    let teams_now = teams_of (λ v. (goal.Job-dyn g v).runs v.1) returns.teams.items in
     let teams : c.from.result.items ≡ c.args.teams.now.items = search rules in
     let offset : c.new-2.result.offset ≡ line.offset = search rules in
     launched c.settle.result (record {
@@ -49,7 +52,10 @@ returns-clause-told g c =
       process = process_within _ _ _ (rose_within _ _ _ c.make_ready.ensures.later) _ _ _ _ _ _ _ _
           (subst (λ ts. Process (WireCarries g.N.Conn.Sink.taken g.N.Conn.Source.left g.N.Conn.Source.read_faults g.N.Conn.Sink.write_faults)
           (Rose (g.N.Door.door_faults first) (g.N.Door.door_faults last)) (settings line.ident line.order line.prefetch) line.threads line.turns poller
-          (office door (classes_of ts)) after returns.faults.items counts) teams c.run_process.ensures.process);
+          (office door (teams_of (λ v. (goal.Job-dyn g v).runs v.1) ts)) after returns.faults.items counts) teams c.run_process.ensures.process);
       answered = subst (λ r. IsAnswer returns.faults.items counts r) (sym c.settle.ensures.same) c.answer-back.ensures.answered;
       some = c.settle.ensures.turns;
+      done = are_done _ _ returns.faults.items counts _ _ c.answer-back.ensures.answered c.settle.ensures.same (λ none.
+          subst (λ ts. HaveReturned teams_then (teams_of (λ v. (goal.Job-dyn g v).runs v.1) ts) (done_in counts)) (sym c.answer-back.ensures.teams)
+          (subst (λ ts. HaveReturned (teams_of (λ v. (goal.Job-dyn g v).runs v.1) ts) teams_now (done_in counts)) teams (c.run_process.ensures.done none)));
     })
