@@ -51,7 +51,7 @@ impl<L: Ledger, B: Book> Hub<L, B> {
 
     /// A desk with the pass's next number, and one part of its share. Spent exactly where the pass has no number left. After a fault the pass is
     /// as before.
-    pub fn seat<'a, R: Wait + Sync>(
+    pub fn seat<'a, R: Wait>(
         &'a self,
         rt: &'a R,
         pass: &mut Pass<L>,

@@ -11,7 +11,7 @@ use std::sync::ledger::{Ledger, Share};
 
 /// A seat at a hub. Contracts see its number and the amount of its share, which has one part.
 #[derive(Drop)]
-pub struct LockedDesk<'a, R: Wait + Sync, L: Ledger, B: Book> {
+pub struct LockedDesk<'a, R: Wait, L: Ledger, B: Book> {
     rt: &'a R,
     hub: &'a Hub<L, B>,
     seat: u32,
@@ -19,7 +19,7 @@ pub struct LockedDesk<'a, R: Wait + Sync, L: Ledger, B: Book> {
     place: B::Place,
 }
 
-impl<'a, R: Wait + Sync, L: Ledger, B: Book> Model for LockedDesk<'a, R, L, B> {
+impl<'a, R: Wait, L: Ledger, B: Book> Model for LockedDesk<'a, R, L, B> {
     ghost use Rattle.std.specs.Prelude.{◌≡◌};
     ghost use Rattle.sk_desk.specs.Pass.{DeskView};
 
@@ -30,7 +30,7 @@ impl<'a, R: Wait + Sync, L: Ledger, B: Book> Model for LockedDesk<'a, R, L, B> {
     ghost invariant = { λ d. d.share.parts ≡ 1 };
 }
 
-impl<'a, R: Wait + Sync, L: Ledger, B: Book> LockedDesk<'a, R, L, B> {
+impl<'a, R: Wait, L: Ledger, B: Book> LockedDesk<'a, R, L, B> {
     // The desk of this seat, with its place in the book.
     pub(crate) fn new(
         rt: &'a R,
@@ -74,7 +74,7 @@ impl<'a, R: Wait + Sync, L: Ledger, B: Book> LockedDesk<'a, R, L, B> {
     }
 }
 
-impl<'a, R: Wait + Sync, L: Ledger, B: Book> Desk for LockedDesk<'a, R, L, B> {
+impl<'a, R: Wait, L: Ledger, B: Book> Desk for LockedDesk<'a, R, L, B> {
     ghost wants_words = { B.wants_words };
 
     ghost acked = { λ d. d.amount };

@@ -92,6 +92,32 @@ impl MemDesk {
     {
         &self.core
     }
+
+    /// The store. Takes no memory.
+    pub fn into_core(self) -> Core
+        ensures { result ≡ self.world }
+    {
+        self.core
+    }
+
+    /// The store, and the calls in order, where there was memory for each. Takes no memory.
+    pub fn into_parts(self) -> (Core, Option<LinkedList<Call>>)
+        ensures core { result.0 ≡ self.world }
+        ensures calls { result.1 ≡ self.calls }
+    {
+        let MemDesk {
+            alloc: _,
+            core,
+            seat: _,
+            before: _,
+            calls,
+            lost,
+        } = self;
+        if lost {
+            return (core, None);
+        }
+        (core, Some(calls))
+    }
 }
 
 impl Desk for MemDesk {

@@ -1,0 +1,10 @@
+pub mod Asks
+pub mod Drawing
+pub mod Carrying
+pub mod CarryLaws
+pub mod Turns
+pub mod Story
+pub mod Lane
+pub mod Progress
+pub mod Threads
+pub mod CoreSeats
