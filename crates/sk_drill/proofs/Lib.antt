@@ -2,3 +2,8 @@ mod FirstJobs
 mod Playing
 mod Small
 mod SoFar
+pub mod Answered
+pub mod Assigning
+pub mod Lanes
+pub mod Ending
+pub mod Crossing

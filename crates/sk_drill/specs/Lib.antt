@@ -5,3 +5,7 @@ pub mod Events
 pub mod Load
 pub mod Soaked
 pub mod SoakText
+pub mod Telling
+pub mod Crews
+pub mod Drilled
+pub mod DrillText

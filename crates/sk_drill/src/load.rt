@@ -20,7 +20,7 @@ use std::alloc::Global;
 use std::marker::Model;
 
 /// The moment at which a load begins, in milliseconds since 1970: 14 November 2023.
-const START: u64 = 1_700_000_000_000;
+pub(crate) const START: u64 = 1_700_000_000_000;
 
 /// The seat from which clients and the poller speak.
 const CLIENT: u32 = 0;

@@ -41,8 +41,8 @@ fn take_turn(alloc: Global, load: &mut Load, core: &mut Core) -> Result<u64, Mem
     Ok(count)
 }
 
-// What came of it.
-fn summary(core: &Core, events: u64) -> Summary
+/// What came of it: how many events there were, and the tally of the store behind them.
+pub(crate) fn summary(core: &Core, events: u64) -> Summary
     ensures is { result ≡ record { events = events; tally = tally_of core.now } }
     ensures balanced { IsBalanced result.tally }
 {

@@ -3,4 +3,5 @@ pub mod Values
 pub mod Lines
 pub mod Push
 pub mod Soak
+pub mod Drill
 pub mod Work

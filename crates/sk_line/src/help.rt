@@ -1,4 +1,5 @@
 // What clap says of words that it refuses, for standard error.
+use crate::drill_line::drill_command;
 use crate::push_line::push_command;
 use crate::serve_line::serve_command;
 use crate::soak_line::soak_command;
@@ -14,6 +15,7 @@ fn command_of<'a>(alloc: Global, name: &str) -> Result<Option<Command<'a>>, Allo
         "serve" => Ok(Some(serve_command(alloc)?)),
         "work" => Ok(Some(work_command(alloc)?)),
         "push" => Ok(Some(push_command(alloc)?)),
+        "drill" => Ok(Some(drill_command(alloc)?)),
         "soak" => Ok(Some(soak_command(alloc)?)),
         "status" => Ok(Some(status_command(alloc)?)),
         _ => Ok(None),

@@ -22,6 +22,12 @@ pub const SEED_HELP: &str = "What the run is made from, 0 to 1844674407370955161
 
 pub const JOBS_HELP: &str = "How many jobs it has, 1 to 1000000";
 
+pub const DRILL_JOBS_HELP: &str = "How many jobs are pushed, 1 to 20000";
+
+pub const WORKERS_HELP: &str = "How many workers run, each in a thread, 1 to 16";
+
+pub const CRASHES_HELP: &str = "How many crashes they may have together, 0 to 1000000";
+
 pub const SERVE_PORT_HELP: &str = "The port that it listens at, 1 to 65535";
 
 pub const LOOPS_HELP: &str = "How many connections it serves at a time; further ones wait";

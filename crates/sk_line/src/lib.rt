@@ -5,6 +5,7 @@ mod address;
 mod cron_words;
 mod cut;
 mod defaults;
+mod drill_line;
 mod fault;
 mod help;
 mod help_lines;
@@ -19,6 +20,7 @@ mod value;
 mod work_line;
 
 pub use address::Address;
+pub use drill_line::{DrillLine, MOST_CRASHES, MOST_DRILLED, read_drill};
 pub use fault::LineFault;
 pub use help::help_of;
 pub use push_line::{PushLine, read_push};

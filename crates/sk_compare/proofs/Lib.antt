@@ -1,0 +1,3 @@
+pub mod Same
+pub mod Meeting
+pub mod Telling

@@ -1,0 +1,65 @@
+-- How a drill ends, by what its threads tell.
+use denote.Param.Members.{Mut}
+use Rattle.std.specs.Prelude.{◌≡◌, ◌/◌, ℕ, List, length, Option, Some, None}
+use Rattle.sk_compare.specs.Alike.{AllAnswered, Alike, Compares, DiffersAt, noted, told}
+use Rattle.sk_compare.specs.declared.difference.Difference.{Difference}
+use Rattle.sk_desk.specs.Journal.{IsJournal}
+use Rattle.sk_desk.specs.Log.{Log}
+use Rattle.sk_desk.specs.State.{StateView}
+use Rattle.sk_jobs.specs.Counting.{tally_of}
+use Rattle.sk_lane.specs.declared.story.Story.{Story}
+use Rattle.sk_model.specs.World.{World}
+use Rattle.sk_policy.specs.declared.delay.DelayRule.{DelayRule}
+use Rattle.sk_worker.specs.declared.registry.Registry.{Registry}
+use Rattle.sk_drill.specs.Crews.{AreStories}
+use Rattle.sk_drill.specs.Soaked.{IsBalanced}
+use Rattle.sk_drill.specs.declared.plan.Plan.{Plan}
+use Rattle.sk_drill.specs.declared.drill_end.DrillEnd.{DrillEnd}
+use Rattle.sk_drill.specs.declared.drill_end.DrillEnd.TheVariants as end
+use Rattle.sk_drill.specs.declared.drill_end.Drilled.{Drilled}
+
+-- The book's entries are a journal that ends in this world, each ask in it has its reply, and so they compare with the stories.
+pub record IsRecorded (s : StateView) (stories : List Story) (d : Option Difference) : Type 0 where
+  pub log : Log
+  pub log_is : s.log ≡ Some log
+  pub journal : IsJournal log.entries s.world
+  pub answered : AllAnswered log.entries
+  pub compares : Compares (told stories) (noted log.entries) d
+
+-- The book is a journal, which is a run of the store; the summary has its length, and the tally of its last world. It has of each seat what the
+-- stories tell of it, each ask once and in order, with its reply.
+pub record IsDrilled (stories : List Story) (d : Drilled) : Type 0 where
+  pub log : Log
+  pub book_is : d.book ≡ Some log
+  pub world : World
+  pub journal : IsJournal log.entries world
+  pub events_are : d.summary.events ≡ length log.entries
+  pub tally_is : d.summary.tally ≡ tally_of world
+  pub balanced : IsBalanced d.summary.tally
+  pub stories_are : d.stories.items ≡ stories
+  pub answered : AllAnswered log.entries
+  pub alike : Alike (told stories) (noted log.entries)
+
+-- There was a journal with another ask at this place of this seat than the stories tell, or one of them has none there.
+pub record HasDiffered (stories : List Story) (d : Difference) : Type 0 where
+  pub log : Log
+  pub world : World
+  pub journal : IsJournal log.entries world
+  pub answered : AllAnswered log.entries
+  pub differs : DiffersAt (told stories) (noted log.entries) d
+
+-- how it ends with these stories
+abbrev pub EndsAs : List Story → DrillEnd → Type 0
+EndsAs stories (end.Alike d) = IsDrilled stories d
+EndsAs stories (end.Differs seat place told noted) = HasDiffered stories (record { seat = seat; place = place; told = told; noted = noted })
+EndsAs stories end.Memory = Unit {0}
+
+-- what each thread knows of a drill: each worker has as many crashes
+abbrev pub plan_of : ℕ → ℕ → ℕ → ℕ → Plan
+plan_of seed jobs workers crashes = record { seed = seed; jobs = jobs; crashes = crashes / workers }
+
+module _ {Job Rule : Type 0} {OfJob : Job → Type 0} {OfRule : Rule → Type 0} {Delays : Mut ((rule : Rule) × OfRule rule) (ℕ × Unit {0}) ℕ} where
+  -- There was no memory. Or all threads told their stories, and the drill ends as they compare with the journal.
+  pub data Drills (plan : Plan) (workers : ℕ) (teams : List (Registry Job Rule OfJob OfRule Delays)) (rules : List (DelayRule Rule OfRule Delays)) : DrillEnd → Type 0 where
+    starved : Drills plan workers teams rules end.Memory
+    ended : (stories : List Story) (how : DrillEnd) → AreStories plan workers teams rules stories → EndsAs stories how → Drills plan workers teams rules how
