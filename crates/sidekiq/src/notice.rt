@@ -8,13 +8,14 @@ use std::io;
 use std::net::ToSocketAddrs;
 
 /// What is told where the words begin with no program's name.
-const USAGE: &str = "usage: sidekiq pipe | serve | work | push | status | soak\n\n\
+const USAGE: &str = "usage: sidekiq pipe | serve | work | push | status | soak | drill\n\n\
     pipe    commands on standard input, replies on standard output\n\
     serve   a server for Redis's clients\n\
     work    workers and a poller for a server\n\
     push    pushes one job to a server\n\
     status  asks a server for its page\n\
-    soak    makes a large run from a number\n\n\
+    soak    makes a large run from a number\n\
+    drill   the same in threads, with crashes, beside its journal\n\n\
     `sidekiq COMMAND --help` shows the options of one.";
 
 /// What the words of a command line ask for, as far as people are told of it.

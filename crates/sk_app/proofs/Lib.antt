@@ -3,5 +3,7 @@ pub mod Endings
 pub mod PushRuns
 pub mod StatusRuns
 pub mod SoakRuns
+pub mod DrillRuns
 pub mod ServeRuns
 pub mod WorkRuns
+pub mod Completes

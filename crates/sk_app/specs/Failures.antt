@@ -2,6 +2,7 @@
 use Rattle.std.specs.Prelude.{◌++◌, ◌-◌, ℕ, Option, Some, None, codes, drop, length, take}
 use Rattle.hex.specs.Hex.{encode_lower}
 use Rattle.sk_resp.specs.Reply.{wire}
+use Rattle.sk_compare.specs.DifferenceText.{difference_text}
 use Rattle.sk_resp.specs.Spelling.{Bytes}
 use Rattle.sk_resp.specs.declared.reply.Reply.{Reply}
 use Rattle.sk_edge.specs.declared.door.DoorFault.{DoorFault}
@@ -12,7 +13,7 @@ use Rattle.sk_line.specs.declared.fault.LineFault.{LineFault}
 use Rattle.sk_line.specs.declared.fault.LineFault.TheVariants as line
 use Rattle.sk_link.specs.declared.link.LinkFault.TheVariants as link
 use Rattle.sk_app.specs.declared.failure.Failure.{Failure}
-use Rattle.sk_app.specs.declared.failure.Failure.TheVariants.{Line, Memory, Door, Seats, Link, Refused, GenLimit}
+use Rattle.sk_app.specs.declared.failure.Failure.TheVariants.{Line, Memory, Door, Seats, Link, Refused, GenLimit, Differs}
 
 -- The status, by the cause.
 abbrev pub status_of : Failure → ℕ
@@ -26,6 +27,7 @@ status_of (Link link.Ended) = 6
 status_of (Link (link.Unreadable bytes)) = 6
 status_of (Refused r) = 7
 status_of GenLimit = 7
+status_of (Differs d) = 8
 
 -- a reply's text without its first byte, CR and LF: of an error reply, the error
 abbrev pub reply_line : Reply → Bytes
@@ -37,6 +39,7 @@ line_of (Link (link.Unreadable bytes)) = Some (codes "unreadable " ++ encode_low
 line_of (Refused r) = Some (reply_line r)
 line_of GenLimit = Some (codes "gen limit")
 line_of Seats = Some (codes "seats spent")
+line_of (Differs d) = Some (difference_text d)
 line_of other = None
 
 -- ## Failures by faults of others

@@ -8,5 +8,7 @@ pub mod Paging
 pub mod Classes
 pub mod Serving
 pub mod Soaking
+pub mod Drilling
 pub mod Programs
 pub mod Working
+pub mod Completing

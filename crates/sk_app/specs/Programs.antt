@@ -3,14 +3,15 @@ use Rattle.std.specs.Prelude.{List, [], ◌∷◌, Option, Some, None, codes, co
 use Rattle.std.specs.Str.{bytes_eq}
 use Rattle.sk_resp.specs.Spelling.{Bytes}
 use Rattle.sk_app.specs.declared.program.Program.{Program}
-use Rattle.sk_app.specs.declared.program.Program.TheVariants.{Serve, Work, Push, Status, Soak}
+use Rattle.sk_app.specs.declared.program.Program.TheVariants.{Serve, Work, Push, Status, Soak, Drill}
 
 abbrev pub named : Bytes → Option Program
 named name = cond (bytes_eq name (codes "serve")) (Some Serve)
     (cond (bytes_eq name (codes "work")) (Some Work)
     (cond (bytes_eq name (codes "push")) (Some Push)
     (cond (bytes_eq name (codes "status")) (Some Status)
-    (cond (bytes_eq name (codes "soak")) (Some Soak) None))))
+    (cond (bytes_eq name (codes "soak")) (Some Soak)
+    (cond (bytes_eq name (codes "drill")) (Some Drill) None)))))
 
 -- the first word names it
 abbrev pub program_of : List Bytes → Option Program

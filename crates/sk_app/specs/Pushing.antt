@@ -8,6 +8,7 @@ use Rattle.sk_client.specs.declared.client_fault.ClientFault.TheVariants as faul
 use Rattle.sk_line.specs.Push.{IsPush}
 use Rattle.sk_line.specs.declared.push_line.PushLine.{PushLine}
 use Rattle.sk_link.specs.Call.{Call}
+use Rattle.sk_middle.specs.Identity.{KeepsIdentity}
 use Rattle.sk_middle.specs.declared.chain.Through.{Through}
 use Rattle.sk_middle.specs.declared.chain.Through.TheVariants as through
 use Rattle.sk_payload.specs.Draft.{draft_fault}
@@ -53,9 +54,9 @@ pub record Pushes (Carried : List Call → Type 0) (job : PushJob) (outcome : Re
 
 -- ## The chain
 
--- what the chain makes of the job: the job of another draft, or none where it stops the draft
+-- what the chain makes of the job: the same job by another draft, or none where it stops the draft
 abbrev pub Passes : (JobDraft → Through → Type 0) → PushJob → Option PushJob → Type 0
-Passes Applied job (Some next) = Applied job.draft (through.Push next.draft) × (next ≡ record job { draft = next.draft })
+Passes Applied job (Some next) = Applied job.draft (through.Push next.draft) × KeepsIdentity job.draft next.draft × (next ≡ record job { draft = next.draft })
 Passes Applied job None = (place : ℕ) × Applied job.draft (through.Stopped place)
 
 -- Only a job that goes to its queue now goes through the chain.

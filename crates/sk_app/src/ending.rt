@@ -56,6 +56,9 @@ fn failure_text(alloc: Global, failure: &Failure) -> Result<Option<Word>, AllocE
         Failure::Refused(reply) => Ok(Some(reply_text(alloc, reply)?)),
         Failure::GenLimit => Ok(Some(line(alloc, b"gen limit", b"")?)),
         Failure::Seats => Ok(Some(line(alloc, b"seats spent", b"")?)),
+        Failure::Differs(difference) => {
+            Ok(Some(line(alloc, difference.text(alloc)?.as_bytes(), b"")?))
+        }
         _ => Ok(None),
     }
 }

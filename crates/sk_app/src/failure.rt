@@ -3,6 +3,7 @@ ghost use Rattle.std.specs.Prelude.{◌≡◌};
 ghost use Rattle.sk_app.specs.Failures.{by_door, by_launch, by_line, status_of};
 ghost use Rattle.sk_app.specs.declared.failure.Failure.TheVariants.{Memory};
 
+use sk_compare::Difference;
 use sk_edge::DoorFault;
 use sk_launcher::LaunchFault;
 use sk_line::LineFault;
@@ -27,11 +28,13 @@ pub enum Failure {
     Refused(Reply),
     /// A worker held a job whose count of failures can't rise, 999,999,999.
     GenLimit,
+    /// The journal of a drill has another ask at a place of a seat than the threads tell, or only one of them has an ask there.
+    Differs(Difference),
 }
 
 impl Failure {
     /// The exit status: 2 for words that are no command line, 5 for want of memory, 6 for a connection that failed or was unreadable and for
-    /// seats that were used up, and 7 for a reply that refuses and for a count that can't rise.
+    /// seats that were used up, 7 for a reply that refuses and for a count that can't rise, and 8 where a drill's journal differs from what is told.
     pub fn status(&self) -> u8
         ensures { result ≡ status_of self.now }
     {
@@ -40,6 +43,7 @@ impl Failure {
             Failure::Memory | Failure::Link(LinkFault::Memory) => 5,
             Failure::Door | Failure::Seats | Failure::Link(_) => 6,
             Failure::Refused(_) | Failure::GenLimit => 7,
+            Failure::Differs(_) => 8,
         }
     }
 }

@@ -1,6 +1,7 @@
 //! The programs: what each does with the words of its command line, over any door, clock and dice, and with which status it ends.
 #![tactic(auto)]
 
+mod drill;
 mod ending;
 mod failure;
 mod job;
@@ -14,6 +15,7 @@ mod status;
 mod top;
 mod work;
 
+pub use drill::run_drill;
 pub use failure::Failure;
 pub use jobs::{Fail, Flip, Note};
 pub use program::Program;

@@ -15,6 +15,8 @@ pub enum Program {
     Status,
     /// A large run of a store.
     Soak,
+    /// Threads at one store, with crashes.
+    Drill,
 }
 
 // The program with this name.
@@ -35,6 +37,9 @@ fn named(name: &str) -> Option<Program>
     }
     if name == "soak" {
         return Some(Program::Soak);
+    }
+    if name == "drill" {
+        return Some(Program::Drill);
     }
     None
 }

@@ -1,9 +1,10 @@
 // The program `push`: its words are read, the job is made, handed to the chain, and tried whether it can be written; then a connection is made, one
 // request pushes the job, the connection is left to the door, and what came of it is told.
-ghost use Rattle.std.specs.Prelude.{◌≡◌, ◌⊎◌, None, Err, IfErr, OnOk, map, string_bytes};
+ghost use Rattle.std.specs.Prelude.{◌≡◌, ◌≢◌, ◌⊎◌, None, Err, IfErr, OnOk, map, string_bytes};
 ghost use Rattle.sk_base.specs.Outside.{Rose};
 ghost use Rattle.sk_client.specs.Push.{Accepted, Fails};
 ghost use Rattle.sk_payload.specs.Draft.{draft_fault};
+ghost use Rattle.sk_app.specs.Completing.{DoneOr, PushHindered};
 ghost use Rattle.sk_app.specs.Dialogue.{Dials};
 ghost use Rattle.sk_app.specs.Ending.{Ends};
 ghost use Rattle.sk_app.specs.Jobs.{Draws};
@@ -143,6 +144,9 @@ pub fn run_push<K: Sink, N: Door, C: Clock, D: Dice>(
         (Draws C.Clock D.Dice clock.old dice.old clock.new dice.new)
         (applied chain.now)
         (λ job outcome. Dials N.Door N.Conn.Source N.Conn.Sink net.old net.new (λ carried. Pushes carried job) outcome)) }
+
+    // A job is pushed, held or stopped, unless the door fails or its request isn't answered, where the sink takes what is told.
+    ensures completes { result ≢ 2 → result ≢ 4 → DoneOr (PushHindered N.Door N.Conn.Source N.Conn.Sink net.old net.new) result }
 
     // With status 4 the sink's count of faults rose.
     ensures sink_cause { result ≡ 4 → Rose (K.write_faults sink.old) (K.write_faults sink.new) }

@@ -1,8 +1,11 @@
 // The program `serve`: its words are read, connections are served until a SHUTDOWN or until each loop has served its number, and the summary is written.
-ghost use Rattle.std.specs.Prelude.{◌≡◌, ◌<◌, ◌≤◌, Err, IfOk, map, string_bytes};
+ghost use Rattle.std.specs.Prelude.{◌≡◌, ◌≢◌, ◌<◌, ◌≤◌, Err, IfOk, map, string_bytes};
 ghost use Rattle.sk_base.specs.Outside.{Rose};
 ghost use Rattle.sk_base.specs.declared.limits.TheConstants.{MOST_LOOPS_SERVED};
+ghost use Rattle.sk_line.specs.Lines.{IsServe};
+ghost use Rattle.sk_line.specs.declared.serve_line.ServeLine.{ServeLine};
 ghost use Rattle.sk_serve.specs.Server.{HasFailed};
+ghost use Rattle.sk_app.specs.Completing.{DoneOr, ServeHindered};
 ghost use Rattle.sk_app.specs.Ending.{Ends};
 ghost use Rattle.sk_app.specs.Serving.{IsOutcome, ServeRun, Serves, first_line, summary_text};
 ghost use Rattle.sk_app.specs.declared.failure.Failure.TheVariants.{Line};
@@ -118,6 +121,10 @@ where
     ensures told { Ends K.Sink sink.old sink.new result
         (ServeRun (map string_bytes words.now) (net.new ≡ net.old)
         (λ loops. HasFailed N.door_faults N.gathered N.Ear.ear_faults loops net.old net.new)) }
+
+    // A line of `serve` is done, unless the door or an ear fails or seats are used up, where the sink takes the summary.
+    ensures completes { (line : ServeLine) → IsServe (map string_bytes words.now) line → result ≢ 4 → DoneOr (ServeHindered (map string_bytes words.now)
+        (λ loops. HasFailed N.door_faults N.gathered N.Ear.ear_faults loops net.old net.new)) result }
 
     // With status 4 the sink's count of faults rose.
     ensures sink_cause { result ≡ 4 → Rose (K.write_faults sink.old) (K.write_faults sink.new) }

@@ -1,6 +1,8 @@
 // The program `soak`: its words are read, a run of a store is made from the number in them, and its summary is written.
-ghost use Rattle.std.specs.Prelude.{◌≡◌, ◌≤◌, Err, map, string_bytes};
+ghost use Rattle.std.specs.Prelude.{◌≡◌, ◌≢◌, ◌≤◌, ◌⊎◌, Err, map, string_bytes};
 ghost use Rattle.sk_base.specs.Outside.{Rose};
+ghost use Rattle.sk_line.specs.Soak.{IsSoak};
+ghost use Rattle.sk_line.specs.declared.soak_line.SoakLine.{SoakLine};
 ghost use Rattle.sk_line.specs.declared.soak_line.TheConstants.{MOST_SOAKED};
 ghost use Rattle.sk_app.specs.Ending.{Ends};
 ghost use Rattle.sk_app.specs.Soaking.{SoakRun, Soaks};
@@ -37,6 +39,9 @@ fn outcome_by(alloc: Global, words: &[String]) -> Result<Word, Failure>
 /// events there were, and the tally. Answers the status: 0, 2 for words that are no line of `soak`, 4 where the sink failed, 5 where there was no memory.
 pub fn run_soak<K: Sink>(alloc: Global, words: &[String], sink: &mut K) -> u8
     ensures told { Ends K.Sink sink.old sink.new result (SoakRun (map string_bytes words.now)) }
+
+    // A line of `soak` is done, where the sink takes its summary.
+    ensures completes { (line : SoakLine) → IsSoak (map string_bytes words.now) line → result ≢ 4 → (result ≡ 0) ⊎ (result ≡ 5) }
 
     // With status 4 the sink's count of faults rose.
     ensures sink_cause { result ≡ 4 → Rose (K.write_faults sink.old) (K.write_faults sink.new) }

@@ -1,7 +1,10 @@
 // The program `status`: its words are read, a connection is made, the store is asked for its page, the connection is left to the door, and the page is
 // written.
-ghost use Rattle.std.specs.Prelude.{◌≡◌, ◌⊎◌, Err, IfOk, map, string_bytes};
+ghost use Rattle.std.specs.Prelude.{◌≡◌, ◌≢◌, ◌⊎◌, Err, IfOk, map, string_bytes};
 ghost use Rattle.sk_base.specs.Outside.{Rose};
+ghost use Rattle.sk_line.specs.Lines.{IsStatus};
+ghost use Rattle.sk_line.specs.declared.status_line.StatusLine.{StatusLine};
+ghost use Rattle.sk_app.specs.Completing.{DoneOr, StatusHindered};
 ghost use Rattle.sk_app.specs.Dialogue.{Dials};
 ghost use Rattle.sk_app.specs.Ending.{Ends};
 ghost use Rattle.sk_app.specs.Paging.{Asks, StatusRun, page_of, status_words};
@@ -78,6 +81,10 @@ pub fn run_status<K: Sink, N: Door>(
     ensures told { Ends K.Sink sink.old sink.new result
         (StatusRun (map string_bytes words.now) (net.new ≡ net.old)
         (Dials N.Door N.Conn.Source N.Conn.Sink net.old net.new Asks)) }
+
+    // A line of `status` is done, unless the door fails or its request gets no page, where the sink takes the page.
+    ensures completes { (line : StatusLine) → IsStatus (map string_bytes words.now) line → result ≢ 4
+        → DoneOr (StatusHindered N.Door N.Conn.Source N.Conn.Sink net.old net.new) result }
 
     // With status 4 the sink's count of faults rose.
     ensures sink_cause { result ≡ 4 → Rose (K.write_faults sink.old) (K.write_faults sink.new) }

@@ -1,15 +1,28 @@
 // The top call: what the words of a command line ask for. The first of them names the program.
-ghost use Rattle.std.specs.Prelude.{◌≡◌, ◌≤◌, ◌⊎◌, None, Some, map, string_bytes, vec_len};
+ghost use Rattle.std.specs.Prelude.{◌≡◌, ◌≢◌, ◌≤◌, ◌⊎◌, None, Some, map, string_bytes, vec_len};
 ghost use Rattle.sk_base.specs.Outside.{Rose};
 ghost use Rattle.sk_pipe.specs.Run.{Completes, IsPipeLine, IsPiped, shipped, status_of};
 ghost use Rattle.sk_pipe.specs.declared.pipe_end.PipeEnd.{PipeEnd};
 ghost use Rattle.sk_serve.specs.Server.{HasFailed};
 ghost use Rattle.sk_base.specs.declared.limits.TheConstants.{MOST_WORKERS};
 ghost use Rattle.sk_launcher.specs.Connections.{classes_of, door_tells};
+ghost use Rattle.sk_drill.specs.Drilled.{Drills, plan_of};
 ghost use Rattle.sk_launcher.specs.Launching.{Launched};
+ghost use Rattle.sk_launcher.specs.Teams.{teams_of};
 ghost use Rattle.sk_link.specs.Wire.{WireCarries};
 ghost use Rattle.sk_middle.specs.Applied.{applied};
+ghost use Rattle.sk_line.specs.Drill.{IsDrill};
+ghost use Rattle.sk_line.specs.declared.drill_line.DrillLine.{DrillLine};
+ghost use Rattle.sk_line.specs.Lines.{IsServe, IsStatus};
+ghost use Rattle.sk_line.specs.Soak.{IsSoak};
+ghost use Rattle.sk_line.specs.Work.{IsWork};
+ghost use Rattle.sk_line.specs.declared.serve_line.ServeLine.{ServeLine};
+ghost use Rattle.sk_line.specs.declared.soak_line.SoakLine.{SoakLine};
+ghost use Rattle.sk_line.specs.declared.status_line.StatusLine.{StatusLine};
+ghost use Rattle.sk_line.specs.declared.work_line.WorkLine.{WorkLine};
+ghost use Rattle.sk_app.specs.Completing.{DoneOr, PushHindered, ServeHindered, StatusHindered, WorkHindered};
 ghost use Rattle.sk_app.specs.Dialogue.{Dials};
+ghost use Rattle.sk_app.specs.Drilling.{DrillRun};
 ghost use Rattle.sk_app.specs.Ending.{Ends};
 ghost use Rattle.sk_app.specs.Jobs.{Draws};
 ghost use Rattle.sk_app.specs.Paging.{Asks, StatusRun};
@@ -18,10 +31,10 @@ ghost use Rattle.sk_app.specs.Pushing.{PushRun, Pushes};
 ghost use Rattle.sk_app.specs.Serving.{ServeRun};
 ghost use Rattle.sk_app.specs.Soaking.{SoakRun};
 ghost use Rattle.sk_app.specs.Working.{WorkRun};
-ghost use Rattle.sk_app.specs.declared.program.Program.TheVariants.{Push, Serve, Soak, Status, Work};
+ghost use Rattle.sk_app.specs.declared.program.Program.TheVariants.{Drill, Push, Serve, Soak, Status, Work};
 
 use crate::program::{Program, program_of};
-use crate::{run_push, run_serve, run_soak, run_status, run_work};
+use crate::{run_drill, run_push, run_serve, run_soak, run_status, run_work};
 use sk_base::{Clock, Dice, Sink, Source};
 use sk_edge::Door;
 use sk_middle::ClientChain;
@@ -41,10 +54,12 @@ use std::thread::Threads;
 /// - `push ..`: one job is pushed to a server ([`run_push`]), as this chain makes it, which may stop it.
 /// - `status ..`: the page of a server ([`run_status`]).
 /// - `soak ..`: a large run of a store of its own ([`run_soak`]).
+/// - `drill ..`: threads at a store of its own, with crashes, whose stories are compared with its journal ([`run_drill`]). It has these teams and rules.
 ///
 /// Status 0: all was done. 1: the input of `pipe` has a fault or ends inside a command. 2: the words are no command line; nothing was read, written or
 /// opened. 3, 4: the source, the sink failed. 5: there was no memory. 6: a connection failed or was unreadable, or seats were used up. 7: the store
-/// answered an error, or a worker held a job whose count of failures can't rise. 9: 2^40 bytes were read.
+/// answered an error, or a worker held a job whose count of failures can't rise. 8: what a drill's threads tell differs from its journal. 9: 2^40 bytes
+/// were read.
 pub fn run<R: Threads + Wait + Sync, S: Source, K: Sink, N: Door, C: Clock + Send, D: Dice>(
     rt: &R,
     alloc: Global,
@@ -82,7 +97,7 @@ where
         (WorkRun (vec_len teams.old) (map string_bytes words.now) ((net.new ≡ net.old) × (teams.new ≡ teams.old))
         (λ line how. Launched (WireCarries N.Conn.taken N.Conn.left N.Conn.read_faults N.Conn.write_faults)
         (Rose (N.door_faults net.old) (N.door_faults net.new)) line (door_tells (N.dialled net.old) (N.kept net.old))
-        (door_tells (N.dialled net.new) (N.kept net.new)) (classes_of teams.old.items) how)) }
+        (door_tells (N.dialled net.new) (N.kept net.new)) (teams_of runs teams.old.items) (teams_of runs teams.new.items) how)) }
 
     // A push.
     ensures pushed { program_of (map string_bytes words.now) ≡ Some Push → Ends K.Sink sink.old sink.new result
@@ -100,6 +115,30 @@ where
     ensures soaked { program_of (map string_bytes words.now) ≡ Some Soak
         → Ends K.Sink sink.old sink.new result (SoakRun (map string_bytes words.now)) }
 
+    // A drill.
+    ensures drilled { program_of (map string_bytes words.now) ≡ Some Drill → Ends K.Sink sink.old sink.new result
+        (DrillRun (vec_len teams.old) (map string_bytes words.now) (teams.new ≡ teams.old) (λ line how. Drills (plan_of line.seed line.jobs line.workers line.crashes) line.workers teams.old.items rules.items how)) }
+
+    // A line of a program is done, where the sink takes what is told and nothing hinders it. Where something does, it is this.
+    ensures serve_completes { program_of (map string_bytes words.now) ≡ Some Serve → (line : ServeLine) → IsServe (map string_bytes words.now) line
+        → result ≢ 4 → DoneOr (ServeHindered (map string_bytes words.now)
+        (λ loops. HasFailed N.door_faults N.gathered N.Ear.ear_faults loops net.old net.new)) result }
+    ensures work_completes { program_of (map string_bytes words.now) ≡ Some Work → (line : WorkLine)
+        → IsWork (vec_len teams.old) (map string_bytes words.now) line → result ≢ 4
+        → DoneOr (WorkHindered (vec_len teams.old) (map string_bytes words.now)
+        (λ line how. Launched (WireCarries N.Conn.taken N.Conn.left N.Conn.read_faults N.Conn.write_faults)
+        (Rose (N.door_faults net.old) (N.door_faults net.new)) line (door_tells (N.dialled net.old) (N.kept net.old))
+        (door_tells (N.dialled net.new) (N.kept net.new)) (teams_of runs teams.old.items) (teams_of runs teams.new.items) how)) result }
+    ensures push_completes { program_of (map string_bytes words.now) ≡ Some Push → result ≢ 2 → result ≢ 4
+        → DoneOr (PushHindered N.Door N.Conn.Source N.Conn.Sink net.old net.new) result }
+    ensures status_completes { program_of (map string_bytes words.now) ≡ Some Status → (line : StatusLine) → IsStatus (map string_bytes words.now) line
+        → result ≢ 4 → DoneOr (StatusHindered N.Door N.Conn.Source N.Conn.Sink net.old net.new) result }
+    ensures soak_completes { program_of (map string_bytes words.now) ≡ Some Soak → (line : SoakLine) → IsSoak (map string_bytes words.now) line
+        → result ≢ 4 → (result ≡ 0) ⊎ (result ≡ 5) }
+
+    ensures drill_completes { program_of (map string_bytes words.now) ≡ Some Drill → (line : DrillLine)
+        → IsDrill (vec_len teams.old) (map string_bytes words.now) line → result ≢ 4 → DoneOr (result ≡ 8) result }
+
     // Words that name no program are refused.
     ensures unknown { (IsPipeLine (map string_bytes words.now) → ⊥) → program_of (map string_bytes words.now) ≡ None → result ≡ 2 }
 
@@ -107,9 +146,14 @@ where
     ensures refused { result ≡ 2 → (source.new ≡ source.old) × (sink.new ≡ sink.old) × (net.new ≡ net.old) × (teams.new ≡ teams.old) }
     ensures source_alone { (IsPipeLine (map string_bytes words.now) → ⊥) → source.new ≡ source.old }
 
-    // The teams stand in their order again, and `work` alone has to do with them.
+    // `pipe`, `soak` and `drill` open nothing.
+    ensures inside { (program_of (map string_bytes words.now) ≡ None) ⊎ (program_of (map string_bytes words.now) ≡ Some Soak)
+        ⊎ (program_of (map string_bytes words.now) ≡ Some Drill) → net.new ≡ net.old }
+
+    // The teams stand in their order again, and `work` and `drill` alone have to do with them.
     ensures teams { classes_of teams.new.items ≡ classes_of teams.old.items }
-    ensures others { (program_of (map string_bytes words.now) ≡ Some Work → ⊥) → teams.new ≡ teams.old }
+    ensures others { (program_of (map string_bytes words.now) ≡ Some Work → ⊥) → (program_of (map string_bytes words.now) ≡ Some Drill → ⊥)
+        → teams.new ≡ teams.old }
 
     // With status 4 the sink's count of faults rose. (For the pipe that is said above.)
     ensures sink_cause { (IsPipeLine (map string_bytes words.now) → ⊥) → result ≡ 4 → Rose (K.write_faults sink.old) (K.write_faults sink.new) }
@@ -120,6 +164,7 @@ where
         Some(Program::Push) => run_push(alloc, words, chain, sink, net, clock, dice),
         Some(Program::Status) => run_status(alloc, words, sink, net),
         Some(Program::Soak) => run_soak(alloc, words, sink),
+        Some(Program::Drill) => run_drill(rt, alloc, words, teams, rules, sink),
         None => run_pipe(alloc, words, source, sink),
     }
 }

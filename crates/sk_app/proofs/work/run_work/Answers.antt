@@ -1,3 +1,4 @@
+use Rattle.sk_app.proofs.Completes.{work_completes}
 use Rattle.sk_app.proofs.Endings.{line_alone}
 use Rattle.sk_app.proofs.work.run_work.Goals as goal
 
@@ -8,3 +9,6 @@ pub returns-clause-untouched : goal.returns-clause-untouched
 returns-clause-untouched g c = λ e.
     let same = c.outcome_by-outcome.ensures.untouched (line_alone _ _ _ _ c.conclude.ensures.told e) in
     (c.conclude.ensures.silent e, same.0, same.1)
+
+pub returns-clause-completes : goal.returns-clause-completes
+returns-clause-completes g c = λ line is whole. work_completes _ _ _ _ line _ _ _ _ is c.outcome_by-outcome.ensures.told c.conclude.ensures.told whole
