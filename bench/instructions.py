@@ -6,7 +6,7 @@ comes before the rounds is left out. Each count has a bar, the number that we wa
 by more than a tenth. Nothing is installed. Wanted: python3 and valgrind.
 
     bench/instructions.py             the workloads on small stores, in a minute
-    bench/instructions.py --large     with 100,000 rows and with 10,000 members besides, in two or three
+    bench/instructions.py --large     with 100,000 rows and with 10,000 members besides, in five or so
 """
 
 import concurrent.futures
@@ -57,8 +57,28 @@ def cycle(rows, rounds):
         command(b'LPUSH', b'queue:default', job(n)) + run(job(n)) for n in range(rounds))
 
 
+def busy(seats):
+    """So many seats of another process, each with sixteen jobs in its hands."""
+    made = [command(b'SK.NOW', NOW), command(b'SK.BEAT', b'v')]
+    for seat in range(2, 2 + seats):
+        made += [command(b'SK.AS', b'%d' % seat), command(b'SK.JOIN', b'v')]
+        for n in range(16 * seat, 16 * seat + 16):
+            made += [command(b'LPUSH', b'queue:default', job(20_000_000 + n)), command(b'LMOVE', b'queue:default', b'sq:v', b'RIGHT', b'LEFT')]
+    return b''.join(made)
+
+
+def beside(seats, rounds):
+    return busy(seats) + cycle(10, rounds)
+
+
 def schedule(rows, rounds):
     return b''.join(command(b'ZADD', b'schedule', b'%d' % (1_700_000_000 + n * 7919 % 100_003), job(n)) for n in range(rows + rounds))
+
+
+def due(rows, rounds):
+    """Jobs whose time has come, pushed one by one."""
+    added = b''.join(command(b'ZADD', b'schedule', b'%d' % (1_600_000_000 + n * 7919 % 100_003), job(n)) for n in range(rows))
+    return command(b'SK.NOW', NOW) + added + rounds * command(b'SK.DUE', b'schedule', b'1')
 
 
 def sorted_set(rows, rounds):
@@ -85,15 +105,19 @@ WORKLOADS = [
     ('a round of LPUSH, LMOVE and PING, 3,000 rows', lists, 3_000, 300, 25_000),
     ('a job pushed, fetched, started, done, released, 10 rows', cycle, 10, 300, 36_000),
     ('the same, 1,000 rows', cycle, 1_000, 300, 36_000),
+    ('the same, 10 rows, beside 64 seats of 16 jobs each', beside, 64, 300, 36_000),
     ('ZADD of one more job on a schedule of 1,000', schedule, 1_000, 100, 30_000),
     ('the same, of 10,000', schedule, 10_000, 20, 33_000),
+    ('SK.DUE of one job of 10,000', due, 10_000, 300, 60_000),
     ('ZADD of one more pair in a sorted set of 10,000', sorted_set, 10_000, 300, 30_000),
     ('SK.BPUSH of 2,000 jobs, a member', pushed, 0, 1_000, 40_000),
     ('a member fetched, started, done, released, of 100', batch, 100, 50, 45_000),
 ]
 LARGE = [
     ('a job pushed, fetched, started, done, released, 100,000 rows', cycle, 100_000, 300, 36_000),
+    ('SK.BPUSH of 20,000 jobs, a member', pushed, 0, 10_000, 40_000),
     ('a member fetched, started, done, released, of 10,000', batch, 10_000, 50, 45_000),
+    ('the same, of 100,000', batch, 100_000, 50, 45_000),
 ]
 
 
