@@ -1,6 +1,6 @@
 #!/bin/sh
-# Runs the program until each exit status that a machine can bring about, and compares. Two aren't brought about: 5, want of memory, and 9,
-# which comes only after 2^40 bytes.
+# Runs the program until each exit status that a machine can bring about, and compares. Three aren't brought about: 5, want of memory; 8,
+# since the journal of a drill has what its threads tell; and 9, which comes only after 2^40 bytes.
 #
 #     statuses.sh PROGRAM
 #
@@ -49,6 +49,14 @@ expect 'the same run again' 0 $?
 expect 'a run of no job' 2 $?
 "$program" soak 18446744073709551616 1 2>/dev/null
 expect 'a seed of 65 bits' 2 $?
+"$program" drill 3 200 4 8 >/dev/null
+expect 'a drill of four workers with crashes' 0 $?
+"$program" drill 7 50 16 1000 >/dev/null
+expect 'a drill of sixteen workers' 0 $?
+"$program" drill 1 1 17 0 2>/dev/null
+expect 'more workers than there are teams' 2 $?
+"$program" drill 1 20001 1 0 2>/dev/null
+expect 'more jobs than a drill has' 2 $?
 if command -v python3 >/dev/null; then
     # A server for one connection, which answers this to whatever comes; its port is printed first.
     peer() {
