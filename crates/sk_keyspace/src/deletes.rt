@@ -86,6 +86,7 @@ pub fn delete(store: &mut Store, names: Words) -> Reply
 }
 
 /// Deletes all jobs, the names of the queues and all plain keys. Batches, heartbeats and counters stay, and so does what the seats have.
+#[tactic(auto, using(crate::proofs::Deleting::flush_comes))]
 pub fn flush(store: &mut Store) -> Reply
     requires { IsReady store.old }
     ensures done { Realizes (world store.old) (flush (world store.old)) result (world store.new) }
