@@ -30,6 +30,11 @@ def job(n, batch=b''):
     return b'{"args":[1],%s"class":"Note","created_at":%s,"jid":"%024d","queue":"default","retry":true}' % (batch, NOW, n)
 
 
+def letter(n):
+    """A job with a quote, a backslash and the end of a line in its arguments, and a number below zero."""
+    return job(n).replace(b'[1]', b'["a \\"b\\" c:\\\\d\\n",-1]')
+
+
 def filled(queue, count):
     """So many jobs that stand in a queue, and stay there."""
     jobs = [job(10_000_000 + n) for n in range(count)]
@@ -49,6 +54,12 @@ def run(text):
 def lists(rows, rounds):
     return filled(b'queue:low', rows) + b''.join(
         command(b'LPUSH', b'queue:default', job(n)) + command(b'LMOVE', b'queue:default', b'queue:low', b'RIGHT', b'LEFT')
+        + command(b'PING') for n in range(rounds))
+
+
+def letters(rows, rounds):
+    return filled(b'queue:low', rows) + b''.join(
+        command(b'LPUSH', b'queue:default', letter(n)) + command(b'LMOVE', b'queue:default', b'queue:low', b'RIGHT', b'LEFT')
         + command(b'PING') for n in range(rounds))
 
 
@@ -103,6 +114,7 @@ def batch(count, rounds):
 # What is counted, of how many rows or members, in how many rounds, and the bar. The large ones come last.
 WORKLOADS = [
     ('a round of LPUSH, LMOVE and PING, 3,000 rows', lists, 3_000, 300, 25_000),
+    ('the same, with escapes and a number below zero in the job', letters, 3_000, 300, 28_000),
     ('a job pushed, fetched, started, done, released, 10 rows', cycle, 10, 300, 36_000),
     ('the same, 1,000 rows', cycle, 1_000, 300, 36_000),
     ('the same, 10 rows, beside 64 seats of 16 jobs each', beside, 64, 300, 36_000),

@@ -1,13 +1,17 @@
 -- Texts in their usual form: what their values are, and how they are read piece by piece.
-use Rattle.std.proofs.Common.{◌≡◌, ℕ, zero, suc, ◌+◌, ◌*◌, ◌-◌, ◌<◌, ◌≤◌, ◌^◌, ◌++◌, List, [], ◌∷◌, length, take, drop, get_or, set, get_or-set_same, get_or-set_other, Bool, true, false, cond, Option, Some, None, IfSome, option_map, codes, option_and_then, Ordering, Less, Equal, Greater, bytes_eq, true≢false, refl, sym, ap, ap₂, ◌∙◌, subst, append_assoc, append-nil, arith, length-append, length-take, length-drop, get_or-take, take-add, take_all, replicate}
+use Rattle.std.proofs.Common.{◌≡◌, ℕ, ℤ, pos, negsuc, suc, ◌+◌, ◌*◌, ◌-◌, ◌<◌, ◌≤◌, ◌++◌, List, [], ◌∷◌, length, take, drop, get_or, set, get_or-set_same, get_or-set_other, Bool, true, false, cond, Option, Some, None, IfSome, option_map, codes, option_and_then, Ordering, Less, Equal, Greater, bytes_eq, true≢false, refl, sym, ap, ap₂, ◌∙◌, subst, append_assoc, append-nil, arith, length-append, length-take, length-drop, get_or-take, take-add, take_all, replicate}
 use Rattle.std.specs.Str.{IsUtf8}
-use Rattle.std.specs.Prelude.{⊤}
+use Rattle.std.specs.Prelude.{⊤, nat_abs}
+use lib.Signed.{lt_z}
 use Rattle.std.specs.Ordering.{match_ordering, nat_cmp, ordering_reverse}
 use Rattle.std.proofs.lemmas.Cmp.{nat_list_cmp_total}
 use Rattle.std.specs.Cmp.Lexicographic.{slice_cmp}
 use Rattle.std.proofs.lemmas.Bool.{or_parts}
 use Rattle.std.proofs.lemmas.Str.{is_utf8-from_IsUtf8}
-use Rattle.std.proofs.lemmas.List.{take_more, take_rest, get_or-replicate}
+use Rattle.std.proofs.lemmas.List.{take_more, take_rest, get_or-drop, get_or-replicate}
+use Rattle.std.proofs.lemmas.Grind.{flat_map-append}
+use Rattle.std.proofs.lemmas.Fmt.{decimal_nonempty}
+use Rattle.std.specs.Fmt.{signed_decimal}
 use Rattle.std.proofs.lemmas.Option.{same_Some}
 use Rattle.std.proofs.lemmas.Slice.Eq.{bytes_eq-Decides}
 use Rattle.json.specs.Json as json
@@ -19,22 +23,25 @@ use Rattle.json.specs.Tree.{json_tokens}
 use Rattle.json.proofs.Printed.Strings.{escape_byte_plain}
 use Rattle.json.proofs.Printed.Tokens.{tokens-print}
 use Rattle.json.proofs.Printed.Trees.{value-json_tokens, ArePrintable-json_tokens}
-use Rattle.json.proofs.Printed.Decimals.{IsNumber-decimal}
-use Rattle.serde_json.specs.Data.{Data, null, boolean, number, unsigned, string, array, object, Items, no_items, item, Members, no_members, member, put}
+use Rattle.json.proofs.Printed.Decimals.{IsNumber-decimal, IsNumber-signed_decimal}
+use Rattle.serde_json.specs.Data.{Data, null, boolean, number, unsigned, negative, string, array, object, Items, no_items, item, Members, no_members, member, put}
 use Rattle.serde_json.specs.Find.{get_member, as_bool}
 use Rattle.serde_json.specs.Read.{of_json, of_items, of_members, read, max_depth}
 use Rattle.serde_json.specs.Written.{outline, items_outline, members_outline, has_float, items_have_float, members_have_float, comma_if, compact_text, items_text, members_text}
-use Rattle.serde_json.proofs.Numbers.{number_of-decimal}
+use Rattle.serde_json.proofs.Numbers.{number_of-decimal, number_of-negative}
 use Rattle.serde_json.proofs.Texts.{print-outline}
 use Rattle.serde_json.proofs.Views.{get_member-put, get_member-put_other}
 use Rattle.sk_resp.specs.Spelling.{Bytes, colon}
+use Rattle.sk_resp.specs.Number.{IsI64}
 use Rattle.sk_payload.specs.Json.{value, is_short}
 use Rattle.sk_payload.specs.Head.{head, head_of_value, head_of_object}
 use Rattle.sk_payload.specs.Member.{required, optional, name_of, args_of, retry_of, generation_of, moment_of, seconds_of, until_of, first_failed_of}
 use Rattle.sk_payload.specs.declared.head.Retry.TheVariants.{Default}
 use Rattle.sk_payload.specs.declared.head.Until.TheVariants.{Success}
-use Rattle.sk_payload.specs.Usual.{is_plain, IsUsual, Shows, ShowsIf, Tells, place_in, slot_names, slot_of, head_of_sketch}
+use Rattle.sk_payload.specs.Usual.{is_plain, IsFront, IsUsual, Shows, ShowsIf, Tells, place_in, slot_names, slot_of, head_of_sketch}
 use Rattle.sk_payload.specs.declared.front.Found.{Found}
+use Rattle.sk_payload.specs.declared.front.Found.TheVariants as found
+use Rattle.sk_payload.specs.declared.front.Front.{Front}
 use Rattle.sk_payload.specs.declared.sketch.Sketch.{Sketch}
 use Rattle.sk_payload.proofs.Heads.{head_of_found}
 use Rattle.sk_payload.proofs.Bounds.{members_sum, members_text_le, short_enough}
@@ -59,8 +66,30 @@ usual_null most = (refl, refl, tt, omega arith)
 pub usual_boolean : (most : ℕ) (b : Bool) → IsUsual most (boolean b)
 usual_boolean most b = (refl, refl, tt, omega arith)
 
-pub usual_whole : (most n : ℕ) → n < 2 ^ 63 → IsUsual most (number (unsigned n))
-usual_whole most n small = (refl, ap (option_map number) (number_of-decimal n (omega arith)), IsNumber-decimal n (omega arith), omega arith)
+-- the number as a value
+abbrev pub number_in : ℤ → Data
+number_in (pos n) = number (unsigned n)
+number_in (negsuc n) = number (negative (negsuc n))
+
+pub usual_number : (most : ℕ) (z : ℤ) → IsI64 z → IsUsual most (number_in z)
+usual_number most (pos n) small = (refl, ap (option_map number) (number_of-decimal n (omega arith)), IsNumber-decimal n (omega arith), omega arith)
+usual_number most (negsuc n) small = (refl, ap (option_map number) (number_of-negative n small), IsNumber-signed_decimal (negsuc n) (omega arith), omega arith)
+
+pub number_text_is : (z : ℤ) → compact_text (number_in z) ≡ signed_decimal z
+number_text_is (pos n) = refl
+number_text_is (negsuc n) = refl
+
+pub number_some : (z : ℤ) → IsI64 z → 0 < length (signed_decimal z)
+number_some (pos n) small = decimal_nonempty n (omega arith)
+number_some (negsuc n) small = omega arith
+
+pub negative_shows : (z : ℤ) → lt_z z (pos 0) ≡ true → Shows found.Negative (number_in z)
+negative_shows (pos n) below = grind arith
+negative_shows (negsuc n) below = (negsuc n, refl)
+
+pub whole_shows : (z : ℤ) → lt_z z (pos 0) ≡ false → Shows (found.Whole (nat_abs z)) (number_in z)
+whole_shows (pos n) not_below = refl
+whole_shows (negsuc n) not_below = grind arith
 
 -- ---- arrays
 
@@ -310,17 +339,35 @@ pub take_one : (xs : Bytes) → 0 < length xs → take 1 xs ≡ get_or xs 0 0 �
 take_one [] some = absurd (omega arith)
 take_one (x ∷ xs) some = refl
 
-pub string_read : (xs : Bytes) (at : ℕ) → 1 ≤ at → at < length xs → get_or xs 0 0 ≡ 34 → get_or xs at 0 ≡ 34 → ((k : ℕ) → 1 ≤ k → k < at → is_plain (get_or xs k 0) ≡ true)
-    → take (at + 1) xs ≡ quoted (take (at + 1 - 2) (drop 1 xs))
-string_read [] at some below first last plain = absurd (omega arith)
-string_read (x ∷ xs) zero some below first last plain = absurd (omega arith)
-string_read (x ∷ xs) (suc m) some below first last plain =
-    let a : suc m + 1 ≡ suc (m + 1) = omega arith in
-    let b : m ≡ suc m + 1 - 2 = omega arith in
-    let more : take (m + 1) xs ≡ take m xs ++ get_or xs m 0 ∷ [] = take_more xs m 0 (omega arith) in
-    let same : escape (take m xs) ≡ take m xs = escape_plain (take m xs) (λ k lt. let within : k < m = omega (arith, length-take m xs) in ap is_plain (get_or-take m xs k 0 within) ∙ plain (suc k) (omega arith) (omega arith)) in
-    let content : take (m + 1) xs ≡ escape (take m xs) ++ 34 ∷ [] = more ∙ ap₂ (λ (s : Bytes) (q : ℕ). s ++ q ∷ []) (sym same) last in
-    ap (λ (n : ℕ). take n (x ∷ xs)) a ∙ ap₂ (λ (h : ℕ) (s : Bytes). h ∷ s) first content ∙ ap (λ (n : ℕ). quoted (take n xs)) b
+escape_joined : (s t : Bytes) → escape (s ++ t) ≡ escape s ++ escape t
+escape_joined s t = flat_map-append escape_byte s t
+
+-- behind a front of a string there are bytes that stand for themselves
+pub run_read : (xs : Bytes) (at end : ℕ) (s : Bytes) → at ≤ end → end ≤ length xs → take at xs ≡ 34 ∷ escape s → ((k : ℕ) → at ≤ k → k < end → is_plain (get_or xs k 0) ≡ true)
+    → take end xs ≡ 34 ∷ escape (s ++ take (end - at) (drop at xs))
+run_read xs at end s le within front plain =
+    let n = end - at in
+    let t = take n (drop at xs) in
+    let sum : end ≡ at + n = omega arith in
+    let same : escape t ≡ t = escape_plain t (λ k lt. let below : k < n = omega (arith, length-take n (drop at xs)) in ap is_plain (get_or-take n (drop at xs) k 0 below ∙ get_or-drop at xs k 0) ∙ plain (at + k) (omega arith) (omega arith)) in
+    ap (λ (m : ℕ). take m xs) sum ∙ take-add at n xs ∙ ap (λ (b : Bytes). b ++ t) front ∙ ap (λ (b : Bytes). 34 ∷ (escape s ++ b)) (sym same) ∙ ap (λ (b : Bytes). 34 ∷ b) (sym (escape_joined s t))
+
+-- behind a front of a string there is an escape of two bytes
+pub escape_read : (xs : Bytes) (at b : ℕ) (s : Bytes) → at + 1 < length xs → take at xs ≡ 34 ∷ escape s → get_or xs at 0 ≡ 92 → escape_byte b ≡ 92 ∷ get_or xs (at + 1) 0 ∷ [] → take (at + 2) xs ≡ 34 ∷ escape (s ++ b ∷ [])
+escape_read xs at b s below front first is =
+    let sum : at + 2 ≡ at + 1 + 1 = omega arith in
+    let one : take (at + 1) xs ≡ (34 ∷ escape s) ++ 92 ∷ [] = take_more xs at 0 (omega arith) ∙ ap₂ (λ (f : Bytes) (x : ℕ). f ++ x ∷ []) front first in
+    let two : take (at + 1 + 1) xs ≡ ((34 ∷ escape s) ++ 92 ∷ []) ++ get_or xs (at + 1) 0 ∷ [] = take_more xs (at + 1) 0 below ∙ ap (λ (f : Bytes). f ++ get_or xs (at + 1) 0 ∷ []) one in
+    let last : escape (b ∷ []) ≡ 92 ∷ get_or xs (at + 1) 0 ∷ [] = append-nil (escape_byte b) ∙ is in
+    ap (λ (m : ℕ). take m xs) sum ∙ two ∙ append_assoc (34 ∷ escape s) (92 ∷ []) (get_or xs (at + 1) 0 ∷ []) ∙ ap (λ (t : Bytes). (34 ∷ escape s) ++ t) (sym last) ∙ ap (λ (t : Bytes). 34 ∷ t) (sym (escape_joined s (b ∷ [])))
+
+-- behind a front of a string there is its last quote
+pub string_read : (xs : Bytes) (at : ℕ) (s : Bytes) → at < length xs → take at xs ≡ 34 ∷ escape s → get_or xs at 0 ≡ 34 → take (at + 1) xs ≡ quoted s
+string_read xs at s below front last = take_more xs at 0 below ∙ ap₂ (λ (f : Bytes) (x : ℕ). f ++ x ∷ []) front last
+
+pub front_at : (most : ℕ) (input : Bytes) (o : Option Front) → IfSome o (λ r. (most : ℕ) → IsFront most r input) → IfSome o (λ r. IsFront most r input)
+front_at most input None is = tt
+front_at most input (Some r) is = is most
 
 two_more : (at a n : ℕ) (xs : Bytes) → take (at + a + n) xs ≡ (take at xs ++ take a (drop at xs)) ++ take n (drop (at + a) xs)
 two_more at a n xs = take-add (at + a) n xs ∙ ap (λ (b : Bytes). b ++ take n (drop (at + a) xs)) (take-add at a xs)

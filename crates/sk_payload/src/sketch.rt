@@ -94,7 +94,7 @@ fn retry_of(found: Option<Found<'_>>) -> Option<Retry>
         } else {
             None
         },
-        Some(Found::Text(_)) | Some(Found::Array(_)) | Some(Found::Object(_)) => None,
+        Some(_) => None,
     }
 }
 
