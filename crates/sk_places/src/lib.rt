@@ -5,6 +5,7 @@ mod copies;
 mod ending;
 mod find;
 mod index;
+mod job_key;
 mod live_jobs;
 mod names;
 mod origin;

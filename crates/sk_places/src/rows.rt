@@ -20,7 +20,8 @@ ghost use Rattle.sk_places.specs.Segments.{is_text};
 ghost use Rattle.sk_places.specs.RowFilter.{selects};
 ghost use Rattle.sk_resp.specs.WordOrder.{is_member};
 
-use crate::index::{add_job, drop_job, job_of, take_job};
+use crate::index::{JobIndex, add_job, drop_job, take_job};
+use crate::job_key::{JobKey, OfJob};
 use crate::row::{Place, RowKey};
 use crate::row_filter::RowFilter;
 use crate::row_lists::{RowLists, are_lists};
@@ -32,7 +33,6 @@ use sk_cmd::{Scored, Side};
 use sk_payload::Payload;
 use sk_resp::{Word, Words};
 use sk_undo::UndoMultiset;
-use sk_zset::ByBytes;
 use std::alloc::Global;
 use std::marker::Model;
 
@@ -55,7 +55,7 @@ pub struct Rows {
     size: Size,
     // At the begin of an open step.
     size_then: Size,
-    index: UndoMultiset<Word>,
+    index: JobIndex,
     // Of the sets' rows.
     text_index: TextIndex,
 }
@@ -145,7 +145,7 @@ impl Rows {
         ensures is { result ≡ rows_of jid.now self.now.current }
         ensures small { result ≤ most }
     {
-        self.index.count(&ByBytes { bytes: jid })
+        self.index.count(&OfJob { jid })
     }
 
     /// How many rows a place has.
@@ -274,7 +274,7 @@ impl Rows {
         if self.size.rows == MOST_ROWS {
             return Err(Memory);
         }
-        let job = job_of(self.alloc, &payload)?;
+        let job = JobKey::of(&payload)?;
         let key = key_of(&row_key, &payload)?;
         self.lists.prepare(&row_key.place, 1)?;
         self.index.reserve(1)?;
@@ -295,7 +295,7 @@ impl Rows {
         if self.size.rows == MOST_ROWS {
             return Err(Memory);
         }
-        let job = job_of(self.alloc, &payload)?;
+        let job = JobKey::of(&payload)?;
         let key = key_of(&row_key, &payload)?;
         self.lists.prepare(&row_key.place, 1)?;
         self.index.reserve(1)?;
