@@ -7,6 +7,7 @@ pub mod Indexed
 pub mod Jobs
 pub mod Invariant
 pub mod Leaving
+pub mod LiveKeys
 pub mod Listed
 pub mod Lists
 pub mod Named

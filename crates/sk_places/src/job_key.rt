@@ -1,4 +1,4 @@
-// The id of a row's job, as the index of rows keeps it, and the order of such keys.
+// The id of a job, as the index of rows and the set of live jobs keep it, and the order of such keys.
 ghost use Rattle.std.specs.Prelude.{◌≡◌, IfOk};
 ghost use Rattle.std.proofs.Common.{rules};
 ghost use Rattle.std.proofs.lemmas.Cmp.{nat_list_cmp_total};
@@ -18,7 +18,7 @@ use sk_undo::Query;
 use std::cmp::Ordering;
 use std::marker::Model;
 
-/// The id of the job that a payload names. The payload shares its text with its row. Contracts see the id's bytes.
+/// The id of the job that a payload names. The payload is shared with the job's row, so that the id isn't copied. Contracts see the id's bytes.
 #[derive(Drop)]
 pub struct JobKey {
     payload: Payload,
@@ -46,7 +46,8 @@ impl JobKey {
         }
     }
 
-    fn bytes(&self) -> &[u8]
+    /// The bytes of the id.
+    pub fn jid(&self) -> &[u8]
         ensures { result.now ≡ self.now }
     {
         match self.payload.jid() {
@@ -62,7 +63,7 @@ impl PartialEq for JobKey {
     ghost laws = { Prim.search (comparing, rules) };
 
     fn eq(&self, other: &JobKey) -> bool {
-        self.bytes() == other.bytes()
+        self.jid() == other.jid()
     }
 }
 
@@ -80,7 +81,7 @@ impl Ord for JobKey {
     ghost matches_eq = { Prim.search (comparing, rules) };
 
     fn cmp(&self, other: &JobKey) -> Ordering {
-        compare_bytes(self.bytes(), other.bytes())
+        compare_bytes(self.jid(), other.jid())
     }
 }
 
@@ -104,7 +105,7 @@ impl<'a> Query<JobKey> for OfJob<'a> {
     ghost order = { λ query. text_cmp query.jid.now };
 
     fn cmp_key(&self, key: &JobKey) -> Ordering {
-        compare_bytes(self.jid, key.bytes())
+        compare_bytes(self.jid, key.jid())
     }
 
     ghost is_query = { λ query. key_query nat_list_cmp_total query.jid.now };

@@ -2,17 +2,18 @@
 ghost use Rattle.std.specs.Prelude.{◌≡◌, ◌<◌, ◌≤◌, Some, None, true, false, IfOk, IsSome, OnErr, OnOk, length, option_map};
 ghost use Rattle.std.specs.Option.{is_some};
 ghost use Rattle.sk_undo.specs.Balance.{most};
+ghost use Rattle.sk_resp.specs.WordOrder.{text_cmp};
+ghost use Rattle.sk_undo.specs.Sorted.{is_sorted};
 ghost use Rattle.sk_undo.specs.Versions.{begun, closed, committed, edited, undone};
 ghost use Rattle.sk_payload.specs.Head.{jid_of};
 ghost use Rattle.sk_places.specs.LiveJobs.{ended, is_among, job_pushed, no_jobs, one_if, pushed, without_jid};
 ghost use Rattle.sk_places.specs.Totals.{accounted, count_end, last_push, pushes_in, IsCountable, last_outside};
 
 use crate::index::jid_of;
+use crate::job_key::{JobKey, OfJob};
 use crate::{Ending, Memory, Origin, Totals};
 use sk_payload::Payload;
-use sk_resp::Word;
 use sk_undo::UndoSet;
-use sk_zset::ByBytes;
 use std::alloc::Global;
 use std::marker::Model;
 
@@ -20,9 +21,8 @@ use std::marker::Model;
 /// an open step.
 #[derive(Drop)]
 pub struct LiveJobs {
-    alloc: Global,
     // The ids of the jobs that are live.
-    live: UndoSet<Word>,
+    live: UndoSet<JobKey>,
     totals: Totals,
     // What the totals were at the begin of the open step.
     totals_then: Totals,
@@ -42,14 +42,25 @@ impl Model for LiveJobs {
 }
 
 // The job ends, if it is live.
-fn end_job(live: &mut UndoSet<Word>, totals: &mut Totals, jid: &[u8], how: Ending)
+fn end_job(live: &mut UndoSet<JobKey>, totals: &mut Totals, jid: &[u8], how: Ending)
     requires room { 0 < live.old.room }
     requires few { accounted totals.old 0 ≤ last_push }
     ensures live { live.new.list ≡ edited (without_jid jid.now live.old.list.current) live.old.list }
     ensures totals { totals.new ≡ count_end how (one_if (is_among jid.now live.old.list.current)) totals.old }
 {
-    if live.remove(&ByBytes { bytes: jid }) {
+    if live.remove(&OfJob { jid }) {
         totals.count_end(how);
+    }
+}
+
+// The key takes the place of an equal one, if there is one.
+fn put_again(live: &mut UndoSet<JobKey>, key: JobKey)
+    requires room { 1 < live.old.room }
+    requires sorted { is_sorted text_cmp live.old.list.current ≡ true }
+    ensures { live.new.list ≡ live.old.list }
+{
+    if live.remove(&key) {
+        live.insert(key);
     }
 }
 
@@ -59,7 +70,6 @@ impl LiveJobs {
         ensures { result ≡ closed no_jobs }
     {
         LiveJobs {
-            alloc,
             live: UndoSet::new(alloc),
             totals: Totals::none(),
             totals_then: Totals::none(),
@@ -100,15 +110,14 @@ impl LiveJobs {
     }
 
     // A row of a fresh job is pushed.
-    fn push_fresh(&mut self, jid: &[u8], from: Origin) -> Result<(), Memory>
+    fn push_fresh(&mut self, key: JobKey, from: Origin) -> Result<(), Memory>
         requires { IsCountable from self.old.current.totals }
-        ensures ok { OnOk result (self.new ≡ edited (job_pushed from true (Some jid.now) self.old.current) self.old) }
+        ensures ok { OnOk result (self.new ≡ edited (job_pushed from true (Some key) self.old.current) self.old) }
         ensures err { OnErr result (self.new ≡ self.old) }
     {
-        let job = Word::new(jid.to_vec(self.alloc)?);
         self.live.reserve(1)?;
         self.totals.count_push(from);
-        self.live.insert(job);
+        self.live.insert(key);
         Ok(())
     }
 
@@ -132,14 +141,26 @@ impl LiveJobs {
         ensures ok { OnOk result (self.new ≡ edited (pushed from (λ jid. fresh) payload.now self.old.current) self.old) }
         ensures err { OnErr result (self.new ≡ self.old) }
     {
-        match jid_of(payload) {
+        match JobKey::of(payload)? {
             None => {
                 self.push_bare(from);
                 Ok(())
             }
-            Some(jid) if fresh => self.push_fresh(jid, from),
-            Some(jid) => self.push_again(jid, from),
+            Some(key) if fresh => self.push_fresh(key, from),
+            Some(key) => self.push_again(key.jid(), from),
         }
+    }
+
+    /// The id of the payload's job, where that is live, is kept in this payload from now on, so that an older one can go.
+    pub fn share_key(&mut self, payload: &Payload) -> Result<(), Memory>
+        ensures { self.new ≡ self.old }
+    {
+        let _len = self.live.len(); // its contract says that they are in order
+        if let Some(key) = JobKey::of(payload)? {
+            self.live.reserve(2)?;
+            put_again(&mut self.live, key);
+        }
+        Ok(())
     }
 
     /// The job of this payload ends, if it is live. Takes no memory.
@@ -148,7 +169,7 @@ impl LiveJobs {
         ensures { self.new ≡ edited (ended how payload.now self.old.current) self.old }
     {
         if let Some(jid) = jid_of(payload) {
-            if self.live.take(&ByBytes { bytes: jid }) {
+            if self.live.take(&OfJob { jid }) {
                 self.totals.count_end(how);
             }
         }
