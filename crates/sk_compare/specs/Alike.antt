@@ -1,12 +1,13 @@
 -- When stories and a journal are alike, and where they differ.
-use Rattle.std.specs.Prelude.{◌≡◌, ◌≢◌, ◌==◌, ◌≤◌, ◌+◌, ◌++◌, ◌∷◌, ℕ, List, [], Option, Some, None, IsSome, get_or, length, map, take, if◌then◌else◌}
-use Rattle.std.specs.List.{AllByRecursion, flat_map, slice_get}
+use Rattle.std.specs.Prelude.{◌≡◌, ◌≢◌, ◌==◌, ◌≤◌, ◌+◌, ◌++◌, ◌∷◌, ℕ, List, [], Option, Some, None, get_or, length, map, take, if◌then◌else◌}
+use Rattle.std.specs.List.{flat_map, slice_get}
 use Rattle.sk_compare.specs.Exchange.{Exchange, exchange_of, text_in}
 use Rattle.sk_compare.specs.declared.difference.Difference.{Difference}
 use Rattle.sk_desk.specs.declared.entry.Ask.{Ask}
 use Rattle.sk_desk.specs.declared.entry.Deed.{Deed}
 use Rattle.sk_desk.specs.declared.entry.Deed.TheVariants as deed
 use Rattle.sk_desk.specs.declared.entry.Entry.{Entry}
+pub use Rattle.sk_desk.specs.Log.{AllAnswered, HasReply}
 use Rattle.sk_lane.specs.declared.story.Story.{Story}
 
 -- ## What is told of a seat, and what a journal has of it
@@ -27,14 +28,6 @@ with_deed deed.Cut xs = xs
 abbrev pub noted : List Entry → ℕ → List Exchange
 noted [] s = []
 noted (e ∷ entries) s = if e.seat == s then with_deed e.deed (noted entries s) else noted entries s
-
--- An ask has its reply.
-abbrev pub HasReply : Deed → Type 0
-HasReply (deed.Ask ask) = IsSome ask.reply
-HasReply deed.Cut = Unit {0}
-
-abbrev pub AllAnswered : List Entry → Type 0
-AllAnswered entries = AllByRecursion (λ e. HasReply e.deed) entries
 
 -- The journal has of each seat what is told of it, each ask once and in order.
 pub record Alike (told noted : ℕ → List Exchange) : Type 0 where

@@ -1,6 +1,7 @@
 -- What a command and a cut keep of what stands behind the lock.
-use Rattle.std.proofs.Common.{◌≡◌, ◌⊎◌, ◌≤◌, ◌+◌, ◌-◌, ◌∙◌, ℕ, List, [], ◌∷◌, ◌++◌, length, map, refl, sym, ap, subst, inl, inr, arith}
-use Rattle.std.specs.Prelude.{◌^◌, Bool, true, false, Option, Some, None, Ok, IfSome}
+use Rattle.std.proofs.Common.{◌≡◌, ◌⊎◌, ◌≤◌, ◌+◌, ◌-◌, ◌∙◌, ℕ, List, [], ◌∷◌, ◌++◌, length, length-append, map, refl, sym, ap, subst, inl, inr, arith}
+use Rattle.std.specs.Prelude.{◌^◌, ◌||◌, Bool, true, false, Option, Some, None, Ok, IfSome, IsSome, filter, is_none}
+use Rattle.std.proofs.lemmas.List.Elements.{filter-append}
 use Rattle.sk_resp.specs.Spelling.{Bytes}
 use Rattle.sk_resp.specs.declared.reply.Reply.{Reply}
 use Rattle.sk_cmd.specs.Reading.{Read}
@@ -18,10 +19,13 @@ use Rattle.sk_model.proofs.Theorems.Acknowledged.{acked, starved_acks_none}
 use Rattle.sk_model.proofs.Theorems.Reliable.{reliable}
 use Rattle.sk_model.proofs.Theorems.Runs.{leads_on}
 use Rattle.sk_model.proofs.Theorems.Starving.{limits_kept}
+use Rattle.sk_desk.specs.declared.entry.Deed.{Deed}
+use Rattle.sk_desk.specs.declared.entry.Deed.TheVariants as deed
 use Rattle.sk_desk.specs.declared.entry.Entry.{Entry}
+use Rattle.sk_desk.specs.Counts.{Counts, CountsAsk, HasEvents, ShareView, is_ask, is_cut, nothing, with_ask}
 use Rattle.sk_desk.specs.Journal.{IsJournal, KeepsReply, Records, RecordsAll, event_of}
-use Rattle.sk_desk.specs.Log.{IsClosed, IsOpen, IsText, Log, Notes, Prepares, Writes, ask_entry, cut_entry, empty, with_entry, with_note, with_waiting}
-use Rattle.sk_desk.specs.State.{Asked, Asks, IsConsistent, IsLogged, Quits, StateView}
+use Rattle.sk_desk.specs.Log.{AllAnswered, HasReply, IsClosed, IsOpen, IsText, Log, Notes, Prepares, Writes, ask_entry, cut_entry, empty, lacks_reply, with_entry, with_note, with_waiting}
+use Rattle.sk_desk.specs.State.{Asked, Asks, IsConsistent, IsKept, IsLogged, Quits, StateView}
 
 -- ## What a book logs
 
@@ -42,9 +46,33 @@ pub noted_after : (log mid after : Option Log) (seat now : ℕ) (words : Words) 
 noted_after None mid after seat now words text none is then_ = subst (λ m. Writes m (with_note text) after) is then_
 noted_after (Some log) mid after seat now words text none (inl is) then_ = by_note (subst (λ m. Writes m (with_note text) after) is then_) where
   by_note : Writes (Some (with_waiting (ask_entry seat now words None) log)) (with_note text) after → Writes (Some log) (with_entry (ask_entry seat now words text)) after
-  by_note (inl got) = inl (got ∙ ap (λ waiting. Some (record { entries = log.entries ++ ask_entry seat now words text ∷ []; waiting = waiting })) (sym none))
+  by_note (inl got) = inl (got ∙ ap (λ waiting. Some (record (with_entry (ask_entry seat now words text) log) { waiting = waiting })) (sym none))
   by_note (inr got) = inr got
 noted_after (Some log) mid after seat now words text none (inr (many, is)) then_ = inr (many, subst (λ m. Writes m (with_note text) after) is then_)
+
+-- ## Each Ask has its reply
+
+has_text : {T : Type 0} (text : Option T) → is_none text ≡ false → IsSome text
+has_text (Some t) has = refl
+has_text None has = absurd (cc has)
+
+has_reply : (d : Deed) → lacks_reply d ≡ false → HasReply d
+has_reply (deed.Ask ask) has = has_text ask.reply has
+has_reply deed.Cut has = tt
+
+answered-append : (entries : List Entry) (e : Entry) → AllAnswered entries → HasReply e.deed → AllAnswered (entries ++ e ∷ [])
+answered-append [] e all one = (one, tt)
+answered-append (x ∷ entries) e all one = (all.0, answered-append entries e all.1 one)
+
+neither : (a b : Bool) → (a || b) ≡ false → (a ≡ false) × (b ≡ false)
+neither true b is = absurd (cc is)
+neither false b is = (refl, is)
+
+-- also with one more entry, where memory was never wanting
+answered_on : (log : Log) (e : Entry) → (log.starved ≡ false → AllAnswered log.entries) → (lacks_reply e.deed || log.starved) ≡ false → AllAnswered (log.entries ++ e ∷ [])
+answered_on log e answered is =
+    let both = neither (lacks_reply e.deed) log.starved is in
+    answered-append log.entries e (answered both.1) (has_reply e.deed both.0)
 
 -- ## A journal goes on
 
@@ -76,13 +104,31 @@ journal_on entries w v e journal r =
 
 logged_on : (log after : Option Log) (w v : World) (e : Entry) → IfSome log (IsLogged w) → Recorded w e v → Writes log (with_entry e) after → IfSome after (IsLogged v)
 logged_on None after w v e logged r is = subst (λ l. IfSome l (IsLogged v)) (sym is) tt
-logged_on (Some log) after w v e logged r (inl is) = subst (λ l. IfSome l (IsLogged v)) (sym is) (record { closed = logged.closed; journal = journal_on log.entries w v e logged.journal r })
+logged_on (Some log) after w v e logged r (inl is) = subst (λ l. IfSome l (IsLogged v)) (sym is) (record { closed = logged.closed; answered = answered_on log e logged.answered; journal = journal_on log.entries w v e logged.journal r })
 logged_on (Some log) after w v e logged r (inr (many, is)) = subst (λ l. IfSome l (IsLogged v)) (sym is) tt
 
 -- a book that tells no log has none afterwards
 unlogged_on : (log after : Option Log) (w : World) (e : Entry) → log ≡ None → Writes log (with_entry e) after → IfSome after (IsLogged w)
 unlogged_on None after w e none is = subst (λ l. IfSome l (IsLogged w)) (sym is) tt
 unlogged_on (Some log) after w e none is = absurd (cc none)
+
+-- ## Its entries are counted
+
+none_more : {a b : ℕ} → a ≡ b → a ≡ b + 0
+none_more is = omega (arith, is)
+
+-- one more entry is one more where it passes
+counted_on : (passes : Deed → Bool) (entries : List Entry) (e : Entry) → length (filter (λ x. passes x.deed) (entries ++ e ∷ [])) ≡ length (filter (λ x. passes x.deed) entries) + length (filter (λ x. passes x.deed) (e ∷ []))
+counted_on passes entries e = ap length (filter-append (λ x. passes x.deed) entries (e ∷ [])) ∙ length-append (filter (λ x. passes x.deed) entries) (filter (λ x. passes x.deed) (e ∷ []))
+
+events_on : (log after : Option Log) (e : Entry) (c c' : Counts) → IfSome log (λ l. HasEvents c.asks c.cuts l.entries) → Writes log (with_entry e) after → c'.asks ≡ c.asks + length (filter (λ x. is_ask x.deed) (e ∷ []))
+    → c'.cuts ≡ c.cuts + length (filter (λ x. is_cut x.deed) (e ∷ [])) → IfSome after (λ l. HasEvents c'.asks c'.cuts l.entries)
+events_on None after e c c' has is asks cuts = subst (λ o. IfSome o (λ l. HasEvents c'.asks c'.cuts l.entries)) (sym is) tt
+events_on (Some log) after e c c' has (inl is) asks cuts = subst (λ o. IfSome o (λ l. HasEvents c'.asks c'.cuts l.entries)) (sym is) (record {
+  asks_are = counted_on is_ask log.entries e ∙ ap (λ n. n + length (filter (λ x. is_ask x.deed) (e ∷ []))) has.asks_are ∙ sym asks;
+  cuts_are = counted_on is_cut log.entries e ∙ ap (λ n. n + length (filter (λ x. is_cut x.deed) (e ∷ []))) has.cuts_are ∙ sym cuts;
+})
+events_on (Some log) after e c c' has (inr (many, is)) asks cuts = subst (λ o. IfSome o (λ l. HasEvents c'.asks c'.cuts l.entries)) (sym is) tt
 
 -- ## An empty store
 
@@ -93,10 +139,20 @@ journal_first limits =
 
 logged_first : (log : Option Log) (limits : Limits) → IfSome log (λ l. l ≡ empty) → IfSome log (IsLogged (first limits))
 logged_first None limits none = tt
-logged_first (Some log) limits none = subst (IsLogged (first limits)) (sym none) (record { closed = refl; journal = journal_first limits })
+logged_first (Some log) limits none = subst (IsLogged (first limits)) (sym none) (record { closed = refl; answered = λ is. tt; journal = journal_first limits })
 
-pub consistent_first : (log : Option Log) (limits : Limits) (total : ℕ) → total ≡ 0 → IfSome log (λ l. l ≡ empty) → IsConsistent (record { world = first limits; log = log; total = total })
-consistent_first log limits total zero_ none = record { counted = zero_; logged = logged_first log limits none }
+events_first : (log : Option Log) (total : Counts) → total ≡ nothing → IfSome log (λ l. l ≡ empty) → IfSome log (λ l. HasEvents total.asks total.cuts l.entries)
+events_first None total zero_ none = tt
+events_first (Some log) total zero_ none = record {
+  asks_are = ap (λ (l : Log). length (filter (λ (e : Entry). is_ask e.deed) l.entries)) none ∙ sym (ap (λ (c : Counts). c.asks) zero_);
+  cuts_are = ap (λ (l : Log). length (filter (λ (e : Entry). is_cut e.deed) l.entries)) none ∙ sym (ap (λ (c : Counts). c.cuts) zero_);
+}
+
+pub kept_first : (log : Option Log) (limits own : Limits) (total : Counts) → limits ≡ own → total ≡ nothing → IfSome log (λ l. l ≡ empty) → IsKept own (record { world = first limits; log = log; total = total })
+kept_first log limits own total is zero_ none = record {
+  limits_are = is;
+  consistent = record { counted = ap (λ (c : Counts). c.rows) zero_; logged = logged_first log limits none; events = events_first log total zero_ none };
+}
 
 -- ## A command
 
@@ -125,16 +181,17 @@ desk_acknowledged old new seat now c answer before early step =
     record { added = counts.added; acks = counts.acks; after_is = omega (arith, early, counts.after_is) }
 
 -- what `State::ask` comes to, where the tally grew by so many
-pub asks : (old new : StateView) (mid : Option Log) (seat now : ℕ) (words : Words) (c : Command) (answer : Reply) (mine mine' added : ℕ) → IsConsistent old → Stepped old.world seat now c answer new.world
-    → Prepares seat now words old.log mid → Notes answer mid new.log → added ≡ new.world.tally.outside - old.world.tally.outside → new.total ≡ old.total + added → mine' ≡ mine + added → Asked old new seat now words c answer mine mine'
-asks old new mid seat now words c answer mine mine' added consistent step prepares (text, is_text, notes) is total amount =
+pub asks : (old new : StateView) (mid : Option Log) (seat now : ℕ) (words : Words) (c : Command) (answer : Reply) (mine mine' : ShareView) (rows : ℕ) → IsConsistent old → Stepped old.world seat now c answer new.world
+    → Prepares seat now words old.log mid → Notes answer mid new.log → rows ≡ new.world.tally.outside - old.world.tally.outside → new.total ≡ with_ask rows old.total → mine' ≡ record mine { counts = with_ask rows mine.counts } → Asked old new seat now words c answer mine mine'
+asks old new mid seat now words c answer mine mine' rows consistent step prepares (text, is_text, notes) is total share =
     let counts : Acknowledges c answer old.world.tally.outside new.world.tally.outside = acknowledged old.world new.world seat now c answer step in
-    let same : counts.added ≡ added = omega (arith, is, counts.after_is) in
+    let same : counts.added ≡ rows = omega (arith, is, counts.after_is) in
     record {
       outcome = step.0;
       steps = step.1;
       comes = step.2;
-      acked = record { added = added; acks = subst (λ n. Acks c answer n) same counts.acks; after_is = amount };
+      acked = record { added = rows; acks = subst (λ n. Acks c answer n) same counts.acks; after_is = ap (λ (s : ShareView). s.counts.rows) share };
+      mine_is = share;
       total_is = total;
       text = text;
       is_text = is_text;
@@ -142,25 +199,46 @@ asks old new mid seat now words c answer mine mine' added consistent step prepar
     }
 
 -- either way the share grew by what the reply acknowledges
-pub ask_acknowledged : (old new : StateView) (seat now : ℕ) (words : Words) (c : Command) (answer : Reply) (mine mine' : ℕ) → Asks old new seat now words c answer mine mine' → Acknowledges c answer mine mine'
+pub ask_acknowledged : (old new : StateView) (seat now : ℕ) (words : Words) (c : Command) (answer : Reply) (mine mine' : ShareView) → Asks old new seat now words c answer mine mine' → Acknowledges c answer mine.counts.rows mine'.counts.rows
 ask_acknowledged old new seat now words c answer mine mine' (inl asked) = asked.acked
 ask_acknowledged old new seat now words c answer mine mine' (inr unasked) =
-    record { added = 0; acks = subst (λ r. Acks c r 0) (sym unasked.says) (starved_acks_none c); after_is = omega (arith, unasked.mine_same) }
+    record { added = 0; acks = subst (λ r. Acks c r 0) (sym unasked.says) (starved_acks_none c); after_is = omega (arith, ap (λ (s : ShareView). s.counts.rows) unasked.mine_same) }
+
+-- by one command, or by none where the reply says that memory was wanting
+pub ask_counted : (old new : StateView) (seat now : ℕ) (words : Words) (c : Command) (answer : Reply) (mine mine' : ShareView) → Asks old new seat now words c answer mine mine' → CountsAsk answer mine.counts.asks mine'.counts.asks
+ask_counted old new seat now words c answer mine mine' (inl asked) = inl (ap (λ (s : ShareView). s.counts.asks) asked.mine_is)
+ask_counted old new seat now words c answer mine mine' (inr unasked) = inr (unasked.says, ap (λ (s : ShareView). s.counts.asks) unasked.mine_same)
+
+-- and by no cut
+pub ask_cuts_none : (old new : StateView) (seat now : ℕ) (words : Words) (c : Command) (answer : Reply) (mine mine' : ShareView) → Asks old new seat now words c answer mine mine' → mine'.counts.cuts ≡ mine.counts.cuts
+ask_cuts_none old new seat now words c answer mine mine' (inl asked) = ap (λ (s : ShareView). s.counts.cuts) asked.mine_is
+ask_cuts_none old new seat now words c answer mine mine' (inr unasked) = ap (λ (s : ShareView). s.counts.cuts) unasked.mine_same
 
 -- what a command leaves is consistent again, whether its book wants the words, or tells no log
-pub asked_consistent : (wants : Bool) (old new : StateView) (seat now : ℕ) (words : Words) (c : Command) (answer : Reply) (mine mine' : ℕ) → IsConsistent old → (wants ≡ true → IsRead words (Ok c)) → (wants ≡ false → old.log ≡ None) → Asked old new seat now words c answer mine mine' → new.total ≡ new.world.tally.outside → IsConsistent new
-asked_consistent true old new seat now words c answer mine mine' consistent is_read untold asked count = record {
-  counted = count;
-  logged = logged_on old.log new.log old.world new.world (ask_entry seat now words asked.text) consistent.logged
-      (record { outcome = asked.outcome; happens = (Ok c, is_read refl, asked.steps); new_is = asked.comes.new_is; reply = subst (λ r. IsText r asked.text) asked.comes.reply_is asked.is_text }) asked.entered;
+asked_logged : (wants : Bool) (old new : StateView) (seat now : ℕ) (words : Words) (c : Command) (answer : Reply) (mine mine' : ShareView) → IfSome old.log (IsLogged old.world) → (wants ≡ true → IsRead words (Ok c)) → (wants ≡ false → old.log ≡ None) → Asked old new seat now words c answer mine mine' → IfSome new.log (IsLogged new.world)
+asked_logged true old new seat now words c answer mine mine' logged is_read untold asked =
+    logged_on old.log new.log old.world new.world (ask_entry seat now words asked.text) logged
+    (record { outcome = asked.outcome; happens = (Ok c, is_read refl, asked.steps); new_is = asked.comes.new_is; reply = subst (λ r. IsText r asked.text) asked.comes.reply_is asked.is_text }) asked.entered
+asked_logged false old new seat now words c answer mine mine' logged is_read untold asked = unlogged_on old.log new.log new.world (ask_entry seat now words asked.text) (untold refl) asked.entered
+
+pub asked_kept : (wants : Bool) (limits : Limits) (old new : StateView) (seat now : ℕ) (words : Words) (c : Command) (answer : Reply) (mine mine' : ShareView) → IsKept limits old → (wants ≡ true → IsRead words (Ok c)) → (wants ≡ false → old.log ≡ None) → Asked old new seat now words c answer mine mine' → new.total.rows ≡ new.world.tally.outside → IsKept limits new
+asked_kept wants limits old new seat now words c answer mine mine' kept is_read untold asked count = record {
+  limits_are = ap (λ (w : World). w.limits) asked.comes.new_is ∙ limits_kept old.world asked.outcome.changes ∙ kept.limits_are;
+  consistent = record {
+    counted = count;
+    logged = asked_logged wants old new seat now words c answer mine mine' kept.consistent.logged is_read untold asked;
+    events = events_on old.log new.log (ask_entry seat now words asked.text) old.total new.total kept.consistent.events asked.entered (ap (λ (t : Counts). t.asks) asked.total_is) (none_more (ap (λ (t : Counts). t.cuts) asked.total_is));
+  };
 }
-asked_consistent false old new seat now words c answer mine mine' consistent is_read untold asked count =
-    record { counted = count; logged = unlogged_on old.log new.log new.world (ask_entry seat now words asked.text) (untold refl) asked.entered }
 
 -- ## A cut
 
-pub cut_consistent : (old new : StateView) (seat : ℕ) → IsConsistent old → Quits old new seat → IsConsistent new
-cut_consistent old new seat consistent quits = record {
-  counted = quits.total_same ∙ consistent.counted ∙ sym (ap (λ (w : World). w.tally.outside) quits.world_is);
-  logged = logged_on old.log new.log old.world new.world (cut_entry seat) consistent.logged (record { outcome = cut seat; happens = refl; new_is = quits.world_is; reply = tt }) quits.entered;
+pub cut_kept : (limits : Limits) (old new : StateView) (seat : ℕ) → IsKept limits old → Quits old new seat → IsKept limits new
+cut_kept limits old new seat kept quits = record {
+  limits_are = ap (λ (w : World). w.limits) quits.world_is ∙ limits_kept old.world (cut seat).changes ∙ kept.limits_are;
+  consistent = record {
+    counted = ap (λ (t : Counts). t.rows) quits.total_is ∙ kept.consistent.counted ∙ sym (ap (λ (w : World). w.tally.outside) quits.world_is);
+    logged = logged_on old.log new.log old.world new.world (cut_entry seat) kept.consistent.logged (record { outcome = cut seat; happens = refl; new_is = quits.world_is; reply = tt }) quits.entered;
+    events = events_on old.log new.log (cut_entry seat) old.total new.total kept.consistent.events quits.entered (none_more (ap (λ (t : Counts). t.asks) quits.total_is)) (ap (λ (t : Counts). t.cuts) quits.total_is);
+  };
 }

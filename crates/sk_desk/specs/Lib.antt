@@ -1,3 +1,4 @@
+pub mod Counts
 pub mod Pass
 pub mod Log
 pub mod Journal

@@ -29,7 +29,8 @@ pub trait Book: Drop {
         ensures ok { OnOk result (Prepares seat now words.now (log self.old) (log self.new)) }
         ensures err { OnErr result (log self.new ≡ log self.old) };
 
-    /// Enters what was prepared, with the text of the reply, or without one for want of memory. It never fails.
+    /// Enters what was prepared, with the text of the reply. Where there is no memory for that, the entry is without it, and the log says so from then
+    /// on. It never fails.
     fn note(&mut self, reply: &Reply)
         requires { IsOpen (log self.old) }
         ensures { Notes reply.now (log self.old) (log self.new) };

@@ -1,5 +1,5 @@
 // A book that keeps every entry. An entry is made in a list of its own, whose node is then put behind the others: that takes no memory.
-ghost use Rattle.std.specs.Prelude.{◌≡◌, ◌≤◌, ◌^◌, [], ◌∷◌, length, true, MatchOption, Some};
+ghost use Rattle.std.specs.Prelude.{◌≡◌, ◌≤◌, ◌^◌, ◌||◌, [], ◌∷◌, length, true, is_none, IfSome, MatchOption, Some};
 ghost use Rattle.sk_desk.specs.Log.{IsText, cut_entry, empty, noted};
 
 use crate::{Ask, Book, Deed, Entry};
@@ -15,6 +15,8 @@ pub struct FullBook {
     entries: LinkedList<Entry>,
     // the entry that waits for its reply
     waiting: LinkedList<Entry>,
+    // the text of a reply found no memory
+    starved: bool,
     // an entry found no place behind 2^62 others
     lost: bool,
 }
@@ -25,7 +27,7 @@ impl Model for FullBook {
 
     ghost Value = { Option Log };
 
-    ghost view = { λ book. log_in book.lost book.entries book.waiting };
+    ghost view = { λ book. log_in book.lost (record { entries = book.entries; waiting = book.waiting; starved = book.starved }) };
 
     ghost invariant = { λ book. book.lost ≡ true → 2 ^ 62 ≤ length book.entries };
 }
@@ -46,6 +48,7 @@ impl FullBook {
             alloc,
             entries: LinkedList::new(alloc),
             waiting: LinkedList::new(alloc),
+            starved: false,
             lost: false,
         }
     }
@@ -55,6 +58,13 @@ impl FullBook {
         ensures { MatchOption self.now (2 ^ 62 ≤ length result.now) (λ log. result.now ≡ log.entries) }
     {
         &self.entries
+    }
+
+    /// Whether the text of some reply found no memory, so that its entry has none. Takes no memory.
+    pub fn is_starved(&self) -> bool
+        ensures { IfSome self.now (λ log. result ≡ log.starved) }
+    {
+        self.starved
     }
 }
 
@@ -86,6 +96,13 @@ pub(crate) fn text_of(alloc: Global, reply: &Reply) -> Option<Word>
         return None;
     };
     Some(Word::new(text))
+}
+
+// There is no text of a reply, or there was none of an earlier one.
+fn starves(text: &Option<Word>, before: bool) -> bool
+    ensures { result ≡ (is_none text.now || before) }
+{
+    text.is_none() || before
 }
 
 impl Book for FullBook {
@@ -123,6 +140,7 @@ impl Book for FullBook {
 
     fn note(&mut self, reply: &Reply) {
         let text = text_of(self.alloc, reply);
+        self.starved = starves(&text, self.starved);
         if let Some(entry) = self.waiting.front_mut() {
             entry.note(text);
         }

@@ -1,15 +1,16 @@
 // The lock round the store, and what is left of it once no desk uses it.
-ghost use Rattle.std.specs.Prelude.{◌≡◌, ◌⊎◌, ◌↔◌, ◌<◌, ◌≤◌, ◌+◌, ◌-◌, ◌^◌, length, true, Ok, Err, IfOk, IfErr, IfSome};
+ghost use Rattle.std.specs.Prelude.{◌≡◌, ◌⊎◌, ◌↔◌, ◌<◌, ◌≤◌, ◌+◌, ◌-◌, ◌^◌, length, false, true, Ok, Err, IfOk, IfErr, IfSome};
 ghost use Rattle.sk_cmd.specs.Table.{IsRead};
 ghost use Rattle.sk_core.specs.Whole.{KeepsLaws};
 ghost use Rattle.sk_jobs.specs.Counting.{tally_of};
 ghost use Rattle.sk_model.specs.Acked.{Acknowledges};
+ghost use Rattle.sk_desk.specs.Counts.{CountsAsk, HasEvents, blank_share, with_cut};
 ghost use Rattle.sk_desk.specs.Journal.{IsJournal};
-ghost use Rattle.sk_desk.specs.Log.{empty};
-ghost use Rattle.sk_desk.specs.Pass.{seated};
+ghost use Rattle.sk_desk.specs.Log.{AllAnswered, empty};
+ghost use Rattle.sk_desk.specs.Pass.{pass_of, seated};
 ghost use Rattle.sk_desk.specs.State.{IsBalanced, IsConsistent};
 
-use crate::{Book, Entry, FullBook, LockedDesk, Pass, State};
+use crate::{Book, Entry, FullBook, HubBlank, HubId, HubShare, HubTotal, LockedDesk, Pass, State};
 use sk_cmd::Command;
 use sk_core::Core;
 use sk_model::Limits;
@@ -18,7 +19,6 @@ use sk_status::Tally;
 use std::alloc::Global;
 use std::collections::LinkedList;
 use std::marker::Model;
-use std::sync::ledger::{self, Blank, Ledger, Share};
 use std::sync::{Mutex, Wait};
 
 /// Why there is no seat.
@@ -32,19 +32,20 @@ pub enum HubFault {
 
 /// A store that threads share, behind one lock.
 #[derive(Drop)]
-pub struct Hub<L: Ledger, B: Book> {
-    state: Mutex<State<L, B>>,
+pub struct Hub<I: HubId, B: Book> {
+    state: Mutex<State<I, B>>,
 }
 
-impl<L: Ledger, B: Book> Hub<L, B> {
-    /// An empty store with these limits, and the pass to all its seats: the numbers from 1 to 2^32 - 1, and every part of the ledger, of which
-    /// there are 2^34. The book has no entries, where it tells them. Takes no memory.
-    pub fn new(alloc: Global, blank: Blank, limits: Limits, book: B) -> (Hub<L, B>, Pass<L>)
-        requires blank { (blank.name ≡ L.name) × (blank.parts ≡ L.parts) × (blank.parts ≡ 2 ^ 34) }
+impl<I: HubId, B: Book> Hub<I, B> {
+    /// An empty store with the hub's limits, and the pass to all its seats: the numbers from 1 to 2^32 - 1, and every part of the hub's ledgers, of
+    /// which each has 2^34. The book has no entries, where it tells them. Takes no memory.
+    pub fn new(alloc: Global, blank: HubBlank, limits: Limits, book: B) -> (Hub<I, B>, Pass<I>)
+        requires blank { blank ≡ record { acks = I.acks; asks = I.asks; cuts = I.cuts } }
+        requires limits { limits ≡ I.limits }
         requires book { IfSome (B.log book) (λ log. log ≡ empty) }
-        ensures { result.1 ≡ record { given = 0; count = 2 ^ 32 - 1; parts = L.parts; amount = 0 } }
+        ensures { result.1 ≡ pass_of 0 (2 ^ 32 - 1) (blank_share (2 ^ 34)) }
     {
-        let (total, share) = blank.open::<L>();
+        let (total, share) = blank.open::<I>();
         let state = Mutex::new(State::new(alloc, limits, book, total));
         (Hub { state }, Pass::new(0, u32::MAX, share))
     }
@@ -54,9 +55,9 @@ impl<L: Ledger, B: Book> Hub<L, B> {
     pub fn seat<'a, R: Wait>(
         &'a self,
         rt: &'a R,
-        pass: &mut Pass<L>,
-    ) -> Result<LockedDesk<'a, R, L, B>, HubFault>
-        ensures seat { IfOk result (λ desk. desk ≡ record { seat = pass.new.given; amount = 0 }) }
+        pass: &mut Pass<I>,
+    ) -> Result<LockedDesk<'a, R, I, B>, HubFault>
+        ensures seat { IfOk result (λ desk. desk ≡ record { seat = pass.new.given; amount = 0; asks = 0 }) }
         ensures pass { IfOk result (λ desk. pass.new ≡ seated pass.old) }
         ensures part { IfOk result (λ desk. pass.new.parts + 1 ≡ pass.old.parts) }
         ensures fault { IfErr result (λ fault. pass.new ≡ pass.old) }
@@ -81,7 +82,7 @@ impl<L: Ledger, B: Book> Hub<L, B> {
     pub(crate) fn ask<R: Wait>(
         &self,
         rt: &R,
-        share: &mut Share<L>,
+        share: &mut HubShare<I>,
         seat: u32,
         now: u64,
         words: &Words,
@@ -90,22 +91,28 @@ impl<L: Ledger, B: Book> Hub<L, B> {
         requires part { 0 < share.old.parts }
         requires read { B.wants_words ≡ true → IsRead words.now (Ok command) }
         ensures parts { share.new.parts ≡ share.old.parts }
-        ensures acked { Acknowledges command result share.old.amount share.new.amount }
+        ensures cuts { share.new.counts.cuts ≡ share.old.counts.cuts }
+        ensures acked { Acknowledges command result share.old.counts.rows share.new.counts.rows }
+        ensures asked { CountsAsk result share.old.counts.asks share.new.counts.asks }
     {
         self.state.lock(rt).ask(share, seat, now, words, command)
     }
 
     // The cut of a seat.
-    pub(crate) fn quit<R: Wait>(&self, rt: &R, seat: u32, place: B::Place) {
-        self.state.lock(rt).quit(seat, place);
+    pub(crate) fn quit<R: Wait>(&self, rt: &R, share: &mut HubShare<I>, seat: u32, place: B::Place)
+        requires { 0 < share.old.parts }
+        ensures { share.new ≡ record share.old { counts = with_cut share.old.counts } }
+    {
+        self.state.lock(rt).quit(share, seat, place);
     }
 
     /// Gives the store and its book up. Takes no memory.
     pub fn abandon(self) {}
 
-    /// The store and its book, once no desk is left.
-    pub fn close(self) -> Closed<L, B>
+    /// The store and its book, once no desk is left. The store has the limits that the hub was handed.
+    pub fn close(self) -> Closed<I, B>
         ensures laws { KeepsLaws result.world }
+        ensures limits { result.world.limits ≡ I.limits }
         ensures consistent { IsConsistent result }
     {
         let state = self.state.into_inner();
@@ -117,28 +124,30 @@ impl<L: Ledger, B: Book> Hub<L, B> {
 
 /// What a hub leaves: the store, the book and the total. Contracts see the same of it as of the state behind the lock.
 #[derive(Drop)]
-pub struct Closed<L: Ledger, B: Book> {
+pub struct Closed<I: HubId, B: Book> {
     pub core: Core,
     pub book: B,
-    pub total: ledger::Book<L>,
+    pub total: HubTotal<I>,
 }
 
-impl<L: Ledger, B: Book> Model for Closed<L, B> {
-    ghost use Rattle.sk_desk.specs.State.{IsConsistent, StateView};
+impl<I: HubId, B: Book> Model for Closed<I, B> {
+    ghost use Rattle.sk_desk.specs.State.{IsKept, StateView};
 
     ghost Value = { StateView };
 
-    ghost view = { λ s. record { world = s.core; log = B.log s.book; total = s.total.total } };
+    ghost view = { λ s. record { world = s.core; log = B.log s.book; total = s.total } };
 
-    ghost invariant = { λ s. IsConsistent (record { world = s.core; log = B.log s.book; total = s.total.total }) };
+    ghost invariant = { λ s. IsKept I.limits (record { world = s.core; log = B.log s.book; total = s.total }) };
 }
 
-impl<L: Ledger, B: Book> Closed<L, B> {
-    /// How many rows all desks acknowledged. The pass has every part again: then that is its amount, and the number of rows that clients ever pushed.
-    pub fn audit(&mut self, pass: &mut Pass<L>) -> u64
-        requires { pass.old.parts ≡ L.parts }
+impl<I: HubId, B: Book> Closed<I, B> {
+    /// How many rows all desks acknowledged. The pass has every part again: then that is its amount, and the number of rows that clients ever pushed;
+    /// and the journal, where the book tells it, has an Ask for each command that the pass counts, and a Cut for each seat.
+    pub fn audit(&mut self, pass: &mut Pass<I>) -> u64
+        requires { pass.old.parts ≡ 2 ^ 34 }
         ensures amount { result ≡ pass.old.amount }
         ensures outside { result ≡ self.old.world.tally.outside }
+        ensures events { IfSome self.old.log (λ log. HasEvents pass.old.asks pass.old.cuts log.entries) }
         ensures same { (self.new ≡ self.old) × (pass.new ≡ pass.old) }
     {
         pass.audit(&mut self.total);
@@ -146,8 +155,8 @@ impl<L: Ledger, B: Book> Closed<L, B> {
     }
 
     /// How many rows all desks acknowledged, as `audit` tells, and the tally of all rows; the store and its book are given up. Takes no memory.
-    pub fn finish(self, pass: &mut Pass<L>) -> (u64, Tally)
-        requires { pass.old.parts ≡ L.parts }
+    pub fn finish(self, pass: &mut Pass<I>) -> (u64, Tally)
+        requires { pass.old.parts ≡ 2 ^ 34 }
         ensures amount { result.0 ≡ pass.old.amount }
         ensures outside { result.0 ≡ result.1.outside }
         ensures tally { result.1 ≡ tally_of self.world }
@@ -155,17 +164,43 @@ impl<L: Ledger, B: Book> Closed<L, B> {
         ensures same { pass.new ≡ pass.old }
     {
         let mut closed = self;
+        let sums = closed.sums(pass);
+        closed.give_up();
+        sums
+    }
+
+    // How many rows all desks acknowledged, and the tally of all rows.
+    fn sums(&mut self, pass: &mut Pass<I>) -> (u64, Tally)
+        requires { pass.old.parts ≡ 2 ^ 34 }
+        ensures amount { result.0 ≡ pass.old.amount }
+        ensures outside { result.0 ≡ result.1.outside }
+        ensures tally { result.1 ≡ tally_of self.old.world }
+        ensures balanced { IsBalanced result.1 }
+        ensures same { pass.new ≡ pass.old }
+    {
+        let closed = self;
         let acknowledged = closed.audit(pass);
         (acknowledged, closed.core.tally())
     }
+
+    // The store and its book go.
+    fn give_up(self) {}
 }
 
-impl<L: Ledger> Closed<L, FullBook> {
-    /// The journal: its entries are the events of a run from the empty store to this one, each with the text of that run's reply, where there was
-    /// memory for it. All that holds of every run holds of it. Takes no memory.
+impl<I: HubId> Closed<I, FullBook> {
+    /// The journal: its entries are the events of a run from the empty store to this one, each with the text of that run's reply, unless the journal
+    /// is starved. All that holds of every run holds of it. Takes no memory.
     pub fn journal(&self) -> &LinkedList<Entry>
         ensures { IsJournal result.now self.now.world ⊎ (2 ^ 62 ≤ length result.now) }
     {
         self.book.entries()
+    }
+
+    /// Whether the text of some reply found no memory, so that its entry has none. If not, each Ask has its reply. Takes no memory.
+    pub fn is_starved(&self) -> bool
+        ensures starved { IfSome self.now.log (λ log. result ≡ log.starved) }
+        ensures answered { result ≡ false → IfSome self.now.log (λ log. AllAnswered log.entries) }
+    {
+        self.book.is_starved()
     }
 }

@@ -1,4 +1,4 @@
-//! One store that threads share: a lock round it, a desk for each seat, the sum of what was acknowledged, and a journal of all that happened.
+//! One store that threads share: a lock round it, a desk for each seat, the sum of what its desks did, and a journal of all that happened.
 #![tactic(auto)]
 
 mod book;
@@ -7,6 +7,8 @@ mod desk;
 mod entry;
 mod full_book;
 mod hub;
+mod hub_id;
+mod ledgers;
 mod locked_desk;
 mod mem_desk;
 mod pass;
@@ -18,6 +20,8 @@ pub use desk::Desk;
 pub use entry::{Ask, Deed, Entry};
 pub use full_book::{CutPlace, FullBook};
 pub use hub::{Closed, Hub, HubFault};
+pub use hub_id::{AckLedger, AskLedger, CutLedger, HubId};
+pub use ledgers::{HubBlank, HubShare, HubTotal};
 pub use locked_desk::LockedDesk;
 pub use mem_desk::MemDesk;
 pub use pass::Pass;

@@ -1,46 +1,49 @@
 // One seat at the shared store.
-ghost use Rattle.std.specs.Prelude.{◌≡◌, None, refl};
-ghost use Rattle.sk_desk.specs.Pass.{joined};
+ghost use Rattle.std.specs.Prelude.{◌≡◌, true, None, Ok, refl};
+ghost use Rattle.sk_cmd.specs.Table.{IsRead};
+ghost use Rattle.sk_model.specs.Acked.{Acknowledges};
+ghost use Rattle.sk_desk.specs.Calls.{AddsCall, call_of};
+ghost use Rattle.sk_desk.specs.Counts.{CountsAsk};
+ghost use Rattle.sk_desk.specs.Pass.{joined, share_left};
 
-use crate::{Book, Desk, Hub, Pass};
+use crate::{Book, Desk, Hub, HubId, HubShare, Pass};
 use sk_cmd::Command;
 use sk_resp::{Reply, Words};
 use std::marker::Model;
 use std::sync::Wait;
-use std::sync::ledger::{Ledger, Share};
 
-/// A seat at a hub. Contracts see its number and the amount of its share, which has one part.
+/// A seat at a hub. Contracts see its number, and the rows and the commands that its share counts, which has one part.
 #[derive(Drop)]
-pub struct LockedDesk<'a, R: Wait, L: Ledger, B: Book> {
+pub struct LockedDesk<'a, R: Wait, I: HubId, B: Book> {
     rt: &'a R,
-    hub: &'a Hub<L, B>,
+    hub: &'a Hub<I, B>,
     seat: u32,
-    share: Share<L>,
+    share: HubShare<I>,
     place: B::Place,
 }
 
-impl<'a, R: Wait, L: Ledger, B: Book> Model for LockedDesk<'a, R, L, B> {
+impl<'a, R: Wait, I: HubId, B: Book> Model for LockedDesk<'a, R, I, B> {
     ghost use Rattle.std.specs.Prelude.{◌≡◌};
     ghost use Rattle.sk_desk.specs.Pass.{DeskView};
 
     ghost Value = { DeskView };
 
-    ghost view = { λ d. record { seat = d.seat; amount = d.share.amount } };
+    ghost view = { λ d. record { seat = d.seat; amount = d.share.counts.rows; asks = d.share.counts.asks } };
 
-    ghost invariant = { λ d. d.share.parts ≡ 1 };
+    ghost invariant = { λ d. (d.share.parts ≡ 1) × (d.share.counts.cuts ≡ 0) };
 }
 
-impl<'a, R: Wait, L: Ledger, B: Book> LockedDesk<'a, R, L, B> {
+impl<'a, R: Wait, I: HubId, B: Book> LockedDesk<'a, R, I, B> {
     // The desk of this seat, with its place in the book.
     pub(crate) fn new(
         rt: &'a R,
-        hub: &'a Hub<L, B>,
+        hub: &'a Hub<I, B>,
         seat: u32,
-        share: Share<L>,
+        share: HubShare<I>,
         place: B::Place,
-    ) -> LockedDesk<'a, R, L, B>
-        requires { share.parts ≡ 1 }
-        ensures { result ≡ record { seat = seat; amount = share.amount } }
+    ) -> LockedDesk<'a, R, I, B>
+        requires { (share.parts ≡ 1) × (share.counts.cuts ≡ 0) }
+        ensures { result ≡ record { seat = seat; amount = share.counts.rows; asks = share.counts.asks } }
     {
         LockedDesk {
             rt,
@@ -58,23 +61,24 @@ impl<'a, R: Wait, L: Ledger, B: Book> LockedDesk<'a, R, L, B> {
         self.seat
     }
 
-    /// Cuts the seat off, and adds the desk's share to the pass: one part, and what the desk's replies acknowledged. Takes no memory.
-    pub fn end(self, pass: &mut Pass<L>)
-        ensures { pass.new ≡ joined pass.old 1 self.entry.amount }
+    /// Cuts the seat off, and adds the desk's share to the pass: one part, what the desk's replies acknowledged, its commands, and its cut. Takes no
+    /// memory.
+    pub fn end(self, pass: &mut Pass<I>)
+        ensures { pass.new ≡ joined pass.old (share_left self.entry) }
     {
         let LockedDesk {
             rt,
             hub,
             seat,
-            share,
+            mut share,
             place,
         } = self;
-        hub.quit(rt, seat, place);
+        hub.quit(rt, &mut share, seat, place);
         pass.put(share);
     }
 }
 
-impl<'a, R: Wait, L: Ledger, B: Book> Desk for LockedDesk<'a, R, L, B> {
+impl<'a, R: Wait, I: HubId, B: Book> Desk for LockedDesk<'a, R, I, B> {
     ghost wants_words = { B.wants_words };
 
     ghost acked = { λ d. d.amount };
@@ -85,7 +89,14 @@ impl<'a, R: Wait, L: Ledger, B: Book> Desk for LockedDesk<'a, R, L, B> {
         B::wants_words()
     }
 
-    fn call(&mut self, words: &Words, command: Command, now: u64) -> Reply {
+    /// It counts as one command, unless the journal found no memory for it.
+    fn call(&mut self, words: &Words, command: Command, now: u64) -> Reply
+        requires { B.wants_words ≡ true → IsRead words.now (Ok command) }
+        ensures acked { Acknowledges command result self.old.amount self.new.amount }
+        ensures told { AddsCall None (call_of words.now now result) None }
+        ensures asked { CountsAsk result self.old.asks self.new.asks }
+        ensures seat { self.new.seat ≡ self.old.seat }
+    {
         self.hub
             .ask(self.rt, &mut self.share, self.seat, now, words, command)
     }

@@ -6,17 +6,13 @@ use crate::seating::act_all;
 use crate::setting::Setting;
 use crate::small::limits;
 use crate::text::{invalid, number};
-use sk_desk::{FullBook, Hub, Pass};
+use sk_desk::{FullBook, Hub, HubBlank, HubId, Pass};
 use sk_model::Limits;
 use sk_status::Tally;
 use std::alloc::{AllocError, Global};
 use std::io;
 use std::marker::Brand;
 use std::sync::Wait;
-use std::sync::ledger::{Blank, Ledger};
-
-/// How many parts the ledger of a hub has.
-pub const PARTS: u64 = 1 << 34;
 
 /// A count of seats, and what the store has room for.
 #[derive(Clone, Copy)]
@@ -50,12 +46,12 @@ fn sums(alloc: Global, acknowledged: u64, tally: &Tally) -> Result<String, Alloc
 }
 
 // Closes a hub whose pass has every part again: what its desks acknowledged, how the store counts its rows and jobs, and the journal.
-fn closed<L: Ledger>(
+fn closed<I: HubId>(
     alloc: Global,
-    hub: Hub<L, FullBook>,
-    pass: &mut Pass<L>,
+    hub: Hub<I, FullBook>,
+    pass: &mut Pass<I>,
 ) -> Result<String, AllocError>
-    requires { pass.old.parts ≡ L.parts }
+    requires { pass.old.parts ≡ 2 ^ 34 }
 {
     let closed = hub.close();
     let journal = journal_text(alloc, closed.journal());
@@ -65,12 +61,18 @@ fn closed<L: Ledger>(
     Ok(out)
 }
 
-fn desks_on<R: Wait + Sync, L: Ledger>(rt: &R, blank: Blank, setting: Setting) -> io::Result<String>
-    requires blank { (blank.name ≡ L.name) × (blank.parts ≡ L.parts) × (blank.parts ≡ 2 ^ 34) }
+fn desks_on<R: Wait + Sync, I: HubId>(
+    rt: &R,
+    blank: HubBlank,
+    size: Size,
+    setting: Setting,
+) -> io::Result<String>
+    requires blank { blank ≡ record { acks = I.acks; asks = I.asks; cuts = I.cuts } }
+    requires limits { size.limits ≡ I.limits }
+    requires size { (0 < size.numbers) × (size.numbers + 1 < 2 ^ 32) }
 {
     let alloc = *setting.words.allocator();
-    let size = read_size(&setting.words)?;
-    let (hub, mut pass) = Hub::<L, FullBook>::new(alloc, blank, size.limits, FullBook::new(alloc));
+    let (hub, mut pass) = Hub::<I, FullBook>::new(alloc, blank, size.limits, FullBook::new(alloc));
     let acted = act_all(rt, &hub, &mut pass, setting, size.numbers);
     let left = closed(alloc, hub, &mut pass);
     let mut out = acted?;
@@ -81,5 +83,6 @@ fn desks_on<R: Wait + Sync, L: Ledger>(rt: &R, blank: Blank, setting: Setting) -
 /// What comes of the setting's actions at the desks of a store, what these acknowledged and the store counts, and the journal. The first word is how
 /// many numbers the pass to the seats has; then come the rows, the bytes and the batches of the store.
 pub fn desks<R: Wait + Sync>(rt: &R, setting: Setting) -> io::Result<String> {
-    desks_on::<R, Brand>(rt, Blank::new(PARTS), setting)
+    let size = read_size(&setting.words)?;
+    desks_on::<R, Brand>(rt, HubBlank::new(), size, setting)
 }

@@ -1,35 +1,34 @@
 // Threads that push to one store, each on a seat of its own.
 ghost use Rattle.std.specs.Prelude.{◌≡◌, ◌+◌, ◌*◌, ◌<◌, ◌^◌, All, IfOk, OnErr, vec_len};
 
-use crate::desks::{PARTS, Size, read_size};
+use crate::desks::{Size, read_size};
 use crate::peer::words_of;
 use crate::seating::hand_in;
 use crate::setting::Setting;
 use crate::text::{invalid, number};
 use sk_base::StepClock;
-use sk_desk::{Desk, Hub, NoBook, Pass};
+use sk_desk::{Desk, Hub, HubBlank, HubId, NoBook, Pass};
 use sk_resp::Reply;
 use sk_status::Tally;
 use std::alloc::{AllocError, Global};
 use std::io;
 use std::marker::Brand;
 use std::sync::Wait;
-use std::sync::ledger::{Blank, Ledger};
 use std::thread::{self, Threads};
 
 /// A pass to one seat, and how many of its pushes were answered by a number.
 #[derive(Drop)]
-struct Pusher<L: Ledger> {
-    pass: Pass<L>,
+struct Pusher<I: HubId> {
+    pass: Pass<I>,
     pushed: u64,
 }
 
 /// What the threads share.
 #[derive(Drop)]
-struct Shared<'a, R: Wait + Sync, L: Ledger> {
+struct Shared<'a, R: Wait + Sync, I: HubId> {
     rt: &'a R,
     alloc: Global,
-    hub: &'a Hub<L, NoBook>,
+    hub: &'a Hub<I, NoBook>,
     pushes: u64,
 }
 
@@ -54,9 +53,9 @@ fn push_each<D: Desk>(alloc: Global, desk: &mut D, seat: u32, pushes: u64) -> u6
     pushed
 }
 
-impl<L: Ledger> Pusher<L> {
+impl<I: HubId> Pusher<I> {
     // Pushes its jobs on its seat.
-    fn run<R: Wait + Sync>(&mut self, shared: &Shared<'_, R, L>)
+    fn run<R: Wait + Sync>(&mut self, shared: &Shared<'_, R, I>)
         ensures { self.new.pass.parts ≡ self.old.pass.parts }
     {
         let Ok(mut desk) = shared.hub.seat(shared.rt, &mut self.pass) else {
@@ -69,11 +68,11 @@ impl<L: Ledger> Pusher<L> {
 }
 
 // A pusher for each thread.
-fn pushers<L: Ledger>(
+fn pushers<I: HubId>(
     alloc: Global,
-    pass: &mut Pass<L>,
+    pass: &mut Pass<I>,
     threads: u64,
-) -> Result<Vec<Pusher<L>>, AllocError>
+) -> Result<Vec<Pusher<I>>, AllocError>
     requires { threads < pass.old.count }
     ensures parts { IfOk result (λ pushers. pass.new.parts + 2 * vec_len pushers ≡ pass.old.parts) }
     ensures err { OnErr result (pass.new.parts ≡ pass.old.parts) }
@@ -90,7 +89,7 @@ fn pushers<L: Ledger>(
 }
 
 // How many pushes were answered by a number. The passes are joined.
-fn gather<L: Ledger>(mut pushers: Vec<Pusher<L>>, pass: &mut Pass<L>) -> u64
+fn gather<I: HubId>(mut pushers: Vec<Pusher<I>>, pass: &mut Pass<I>) -> u64
     requires { All (λ it. it.pass.parts ≡ 2) pushers.items }
     ensures { pass.new.parts ≡ pass.old.parts + 2 * vec_len pushers }
 {
@@ -107,9 +106,9 @@ fn gather<L: Ledger>(mut pushers: Vec<Pusher<L>>, pass: &mut Pass<L>) -> u64
 }
 
 // How many pushes were answered by a number, of so many threads, each with so many pushes. The pass has its parts again.
-fn push_all<R: Threads + Wait + Sync, L: Ledger + Send + Sync>(
-    shared: &Shared<'_, R, L>,
-    pass: &mut Pass<L>,
+fn push_all<R: Threads + Wait + Sync, I: HubId + Send + Sync>(
+    shared: &Shared<'_, R, I>,
+    pass: &mut Pass<I>,
     threads: u64,
 ) -> Result<u64, AllocError>
     requires { (0 < threads) × (threads < pass.old.count) }
@@ -120,7 +119,7 @@ fn push_all<R: Threads + Wait + Sync, L: Ledger + Send + Sync>(
         shared.rt,
         pushers.as_mut_slice(),
         threads as usize,
-        &|_: usize, pusher: &mut Pusher<L>|
+        &|_: usize, pusher: &mut Pusher<I>|
             ensures { pusher.new.pass.parts ≡ pusher.old.pass.parts }
         { pusher.run(shared) },
     );
@@ -139,17 +138,18 @@ fn sums(
     )
 }
 
-fn threads_on<R: Threads + Wait + Sync, L: Ledger + Send + Sync>(
+fn threads_on<R: Threads + Wait + Sync, I: HubId + Send + Sync>(
     rt: &R,
-    blank: Blank,
+    blank: HubBlank,
     alloc: Global,
     size: Size,
     pushes: u64,
 ) -> Result<String, AllocError>
-    requires blank { (blank.name ≡ L.name) × (blank.parts ≡ L.parts) × (blank.parts ≡ 2 ^ 34) }
+    requires blank { blank ≡ record { acks = I.acks; asks = I.asks; cuts = I.cuts } }
+    requires limits { size.limits ≡ I.limits }
     requires size { (0 < size.numbers) × (size.numbers + 1 < 2 ^ 32) }
 {
-    let (hub, mut pass) = Hub::<L, NoBook>::new(alloc, blank, size.limits, NoBook);
+    let (hub, mut pass) = Hub::<I, NoBook>::new(alloc, blank, size.limits, NoBook);
     let shared = Shared {
         rt,
         alloc,
@@ -170,5 +170,5 @@ pub fn threads<R: Threads + Wait + Sync>(rt: &R, setting: &Setting) -> io::Resul
     };
     let pushes = number(pushes)?;
     let size = read_size(rest)?;
-    Ok(threads_on::<R, Brand>(rt, Blank::new(PARTS), alloc, size, pushes)?)
+    Ok(threads_on::<R, Brand>(rt, HubBlank::new(), alloc, size, pushes)?)
 }

@@ -7,12 +7,11 @@ use crate::setting::Setting;
 use crate::text::invalid;
 use sk_base::{Clock, StepClock};
 use sk_cmd::read_command;
-use sk_desk::{Book, Desk, Hub, HubFault, LockedDesk, Pass};
+use sk_desk::{Book, Desk, Hub, HubFault, HubId, LockedDesk, Pass};
 use sk_resp::{Reply, Words, write_reply};
 use std::alloc::{AllocError, Global};
 use std::io;
 use std::sync::Wait;
-use std::sync::ledger::Ledger;
 
 /// What the desk answers to the words. Words that are no command are invalid data.
 pub fn hand_in<D: Desk>(
@@ -40,8 +39,8 @@ pub fn add_reply(out: &mut String, reply: &Reply) -> Result<(), AllocError> {
 }
 
 // Where the desk of the seat stands.
-fn place_of<R: Wait + Sync, L: Ledger, B: Book>(
-    desks: &[LockedDesk<'_, R, L, B>],
+fn place_of<R: Wait + Sync, I: HubId, B: Book>(
+    desks: &[LockedDesk<'_, R, I, B>],
     seat: u32,
 ) -> Option<usize>
     ensures { IfSome result (λ place. place < length desks.now) }
@@ -56,16 +55,16 @@ fn place_of<R: Wait + Sync, L: Ledger, B: Book>(
 
 /// A hub's desks, with the pass to its seats, and what came of all that was done at them.
 #[derive(Drop)]
-struct Seating<'a, R: Wait + Sync, L: Ledger, B: Book> {
+struct Seating<'a, R: Wait + Sync, I: HubId, B: Book> {
     rt: &'a R,
-    hub: &'a Hub<L, B>,
-    pass: Pass<L>,
-    desks: Vec<LockedDesk<'a, R, L, B>>,
+    hub: &'a Hub<I, B>,
+    pass: Pass<I>,
+    desks: Vec<LockedDesk<'a, R, I, B>>,
     clock: StepClock,
     out: String,
 }
 
-impl<'a, R: Wait + Sync, L: Ledger, B: Book> Seating<'a, R, L, B> {
+impl<'a, R: Wait + Sync, I: HubId, B: Book> Seating<'a, R, I, B> {
     fn sit(&mut self, alloc: Global) -> Result<(), AllocError>
         ensures { self.new.pass.parts + vec_len self.new.desks ≡ self.old.pass.parts + vec_len self.old.desks }
     {
@@ -123,7 +122,7 @@ impl<'a, R: Wait + Sync, L: Ledger, B: Book> Seating<'a, R, L, B> {
     }
 
     // Ends the desks that are left, in the order of their seats. Hands the pass back, and what came of all.
-    fn end(self) -> (Pass<L>, String)
+    fn end(self) -> (Pass<I>, String)
         ensures { result.0.parts ≡ self.entry.pass.parts + vec_len self.entry.desks }
     {
         let Seating {
@@ -140,10 +139,10 @@ impl<'a, R: Wait + Sync, L: Ledger, B: Book> Seating<'a, R, L, B> {
 }
 
 /// What comes of the setting's actions at desks of the hub, on so many numbers of the pass. Then all desks have ended, and the pass has its parts again.
-pub fn act_all<R: Wait + Sync, L: Ledger, B: Book>(
+pub fn act_all<R: Wait + Sync, I: HubId, B: Book>(
     rt: &R,
-    hub: &Hub<L, B>,
-    pass: &mut Pass<L>,
+    hub: &Hub<I, B>,
+    pass: &mut Pass<I>,
     setting: Setting,
     numbers: u32,
 ) -> io::Result<String>

@@ -12,7 +12,7 @@ use crate::plan::Plan;
 use crate::soaking::summary;
 use crate::{DrillEnd, Drilled, Memory, Summary};
 use sk_compare::{Difference, compare};
-use sk_desk::{Book, Closed, FullBook, Hub, Pass};
+use sk_desk::{Book, Closed, FullBook, Hub, HubBlank, HubId, Pass};
 use sk_lane::{HubSeats, Story};
 use sk_pipe::SHIPPED_LIMITS;
 use sk_policy::DelayRule;
@@ -21,19 +21,15 @@ use std::alloc::Global;
 use std::collections::VecDeque;
 use std::marker::Brand;
 use std::sync::Wait;
-use std::sync::ledger::{Blank, Ledger};
 use std::thread::Threads;
 
 /// How many entries a journal may have.
 const MOST_ENTRIES: usize = 1 << 62;
 
-/// How many parts the ledger of a drill's store has.
-const PARTS: u64 = 1 << 34;
-
 // Where the stories and the journal differ.
-fn compared<L: Ledger>(
+fn compared<I: HubId>(
     alloc: Global,
-    closed: &Closed<L, FullBook>,
+    closed: &Closed<I, FullBook>,
     stories: &[Story],
 ) -> Result<Option<Difference>, Memory>
     requires { IsConsistent closed.now }
@@ -47,7 +43,7 @@ fn compared<L: Ledger>(
 }
 
 // The book of a store that is given up.
-fn into_book<L: Ledger>(closed: Closed<L, FullBook>) -> FullBook
+fn into_book<I: HubId>(closed: Closed<I, FullBook>) -> FullBook
     ensures { result ≡ closed.log }
 {
     let Closed {
@@ -59,7 +55,7 @@ fn into_book<L: Ledger>(closed: Closed<L, FullBook>) -> FullBook
 }
 
 // What the store counts behind its last event.
-fn summed<L: Ledger>(closed: &Closed<L, FullBook>) -> Summary
+fn summed<I: HubId>(closed: &Closed<I, FullBook>) -> Summary
     ensures tally { result.tally ≡ tally_of closed.now.world }
     ensures balanced { IsBalanced result.tally }
     ensures events { MatchOption closed.now.log (2 ^ 62 ≤ result.events) (λ log. result.events ≡ length log.entries) }
@@ -95,7 +91,7 @@ fn end_by(came: Result<Option<Difference>, Memory>, drilled: Drilled) -> DrillEn
 }
 
 // How the drill ends.
-fn finish<L: Ledger>(alloc: Global, closed: Closed<L, FullBook>, stories: Vec<Story>) -> DrillEnd
+fn finish<I: HubId>(alloc: Global, closed: Closed<I, FullBook>, stories: Vec<Story>) -> DrillEnd
     requires { IsConsistent closed }
     ensures { EndsAs stories.items result }
 {
@@ -113,14 +109,14 @@ fn finish<L: Ledger>(alloc: Global, closed: Closed<L, FullBook>, stories: Vec<St
 }
 
 // Seats for each thread: one for the thread that pushes, one for the poller's, and for each worker's as many as it has turns and crashes, and one more.
-fn posts<'a, R: Wait, L: Ledger, B: Book>(
+fn posts<'a, R: Wait, I: HubId, B: Book>(
     rt: &'a R,
     alloc: Global,
-    hub: &'a Hub<L, B>,
-    pass: &mut Pass<L>,
+    hub: &'a Hub<I, B>,
+    pass: &mut Pass<I>,
     plan: Plan,
     workers: u32,
-) -> Result<Posts<HubSeats<'a, R, L, B>>, Memory>
+) -> Result<Posts<HubSeats<'a, R, I, B>>, Memory>
     requires workers { workers ≤ 16 }
     requires plan { (1 ≤ plan.jobs) × (plan.jobs ≤ 20000) × (plan.crashes ≤ 1000000) }
     requires count { pass.old.count ≡ 2 ^ 32 - 1 }
@@ -154,11 +150,11 @@ fn posts<'a, R: Wait, L: Ledger, B: Book>(
 }
 
 // All stories of the threads, at this store.
-fn stories_at<R: Threads + Wait + Sync, L: Ledger + Send + Sync>(
+fn stories_at<R: Threads + Wait + Sync, I: HubId + Send + Sync>(
     rt: &R,
     alloc: Global,
-    hub: &Hub<L, FullBook>,
-    pass: &mut Pass<L>,
+    hub: &Hub<I, FullBook>,
+    pass: &mut Pass<I>,
     plan: Plan,
     workers: u32,
     teams: &mut Vec<Registry>,
@@ -175,17 +171,18 @@ fn stories_at<R: Threads + Wait + Sync, L: Ledger + Send + Sync>(
     run_drill(rt, alloc, plan, posts, teams, rules)
 }
 
-// Runs the drill at a store whose ledger is that of `L`.
-fn drill_on<L: Ledger + Send + Sync, R: Threads + Wait + Sync>(
+// Runs the drill at the hub of `I`.
+fn drill_on<I: HubId + Send + Sync, R: Threads + Wait + Sync>(
     rt: &R,
     alloc: Global,
-    blank: Blank,
+    blank: HubBlank,
     plan: Plan,
     workers: u32,
     teams: &mut Vec<Registry>,
     rules: Vec<DelayRule>,
 ) -> DrillEnd
-    requires blank { (blank.name ≡ L.name) × (blank.parts ≡ L.parts) × (blank.parts ≡ 2 ^ 34) }
+    requires blank { blank ≡ record { acks = I.acks; asks = I.asks; cuts = I.cuts } }
+    requires limits { I.limits ≡ SHIPPED_LIMITS }
     requires workers { (1 ≤ workers) × (workers ≤ 16) × (workers ≤ vec_len teams.old) }
     requires rules { vec_len rules ≡ vec_len teams.old }
     requires plan { (1 ≤ plan.jobs) × (plan.jobs ≤ 20000) × (plan.crashes ≤ 1000000) }
@@ -193,7 +190,7 @@ fn drill_on<L: Ledger + Send + Sync, R: Threads + Wait + Sync>(
     ensures teams { classes_of teams.new.items ≡ classes_of teams.old.items }
 {
     let book = FullBook::new(alloc);
-    let (hub, mut pass) = Hub::<L, FullBook>::new(alloc, blank, SHIPPED_LIMITS, book);
+    let (hub, mut pass) = Hub::<I, FullBook>::new(alloc, blank, SHIPPED_LIMITS, book);
     match stories_at(rt, alloc, &hub, &mut pass, plan, workers, teams, rules) {
         Ok(stories) => finish(alloc, hub.close(), stories),
         Err(_) => {
@@ -240,5 +237,5 @@ pub fn drill<R: Threads + Wait + Sync>(
         jobs,
         crashes: crashes / workers,
     };
-    drill_on::<Brand, R>(rt, alloc, Blank::new(PARTS), plan, workers, teams, rules)
+    drill_on::<Brand, R>(rt, alloc, HubBlank::new(), plan, workers, teams, rules)
 }

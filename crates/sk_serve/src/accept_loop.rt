@@ -9,11 +9,10 @@ use crate::gate::{Gate, GatedDesk};
 use crate::shared::Shared;
 use crate::{SessionEnd, session};
 use sk_base::{Clock, Duplex, Failed};
-use sk_desk::{HubFault, Pass};
+use sk_desk::{HubFault, HubId, Pass};
 use sk_edge::Ear;
 use std::marker::Model;
 use std::sync::Wait;
-use std::sync::ledger::Ledger;
 
 /// How an accept loop ended.
 #[derive(Clone, Copy, Debug, PartialEq, Eq)]
@@ -34,17 +33,17 @@ pub enum LoopEnd {
 /// were served, whether a session ended by SHUTDOWN, how the loop ended, and how often its ear has failed and was nudged. What its sessions acknowledged
 /// adds up to the pass's amount.
 #[derive(Drop)]
-pub struct AcceptLoop<E: Ear, K: Clock, L: Ledger> {
+pub struct AcceptLoop<E: Ear, K: Clock, I: HubId> {
     ear: E,
     clock: K,
-    pass: Pass<L>,
+    pass: Pass<I>,
     numbers: u32,
     served: u32,
     shut: bool,
     end: LoopEnd,
 }
 
-impl<E: Ear, K: Clock, L: Ledger> Model for AcceptLoop<E, K, L> {
+impl<E: Ear, K: Clock, I: HubId> Model for AcceptLoop<E, K, I> {
     ghost use Rattle.sk_serve.specs.Server.{LoopView, IsLoop};
 
     ghost Value = { LoopView };
@@ -55,9 +54,9 @@ impl<E: Ear, K: Clock, L: Ledger> Model for AcceptLoop<E, K, L> {
 }
 
 // Serves one connection on a new seat.
-fn serve_one<R: Wait + Sync, C: Duplex, K: Clock, L: Ledger, G: Gate>(
-    shared: &Shared<'_, R, L, G>,
-    pass: &mut Pass<L>,
+fn serve_one<R: Wait + Sync, C: Duplex, K: Clock, I: HubId, G: Gate>(
+    shared: &Shared<'_, R, I, G>,
+    pass: &mut Pass<I>,
     conn: &mut C,
     clock: &mut K,
 ) -> Result<SessionEnd, HubFault>
@@ -102,8 +101,8 @@ fn end_at(fault: HubFault) -> LoopEnd
     }
 }
 
-impl<E: Ear, K: Clock, L: Ledger> AcceptLoop<E, K, L> {
-    pub fn new(ear: E, clock: K, pass: Pass<L>, numbers: u32) -> AcceptLoop<E, K, L>
+impl<E: Ear, K: Clock, I: HubId> AcceptLoop<E, K, I> {
+    pub fn new(ear: E, clock: K, pass: Pass<I>, numbers: u32) -> AcceptLoop<E, K, I>
         requires { (pass.parts ≡ 2 * numbers) × (pass.count ≡ numbers) × (pass.amount ≡ 0) }
         ensures numbers { result.numbers ≡ numbers }
         ensures end { (result.end ≡ LoopEnd.Done) × (result.shut ≡ false) }
@@ -122,7 +121,7 @@ impl<E: Ear, K: Clock, L: Ledger> AcceptLoop<E, K, L> {
     }
 
     // The loop ends by this cause, and wakes the others, which are to end.
-    fn stop<R: Wait + Sync, G: Gate>(&mut self, shared: &Shared<'_, R, L, G>, end: LoopEnd)
+    fn stop<R: Wait + Sync, G: Gate>(&mut self, shared: &Shared<'_, R, I, G>, end: LoopEnd)
         requires cause { end ≢ LoopEnd.Done }
         requires spent { end ≡ LoopEnd.Spent → self.old.pass.count ≡ 0 }
         ensures same { (self.new.numbers ≡ self.old.numbers) × (self.new.shut ≡ self.old.shut) }
@@ -139,7 +138,7 @@ impl<E: Ear, K: Clock, L: Ledger> AcceptLoop<E, K, L> {
     }
 
     // Waits for the next connection and serves it. False where the loop has ended.
-    fn step<R: Wait + Sync, G: Gate>(&mut self, shared: &Shared<'_, R, L, G>) -> bool
+    fn step<R: Wait + Sync, G: Gate>(&mut self, shared: &Shared<'_, R, I, G>) -> bool
         requires { self.old.end ≡ LoopEnd.Done }
         ensures { Runs shared.now.others self.old self.new }
     {
@@ -179,7 +178,7 @@ impl<E: Ear, K: Clock, L: Ledger> AcceptLoop<E, K, L> {
     }
 
     /// Serves connections until the loop ends. One that ended by a cause of its own serves no more.
-    pub fn run<R: Wait + Sync, G: Gate>(&mut self, shared: &Shared<'_, R, L, G>)
+    pub fn run<R: Wait + Sync, G: Gate>(&mut self, shared: &Shared<'_, R, I, G>)
         ensures { Runs shared.now.others self.old self.new }
     {
         for _ in shared.rt.forever() {
@@ -217,7 +216,7 @@ impl<E: Ear, K: Clock, L: Ledger> AcceptLoop<E, K, L> {
     }
 
     /// The ear, the pass, how many connections were served, and whether a session ended by SHUTDOWN.
-    pub fn into_parts(self) -> (E, Pass<L>, u32, bool)
+    pub fn into_parts(self) -> (E, Pass<I>, u32, bool)
         ensures parts { result.1.parts ≡ 2 * self.numbers }
         ensures sums { SumsUp result.2 result.1.amount result.3 }
         ensures counts { (result.2 ≡ self.served) × (result.3 ≡ self.shut) }

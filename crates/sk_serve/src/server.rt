@@ -13,25 +13,21 @@ use crate::serve_end::{ServeEnd, ServeFault, Served};
 use crate::shared::Shared;
 use sk_base::Clock;
 use sk_base::limits::MOST_LOOPS_SERVED;
-use sk_desk::{Hub, NoBook, Pass};
+use sk_desk::{Hub, HubBlank, HubId, NoBook, Pass};
 use sk_edge::{Door, DoorFault, Ear};
 use sk_model::Limits;
 use std::alloc::Global;
 use std::marker::Brand;
 use std::sync::Wait;
-use std::sync::ledger::{Blank, Ledger};
 use std::thread;
 use std::thread::Threads;
 
-/// How many parts the ledger of a server has.
-const PARTS: u64 = 1 << 34;
-
 // A loop for each ear, with as many seat numbers each. They stand the other way round.
-fn loops_for<E: Ear, K: Clock, L: Ledger>(
+fn loops_for<E: Ear, K: Clock, I: HubId>(
     ears: &mut Vec<E>,
-    loops: &mut Vec<AcceptLoop<E, K, L>>,
+    loops: &mut Vec<AcceptLoop<E, K, I>>,
     clock: &K,
-    pass: &mut Pass<L>,
+    pass: &mut Pass<I>,
     numbers: u32,
 )
     requires some { 0 < numbers }
@@ -58,10 +54,10 @@ fn either(a: bool, b: bool) -> bool
 }
 
 // Takes the ears and the passes back, and counts the sessions. The ears stand as they stood at first.
-fn gather<E: Ear, K: Clock, L: Ledger>(
-    mut loops: Vec<AcceptLoop<E, K, L>>,
+fn gather<E: Ear, K: Clock, I: HubId>(
+    mut loops: Vec<AcceptLoop<E, K, I>>,
     ears: &mut Vec<E>,
-    pass: &mut Pass<L>,
+    pass: &mut Pass<I>,
 ) -> (u64, bool)
     requires few { vec_len loops ≤ MOST_LOOPS_SERVED }
     requires room { (vec_len ears.old ≡ 0) × (vec_len loops ≤ vec_capacity ears.old) }
@@ -89,9 +85,9 @@ fn run_all<
     R: Threads + Wait + Sync,
     E: Ear + Send,
     K: Clock + Send,
-    L: Ledger + Send + Sync,
+    I: HubId + Send + Sync,
     G: Gate + Sync,
->(shared: &Shared<'_, R, L, G>, threads: usize, loops: &mut [AcceptLoop<E, K, L>])
+>(shared: &Shared<'_, R, I, G>, threads: usize, loops: &mut [AcceptLoop<E, K, I>])
     requires { 0 < threads }
     ensures { AllZip (Runs shared.now.others) loops.old loops.new }
 {
@@ -100,26 +96,26 @@ fn run_all<
         shared.rt,
         loops,
         threads,
-        &|_: usize, it: &mut AcceptLoop<E, K, L>|
+        &|_: usize, it: &mut AcceptLoop<E, K, I>|
             ensures { Runs shared.entry.now.others it.old it.new }
         { it.run(shared) },
     );
 }
 
-fn some_failed<E: Ear, K: Clock, L: Ledger>(loops: &[AcceptLoop<E, K, L>]) -> bool
+fn some_failed<E: Ear, K: Clock, I: HubId>(loops: &[AcceptLoop<E, K, I>]) -> bool
     ensures { result ≡ true → Any (λ it. it.end ≡ LoopEnd.Failed) loops.now }
 {
     loops.iter().any(|it| it.is_at(LoopEnd::Failed))
 }
 
-fn some_spent<E: Ear, K: Clock, L: Ledger>(loops: &[AcceptLoop<E, K, L>]) -> bool
+fn some_spent<E: Ear, K: Clock, I: HubId>(loops: &[AcceptLoop<E, K, I>]) -> bool
     ensures { result ≡ true → Any (λ it. IsUsedUp it.numbers) loops.now }
 {
     loops.iter().any(|it| it.is_spent())
 }
 
 // The loops' gravest fault.
-fn fault_of<E: Ear, K: Clock, L: Ledger>(loops: &[AcceptLoop<E, K, L>]) -> Option<ServeFault>
+fn fault_of<E: Ear, K: Clock, I: HubId>(loops: &[AcceptLoop<E, K, I>]) -> Option<ServeFault>
     ensures failed { result ≡ Some ServeFault.Failed → Any (λ it. it.end ≡ LoopEnd.Failed) loops.now }
     ensures spent { result ≡ Some ServeFault.Spent → Any (λ it. IsUsedUp it.numbers) loops.now }
 {
@@ -135,20 +131,20 @@ fn fault_of<E: Ear, K: Clock, L: Ledger>(loops: &[AcceptLoop<E, K, L>]) -> Optio
     None
 }
 
-fn have_served<E: Ear, K: Clock, L: Ledger>(loops: &[AcceptLoop<E, K, L>], sessions: u64) -> bool
+fn have_served<E: Ear, K: Clock, I: HubId>(loops: &[AcceptLoop<E, K, I>], sessions: u64) -> bool
     ensures { result ≡ true → All (λ it. it.served ≡ sessions) loops.now }
 {
     loops.iter().all(|it| it.has_served(sessions))
 }
 
-fn some_shut<E: Ear, K: Clock, L: Ledger>(loops: &[AcceptLoop<E, K, L>]) -> bool
+fn some_shut<E: Ear, K: Clock, I: HubId>(loops: &[AcceptLoop<E, K, I>]) -> bool
     ensures { result ≡ true → Any (λ it. it.shut ≡ true) loops.now }
 {
     loops.iter().any(|it| it.is_shut())
 }
 
 // A session ended by SHUTDOWN, or there is a bound, and each loop served as many.
-fn is_settled<E: Ear, K: Clock, L: Ledger>(loops: &[AcceptLoop<E, K, L>], sessions: u64) -> bool
+fn is_settled<E: Ear, K: Clock, I: HubId>(loops: &[AcceptLoop<E, K, I>], sessions: u64) -> bool
     ensures { result ≡ true → IsSettled sessions loops.now }
 {
     if sessions != 0 && have_served(loops, sessions) {
@@ -162,12 +158,12 @@ fn run_on<
     R: Threads + Wait + Sync,
     E: Ear + Send,
     K: Clock + Send,
-    L: Ledger + Send + Sync,
+    I: HubId + Send + Sync,
     G: Gate + Sync,
 >(
-    shared: &Shared<'_, R, L, G>,
+    shared: &Shared<'_, R, I, G>,
     threads: usize,
-    loops: &mut [AcceptLoop<E, K, L>],
+    loops: &mut [AcceptLoop<E, K, I>],
 ) -> Result<(), ServeFault>
     requires { 0 < threads }
     ensures ran { AllZip (Runs shared.now.others) loops.old loops.new }
@@ -188,9 +184,9 @@ fn run_on<
     unreachable!()
 }
 
-// Serves over these ears, and has them back at the end. The ledger is that of `L`.
+// Serves over these ears, and has them back at the end. The hub is that of `I`.
 fn serve_on<
-    L: Ledger + Send + Sync,
+    I: HubId + Send + Sync,
     R: Threads + Wait + Sync,
     E: Ear + Send,
     K: Clock + Send,
@@ -198,14 +194,15 @@ fn serve_on<
 >(
     rt: &R,
     alloc: Global,
-    blank: Blank,
+    blank: HubBlank,
     ears: &mut Vec<E>,
     sessions: u64,
     limits: Limits,
     clock: &K,
     gate: &G,
 ) -> Result<Served, ServeFault>
-    requires blank { (blank.name ≡ L.name) × (blank.parts ≡ L.parts) × (blank.parts ≡ 2 ^ 34) }
+    requires blank { blank ≡ record { acks = I.acks; asks = I.asks; cuts = I.cuts } }
+    requires limits { limits ≡ I.limits }
     requires ears { (0 < vec_len ears.old) × (vec_len ears.old ≤ MOST_LOOPS_SERVED) }
     ensures served { IfOk result (IsServed sessions (vec_len ears.old)) }
     ensures woke { IfOk result (λ s. IsFull sessions (vec_len ears.old) s.sessions
@@ -218,7 +215,7 @@ fn serve_on<
         return Err(ServeFault::Memory);
     };
     let numbers = (u32::MAX - 1) / count as u32;
-    let (hub, mut pass) = Hub::<L, NoBook>::new(alloc, blank, limits, NoBook);
+    let (hub, mut pass) = Hub::<I, NoBook>::new(alloc, blank, limits, NoBook);
     loops_for(ears, &mut loops, clock, &mut pass, numbers);
     let ended = run_on(
         &Shared::new(rt, alloc, &hub, gate, count - 1, sessions),
@@ -269,7 +266,7 @@ where
     let served = serve_on::<Brand, R, N::Ear, K, G>(
         rt,
         alloc,
-        Blank::new(PARTS),
+        HubBlank::new(),
         &mut ears,
         sessions,
         limits,

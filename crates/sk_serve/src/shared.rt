@@ -2,18 +2,17 @@
 ghost use Rattle.std.specs.Prelude.{◌≡◌};
 
 use crate::gate::Gate;
-use sk_desk::{Hub, NoBook};
+use sk_desk::{Hub, HubId, NoBook};
 use std::alloc::Global;
 use std::sync::Wait;
 use std::sync::atomic::{AtomicBool, Ordering};
-use std::sync::ledger::Ledger;
 
 /// What the accept loops share.
 #[derive(Drop)]
-pub struct Shared<'a, R: Wait + Sync, L: Ledger, G: Gate> {
+pub struct Shared<'a, R: Wait + Sync, I: HubId, G: Gate> {
     pub rt: &'a R,
     pub alloc: Global,
-    pub hub: &'a Hub<L, NoBook>,
+    pub hub: &'a Hub<I, NoBook>,
     pub gate: &'a G,
     /// How many other loops a loop has beside it.
     pub others: usize,
@@ -23,15 +22,15 @@ pub struct Shared<'a, R: Wait + Sync, L: Ledger, G: Gate> {
     stopped: AtomicBool,
 }
 
-impl<'a, R: Wait + Sync, L: Ledger, G: Gate> Shared<'a, R, L, G> {
+impl<'a, R: Wait + Sync, I: HubId, G: Gate> Shared<'a, R, I, G> {
     pub fn new(
         rt: &'a R,
         alloc: Global,
-        hub: &'a Hub<L, NoBook>,
+        hub: &'a Hub<I, NoBook>,
         gate: &'a G,
         others: usize,
         sessions: u64,
-    ) -> Shared<'a, R, L, G>
+    ) -> Shared<'a, R, I, G>
         ensures { (result.others ≡ others) × (result.sessions ≡ sessions) }
     {
         Shared {

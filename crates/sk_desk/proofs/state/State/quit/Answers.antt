@@ -1,6 +1,6 @@
 use Rattle.std.proofs.Common.{refl}
-use Rattle.sk_desk.proofs.Journals.{cut_consistent}
+use Rattle.sk_desk.proofs.Journals.{cut_kept}
 use Rattle.sk_desk.proofs.state.State.quit.Goals as goal
 
 pub invariant_of-self : goal.invariant_of-self
-invariant_of-self g c = cut_consistent _ _ _ c.self.invariant (record { world_is = c.cut.ensures; entered = c.quit.ensures; total_same = refl })
+invariant_of-self g c = cut_kept _ _ _ _ c.self.invariant (record { world_is = c.cut.ensures; entered = c.quit.ensures; total_is = c.cut-2.ensures.total })
