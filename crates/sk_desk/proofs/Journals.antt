@@ -1,15 +1,14 @@
 -- What a command and a cut keep of what stands behind the lock.
-use Rattle.std.proofs.Common.{◌≡◌, ◌⊎◌, ◌≤◌, ◌+◌, ◌-◌, ◌∙◌, ℕ, List, [], ◌∷◌, ◌++◌, length, length-append, map, refl, sym, ap, subst, inl, inr, arith}
-use Rattle.std.specs.Prelude.{◌^◌, ◌||◌, Bool, true, false, Option, Some, None, Ok, IfSome, IsSome, filter, is_none}
+use Rattle.std.proofs.Common.{◌≡◌, ◌≤◌, ◌+◌, ◌-◌, ◌∙◌, ℕ, List, [], ◌∷◌, ◌++◌, length, length-append, refl, sym, ap, subst, inl, inr, arith}
+use Rattle.std.specs.Prelude.{◌||◌, Bool, true, false, Option, Some, None, Ok, IfSome, IsSome, filter, is_none}
 use Rattle.std.proofs.lemmas.List.Elements.{filter-append}
 use Rattle.sk_resp.specs.Spelling.{Bytes}
 use Rattle.sk_resp.specs.declared.reply.Reply.{Reply}
-use Rattle.sk_cmd.specs.Reading.{Read}
 use Rattle.sk_cmd.specs.Table.{IsRead}
 use Rattle.sk_cmd.specs.declared.command.Command.{Command}
 use Rattle.sk_model.specs.Acked.{Acknowledges, Acks}
 use Rattle.sk_model.specs.Change.{perform}
-use Rattle.sk_model.specs.Event.{Happens, Reaches, Run, Step, world_after}
+use Rattle.sk_model.specs.Event.{Happens, Reaches, Step}
 use Rattle.sk_model.specs.Outcome.{Realizes, Outcome}
 use Rattle.sk_model.specs.Reading.{Words}
 use Rattle.sk_model.specs.Step.{MayComeTo, cut}

@@ -5,7 +5,6 @@ use Rattle.sk_resp.specs.Spelling.{Bytes}
 use Rattle.sk_resp.specs.Reply.{wire}
 use Rattle.sk_resp.specs.declared.reply.Reply.{Reply}
 use Rattle.sk_model.specs.Reading.{Words}
-use Rattle.sk_desk.specs.declared.entry.Ask.{Ask}
 use Rattle.sk_desk.specs.declared.entry.Deed.{Deed}
 use Rattle.sk_desk.specs.declared.entry.Deed.TheVariants as deed
 use Rattle.sk_desk.specs.declared.entry.Entry.{Entry}

@@ -1,6 +1,6 @@
-use Rattle.std.proofs.Common.{◌≡◌, ◌≤◌, ◌-◌, ap, subst, inl, arith}
+use Rattle.std.proofs.Common.{◌≤◌, ◌-◌, ap, subst, inl, arith}
 use Rattle.sk_desk.specs.Counts.{Counts}
-use Rattle.sk_desk.specs.State.{Asked, Asks, StateView}
+use Rattle.sk_desk.specs.State.{Asks, StateView}
 use Rattle.sk_desk.proofs.Journals.{asked_kept, asks, grew, opened}
 use Rattle.sk_desk.proofs.state.State.ask.Goals as goal
 

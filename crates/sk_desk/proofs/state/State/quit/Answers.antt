@@ -1,4 +1,3 @@
-use Rattle.std.proofs.Common.{refl}
 use Rattle.sk_desk.proofs.Journals.{cut_kept}
 use Rattle.sk_desk.proofs.state.State.quit.Goals as goal
 
