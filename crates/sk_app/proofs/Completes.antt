@@ -1,5 +1,5 @@
 -- That a program whose words are a line of it is done to its end, where nothing hinders it.
-use Rattle.std.proofs.Common.{◌≡◌, ◌≢◌, ◌⊎◌, inl, inr, ◌-◌, ◌/◌, ◌^◌, ℕ, Bool, true, false, List, [], ◌∷◌, Option, Result, Ok, Err, refl, sym, subst, ap, ◌∙◌}
+use Rattle.std.proofs.Common.{◌≡◌, ◌≢◌, ◌⊎◌, inl, inr, ◌-◌, ◌/◌, ◌^◌, ℕ, true, false, List, Option, Result, Ok, Err, refl, sym, subst, ◌∙◌}
 use Rattle.std.proofs.lemmas.Bool.{true≢false}
 use Rattle.clap.specs.Words.{Text}
 use Rattle.sk_client.specs.declared.client_fault.ClientFault.{ClientFault}
@@ -17,11 +17,9 @@ use Rattle.sk_line.specs.declared.work_line.WorkLine.{WorkLine}
 use Rattle.sk_link.specs.Asking.{answers}
 use Rattle.sk_link.specs.Call.{Call}
 use Rattle.sk_link.specs.Wire.{WireState}
-use Rattle.sk_link.specs.declared.link.LinkFault.{LinkFault}
 use Rattle.sk_link.specs.declared.link.LinkFault.TheVariants as link
 use Rattle.sk_middle.specs.declared.chain.Through.{Through}
 use Rattle.sk_payload.specs.declared.draft.JobDraft.{JobDraft}
-use Rattle.sk_payload.specs.declared.draft_fault.DraftFault.{DraftFault}
 use Rattle.sk_payload.specs.declared.draft_fault.DraftFault.TheVariants as draft_
 use Rattle.sk_resp.specs.Spelling.{Bytes}
 use Rattle.sk_resp.specs.declared.reply.Reply.{Reply}

@@ -13,7 +13,6 @@ use Rattle.sk_line.specs.Lines.{Reads}
 use Rattle.sk_line.specs.Push.{IsPush}
 use Rattle.sk_line.specs.declared.fault.LineFault.{LineFault}
 use Rattle.sk_line.specs.declared.fault.LineFault.TheVariants as line
-use Rattle.sk_line.specs.declared.push_line.PushLine.{PushLine}
 use Rattle.sk_link.specs.Call.{Call}
 use Rattle.sk_middle.specs.declared.chain.Through.{Through}
 use Rattle.sk_payload.specs.Draft.{draft_fault}

@@ -1,5 +1,5 @@
 -- What the shipped program's chain makes of a draft.
-use Rattle.std.specs.Prelude.{ℕ, min}
+use Rattle.std.specs.Prelude.{min}
 use Rattle.sk_payload.specs.declared.draft.JobDraft.{JobDraft}
 use Rattle.sk_payload.specs.declared.head.Retry.{Retry}
 use Rattle.sk_payload.specs.declared.head.Retry.TheVariants.{Count}

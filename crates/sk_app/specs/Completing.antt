@@ -17,7 +17,6 @@ use Rattle.sk_link.specs.Call.{Call, answered, lost}
 use Rattle.sk_link.specs.Wire.{WireCarries, WireState}
 use Rattle.sk_link.specs.declared.link.LinkFault.{LinkFault}
 use Rattle.sk_link.specs.declared.link.LinkFault.TheVariants as link
-use Rattle.sk_payload.specs.declared.draft.JobDraft.{JobDraft}
 use Rattle.sk_resp.specs.Spelling.{Bytes}
 use Rattle.sk_resp.specs.declared.reply.Reply.{Reply}
 use Rattle.sk_serve.specs.Server.{IsUsedUp}

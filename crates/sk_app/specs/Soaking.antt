@@ -1,5 +1,5 @@
 -- The program `soak`.
-use Rattle.std.specs.Prelude.{◌≡◌, List, Result, Ok, Err}
+use Rattle.std.specs.Prelude.{List, Result, Ok, Err}
 use Rattle.clap.specs.Words.{Text}
 use Rattle.sk_resp.specs.Spelling.{Bytes}
 use Rattle.sk_drill.specs.Soaked.{IsSoak}

@@ -6,7 +6,6 @@ ghost use Rattle.sk_pipe.specs.declared.pipe_end.PipeEnd.{PipeEnd};
 ghost use Rattle.sk_serve.specs.Server.{HasFailed};
 ghost use Rattle.sk_base.specs.declared.limits.TheConstants.{MOST_WORKERS};
 ghost use Rattle.sk_launcher.specs.Connections.{classes_of, door_tells};
-ghost use Rattle.sk_drill.specs.Drilled.{Drills, plan_of};
 ghost use Rattle.sk_launcher.specs.Launching.{Launched};
 ghost use Rattle.sk_launcher.specs.Teams.{teams_of};
 ghost use Rattle.sk_link.specs.Wire.{WireCarries};
@@ -22,7 +21,7 @@ ghost use Rattle.sk_line.specs.declared.status_line.StatusLine.{StatusLine};
 ghost use Rattle.sk_line.specs.declared.work_line.WorkLine.{WorkLine};
 ghost use Rattle.sk_app.specs.Completing.{DoneOr, PushHindered, ServeHindered, StatusHindered, WorkHindered};
 ghost use Rattle.sk_app.specs.Dialogue.{Dials};
-ghost use Rattle.sk_app.specs.Drilling.{DrillRun};
+ghost use Rattle.sk_app.specs.Drilling.{RunsDrill};
 ghost use Rattle.sk_app.specs.Ending.{Ends};
 ghost use Rattle.sk_app.specs.Jobs.{Draws};
 ghost use Rattle.sk_app.specs.Paging.{Asks, StatusRun};
@@ -117,7 +116,7 @@ where
 
     // A drill.
     ensures drilled { program_of (map string_bytes words.now) ≡ Some Drill → Ends K.Sink sink.old sink.new result
-        (DrillRun (vec_len teams.old) (map string_bytes words.now) (teams.new ≡ teams.old) (λ line how. Drills (plan_of line.seed line.jobs line.workers line.crashes) line.workers teams.old.items rules.items how)) }
+        (RunsDrill runs rules.items teams.old teams.new (map string_bytes words.now)) }
 
     // A line of a program is done, where the sink takes what is told and nothing hinders it. Where something does, it is this.
     ensures serve_completes { program_of (map string_bytes words.now) ≡ Some Serve → (line : ServeLine) → IsServe (map string_bytes words.now) line

@@ -1,16 +1,15 @@
 -- Asks that are met, one after another.
-use Rattle.std.proofs.Common.{◌≡◌, ◌≢◌, ◌==◌, ◌<◌, ◌≤◌, ◌+◌, ◌++◌, ◌∷◌, ◌∙◌, ℕ, Bool, true, false, List, [], Option, Some, None, zero, suc, ap, append_assoc, arith, drop, get_or, length, map, refl, replicate, subst, sym, take, if◌then◌else◌, option_map}
-use Rattle.std.specs.List.{flat_map, slice_get}
+use Rattle.std.proofs.Common.{◌≡◌, ◌≢◌, ◌==◌, ◌<◌, ◌≤◌, ◌+◌, ◌++◌, ◌∷◌, ◌∙◌, ℕ, Bool, true, false, List, [], Option, Some, None, zero, suc, ap, append_assoc, arith, get_or, length, refl, replicate, subst, sym, take, if◌then◌else◌}
+use Rattle.std.specs.List.{slice_get}
 use Rattle.std.proofs.lemmas.List.{append-nil, length-take-le, take_all, take_at, take_more}
-use Rattle.std.proofs.lemmas.Option.{get_or_from_slice_get, slice_get-get_or, slice_get_past, slice_get_within}
+use Rattle.std.proofs.lemmas.Option.{get_or_from_slice_get, slice_get_within}
 use Rattle.sk_compare.specs.Exchange.{Exchange, exchange_of, text_in}
-use Rattle.sk_compare.specs.Alike.{Alike, Compares, DiffersAt, HasMet, IsDifference, Meets, Passes, Strays, noted, told_by, with_deed}
+use Rattle.sk_compare.specs.Alike.{Alike, DiffersAt, HasMet, IsDifference, Meets, Passes, Strays, noted, with_deed}
 use Rattle.sk_compare.specs.declared.difference.Difference.{Difference}
 use Rattle.sk_desk.specs.declared.entry.Ask.{Ask}
 use Rattle.sk_desk.specs.declared.entry.Deed.{Deed}
 use Rattle.sk_desk.specs.declared.entry.Deed.TheVariants as deed
 use Rattle.sk_desk.specs.declared.entry.Entry.{Entry}
-use Rattle.sk_lane.specs.declared.story.Story.{Story}
 
 -- ## Seats
 

@@ -1,7 +1,7 @@
 -- What is told, story by story.
 use Rattle.std.proofs.Common.{◌≡◌, ◌≢◌, ◌==◌, ◌<◌, ◌+◌, Bool, true, false, arith, get_or-set_other, get_or-set_same, if◌then◌else◌, set, ◌++◌, ◌∷◌, ◌∙◌, ℕ, List, [], zero, suc, ap, get_or, length, map, refl, Result, Ok, Err, OnOk, sym, take}
 use Rattle.std.proofs.lemmas.List.{append-nil, flat_map_more, get_or-map, length-map, map-append, map-set, take_more}
-use Rattle.sk_compare.specs.Exchange.{Exchange, exchange_of}
+use Rattle.sk_compare.specs.Exchange.{Exchange}
 use Rattle.sk_compare.specs.Alike.{told, told_by}
 use Rattle.sk_lane.specs.declared.story.Story.{Story}
 

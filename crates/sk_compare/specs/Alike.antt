@@ -76,6 +76,14 @@ pub record Strays (told : ℕ → List Exchange) (met : ℕ → ℕ) (seat : ℕ
   pub asks : d ≡ deed.Ask ask
   pub other : slice_get (told seat) (met seat) ≢ Some (exchange_of ask)
 
+-- The next entry was passed, by how many asks of each seat are met now.
+abbrev pub PassesOne : List (List Exchange) → List ℕ → Entry → List ℕ → Type 0
+PassesOne table met e met_now = Passes (told_at table) (met_at met) e.seat e.deed (met_at met_now)
+
+-- The next entry is this ask, which strays, and nothing was met.
+abbrev pub StraysAt : List (List Exchange) → List ℕ → Entry → List ℕ → Ask → Type 0
+StraysAt table met e met_now ask = (met_now ≡ met) × Strays (told_at table) (met_at met) e.seat e.deed ask
+
 -- what is told of a seat behind what was met, beside this of the journal
 pub record IsDifference (told : ℕ → List Exchange) (met : ℕ → ℕ) (seat : ℕ) (x : Option Exchange) (d : Difference) : Type 0 where
   pub seat_is : d.seat ≡ seat

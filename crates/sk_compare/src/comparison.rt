@@ -1,6 +1,6 @@
 // The comparison: the journal is walked once, and of each seat it is known how many of its asks were met.
 ghost use Rattle.std.specs.Prelude.{◌≡◌, ◌<◌, ◌≤◌, ◌^◌, ℕ, IfOk, IfSome, OnOk, MatchOption, length, option_map, replicate, true};
-ghost use Rattle.sk_compare.specs.Alike.{AllAnswered, Compares, HasReply, IsDifference, Passes, Strays, met_at, noted, told, told_at};
+ghost use Rattle.sk_compare.specs.Alike.{AllAnswered, Compares, HasReply, IsDifference, PassesOne, StraysAt, met_at, noted, told, told_at};
 ghost use Rattle.sk_compare.specs.Exchange.{exchange_of};
 
 use crate::ask::{is_same, text_in};
@@ -40,9 +40,7 @@ fn is_answered(journal: &LinkedList<Entry>) -> bool
 fn stray<'a>(told: &Told, met: &mut [usize], entry: &'a Entry) -> Option<&'a Ask>
     requires { length met.old ≡ length told.now }
     ensures same { length met.new ≡ length met.old }
-    ensures told { MatchOption result
-        (Passes (told_at told.now) (met_at met.old) entry.entry.now.seat entry.entry.now.deed (met_at met.new))
-        (λ ask. (met.new ≡ met.old) × Strays (told_at told.now) (met_at met.old) entry.entry.now.seat entry.entry.now.deed ask.now) }
+    ensures is { MatchOption result (PassesOne told.now met.old entry.entry.now met.new) (λ a. StraysAt told.now met.old entry.entry.now met.new a.now) }
 {
     let Deed::Ask(ask) = &entry.deed else {
         return None;

@@ -1,16 +1,16 @@
 -- What the threads of a drill tell.
-use Rattle.std.proofs.Common.{◌≡◌, ◌+◌, ◌++◌, ◌∷◌, ◌∙◌, ℕ, List, [], ap, append_assoc, arith, codes, length, length-append, map, refl, sym, subst, Some, Result, Ok, Err, OnOk}
+use Rattle.std.proofs.Common.{◌≡◌, ◌+◌, ◌++◌, ◌∷◌, ◌∙◌, ℕ, List, [], ap, append_assoc, arith, codes, length, length-append, map, refl, sym, Result, Ok, Err, OnOk}
 use Rattle.std.specs.Prelude.{ℤ, pos}
 use Rattle.sk_poller.specs.declared.poller.Loop.{Loop}
-use Rattle.std.specs.List.{AllByRecursion, flat_map}
+use Rattle.std.specs.List.{AllByRecursion}
 use Rattle.std.proofs.lemmas.List.{append-nil, flat_map_more, length-map, length_push, map-append}
 use Rattle.sk_compare.specs.Exchange.{Exchange, exchange_of}
 use Rattle.sk_desk.specs.declared.entry.Ask.{Ask}
 use Rattle.sk_lane.specs.Carrying.{Carries, CarriesCall, LinkState}
-use Rattle.sk_link.specs.Call.{Call, answered}
+use Rattle.sk_link.specs.Call.{Call}
 use Rattle.sk_link.specs.declared.link.LinkFault.{LinkFault}
 use Rattle.sk_link.specs.declared.link.LinkFault.TheVariants.{Failed, Unreadable, Ended, Memory}
-use Rattle.sk_poller.specs.Event.{Event, calls}
+use Rattle.sk_poller.specs.Event.{Event}
 use Rattle.sk_resp.specs.declared.reply.Reply.{Reply}
 use Rattle.sk_drill.specs.Requests.{push}
 use Rattle.sk_drill.specs.Telling.{IsPoll, Polled, Pushed, exchange, exchanges, pushes_from, turn_asks, turn_marks, turns_asks, watch, with_answer}

@@ -2,7 +2,7 @@
 use Rattle.std.proofs.Common.{◌≡◌, ◌<◌, ◌+◌, ◌++◌, ◌∷◌, ◌∙◌, ℕ, suc, length-append, List, [], Option, Some, Result, Ok, Err, IfOk, IfSome, ap, append_assoc, arith, length, map, refl, slice_index_or, subst, sym}
 use Rattle.std.proofs.lemmas.List.{append-nil, length-map, map-append}
 use Rattle.std.proofs.lemmas.List.Elements.{length_all_zip}
-use Rattle.std.specs.List.{AllZip}
+use Rattle.std.specs.List.{AllZip, zip}
 use Rattle.sk_drill.specs.Crews.{Assigned, AssignedSoFar}
 
 pub all_by_place : {X : Type 0} (R : X → X → Type 0) (xs ys : List X) → length xs ≡ length ys
@@ -12,6 +12,12 @@ all_by_place R (x ∷ xs) (y ∷ ys) same each =
     (each 0 x (omega arith), all_by_place R xs ys (omega (arith, same)) (λ i d less. each (suc i) d (omega (arith, less))))
 all_by_place R [] (y ∷ ys) same each = absurd (omega (arith, same))
 all_by_place R (x ∷ xs) [] same each = absurd (omega (arith, same))
+
+pub nothing_before : {X : Type 0} (xs ys zs : List X) → xs ≡ ys ++ zs → ys ≡ [] → xs ≡ zs
+nothing_before xs ys zs is none = is ∙ ap (λ l. l ++ zs) none
+
+pub between : {X : Type 0} (R : X → X → Type 0) (x x' y y' : X) → x' ≡ x → y' ≡ y → R x' y' → R x y
+between R x x' y y' e d r = subst (λ z. R x z) d (subst (λ z. R z y') e r)
 
 assigned_next : {T P X : Type 0} (Is : ℕ → T → P → X → Type 0) (n m : ℕ) (teams teams2 : List T) (rules rules2 : List P) (team : T) (rule : P) (x : X) (rest : List X) →
     teams ≡ team ∷ teams2 → rules ≡ rule ∷ rules2 → m ≡ n + 1 → Is n team rule x → Assigned Is m teams2 rules2 rest → Assigned Is n teams rules (x ∷ rest)
@@ -87,22 +93,28 @@ back_len of Did ws ws2 back back2 z is =
 
 -- ## Stories of workers that were assigned
 
+zip_none : {T X : Type 0} (ts : List T) → zip {K = T} {X = X} ts [] ≡ []
+zip_none [] = refl
+zip_none (t ∷ ts) = refl
+
 -- Each of these has its stories, and is what it is to be.
-pub all_lanes : {T P W V X : Type 0} (IsWorker : ℕ → T → P → W → Type 0) (Did : W → W → Type 0) (told : W → Option V) (items : V → X) (IsTold : ℕ → T → P → X → Type 0) →
-    ((n : ℕ) (team : T) (rule : P) (a b : W) (v : V) → IsWorker n team rule a → Did a b → told b ≡ Some v → IsTold n team rule (items v)) →
-    (n : ℕ) (teams : List T) (rules : List P) (ws ws2 : List W) (vs : List V) → Assigned IsWorker n teams rules ws → AllZip Did ws ws2 →
-    map told ws2 ≡ map Some vs → Assigned IsTold n teams rules (map items vs)
-all_lanes IsWorker Did told items IsTold one n teams rules [] [] [] p z e = none_left IsTold n teams rules
-all_lanes IsWorker Did told items IsTold one n teams rules [] [] (v ∷ vs) p z e = absurd (omega (arith, ap (λ l. length l) e))
-all_lanes IsWorker Did told items IsTold one n teams rules [] (b ∷ ws2) vs p z e = absurd z
-all_lanes IsWorker Did told items IsTold one n teams rules (a ∷ ws) [] vs p z e = absurd z
-all_lanes IsWorker Did told items IsTold one n teams rules (a ∷ ws) (b ∷ ws2) [] p z e = absurd (omega (arith, ap (λ l. length l) e))
-all_lanes IsWorker Did told items IsTold one n [] rules (a ∷ ws) (b ∷ ws2) (v ∷ vs) p z e = absurd p
-all_lanes IsWorker Did told items IsTold one n (team ∷ teams) [] (a ∷ ws) (b ∷ ws2) (v ∷ vs) p z e = absurd p
-all_lanes IsWorker Did told items IsTold one n (team ∷ teams) (rule ∷ rules) (a ∷ ws) (b ∷ ws2) (v ∷ vs) p z e =
+pub all_lanes : {T P W V X : Type 0} (IsWorker : ℕ → T → P → W → Type 0) (Did : W → W → Type 0) (told : W → Option V) (items : V → X) (team_in : W → T)
+    (IsTold : ℕ → T → P → T × X → Type 0) →
+    ((n : ℕ) (team : T) (rule : P) (a b : W) (v : V) → IsWorker n team rule a → Did a b → told b ≡ Some v → IsTold n team rule (team_in b, items v)) →
+    (n : ℕ) (teams : List T) (rules : List P) (ws ws2 : List W) (vs : List V) (left : List T) → Assigned IsWorker n teams rules ws → AllZip Did ws ws2 →
+    map told ws2 ≡ map Some vs → Assigned IsTold n teams rules (zip (map team_in ws2 ++ left) (map items vs))
+all_lanes IsWorker Did told items team_in IsTold one n teams rules [] [] [] left p z e =
+    subst (λ l. Assigned IsTold n teams rules l) (sym (zip_none left)) (none_left IsTold n teams rules)
+all_lanes IsWorker Did told items team_in IsTold one n teams rules [] [] (v ∷ vs) left p z e = absurd (omega (arith, ap (λ l. length l) e))
+all_lanes IsWorker Did told items team_in IsTold one n teams rules [] (b ∷ ws2) vs left p z e = absurd z
+all_lanes IsWorker Did told items team_in IsTold one n teams rules (a ∷ ws) [] vs left p z e = absurd z
+all_lanes IsWorker Did told items team_in IsTold one n teams rules (a ∷ ws) (b ∷ ws2) [] left p z e = absurd (omega (arith, ap (λ l. length l) e))
+all_lanes IsWorker Did told items team_in IsTold one n [] rules (a ∷ ws) (b ∷ ws2) (v ∷ vs) left p z e = absurd p
+all_lanes IsWorker Did told items team_in IsTold one n (team ∷ teams) [] (a ∷ ws) (b ∷ ws2) (v ∷ vs) left p z e = absurd p
+all_lanes IsWorker Did told items team_in IsTold one n (team ∷ teams) (rule ∷ rules) (a ∷ ws) (b ∷ ws2) (v ∷ vs) left p z e =
     let first : told b ≡ Some v = cc in
     let others : map told ws2 ≡ map Some vs = cc in
-    (one n team rule a b v p.0 z.0 first, all_lanes IsWorker Did told items IsTold one (n + 1) teams rules ws ws2 vs p.1 z.1 others)
+    (one n team rule a b v p.0 z.0 first, all_lanes IsWorker Did told items team_in IsTold one (n + 1) teams rules ws ws2 vs left p.1 z.1 others)
 
 pub lanes_len : {W V X : Type 0} (Did : W → W → Type 0) (told : W → Option V) (items : V → X) (ws ws2 : List W) (vs : List V) → AllZip Did ws ws2 →
     map told ws2 ≡ map Some vs → length (map items vs) ≡ length ws

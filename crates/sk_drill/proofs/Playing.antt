@@ -1,5 +1,5 @@
 -- Events that come about, one after another.
-use Rattle.std.proofs.Common.{◌≡◌, ◌∙◌, ap, refl, sym, ℕ, List, [], ◌∷◌, ◌++◌, length, map, arith, Bool, true, false}
+use Rattle.std.proofs.Common.{◌≡◌, ◌∙◌, ap, refl, sym, ℕ, List, [], ◌∷◌, ◌++◌, length, map, arith, true, false}
 use Rattle.std.specs.Prelude.{◌&&◌, not, Result, Ok, Err, OnOk}
 use Rattle.std.specs.List.{list_all}
 use Rattle.std.proofs.lemmas.List.{map-append}
@@ -17,7 +17,7 @@ use Rattle.sk_model.specs.Reading.{Words}
 use Rattle.sk_model.specs.Step.{cut}
 use Rattle.sk_model.specs.World.{World}
 use Rattle.sk_model.proofs.Theorems.Runs.{leads_on}
-use Rattle.sk_drill.specs.Soaked.{Plays, PlaysSome, is_oom, is_served}
+use Rattle.sk_drill.specs.Soaked.{PlaysSome, is_oom, is_served}
 
 abbrev event_in : Step → Event
 event_in step = step.event

@@ -1,7 +1,6 @@
 -- How much a turn may be: how many events it has, and how far it takes what a load holds.
-use Rattle.std.proofs.Common.{◌≡◌, ◌≤◌, ◌<◌, ◌+◌, ℕ, List, [], ◌∷◌, ◌++◌, length, refl, arith, Bool, true, false, Option, Some, None}
-use Rattle.std.specs.Prelude.{nat_lt, ◌==◌, ◌%◌, if◌then◌else◌, codes}
-use Rattle.rand_pcg.specs.Pcg.{pcg32}
+use Rattle.std.proofs.Common.{◌≡◌, ◌≤◌, ◌<◌, ◌+◌, ℕ, List, [], ◌∷◌, length, refl, arith, Bool, true, false}
+use Rattle.std.specs.Prelude.{nat_lt, ◌==◌, if◌then◌else◌, codes}
 use Rattle.sk_resp.specs.Spelling.{Bytes}
 use Rattle.sk_seats.specs.declared.phase.Phase.{Phase}
 use Rattle.sk_seats.specs.declared.phase.Phase.TheVariants.{Plain, Joined}
@@ -10,9 +9,9 @@ use Rattle.sk_seats.specs.declared.work.Stage.TheVariants.{Held, Put, Settled}
 use Rattle.sk_seats.specs.declared.work.Work.{Work}
 use Rattle.sk_model.specs.Reading.{Words}
 use Rattle.sk_model.specs.World.{World, phase_of}
-use Rattle.sk_drill.specs.Actors.{actor_of, process_of, queue_of}
+use Rattle.sk_drill.specs.Actors.{actor_of, queue_of}
 use Rattle.sk_drill.specs.Requests.{script}
-use Rattle.sk_drill.specs.Load.{LoadState, Part, word, drawn, later, one, pushing, push_part, poll_part, crash_part, fail_part, held_part, stage_part, fetch_part, works_part, work_part, part_of, turn_part, batches_part, with_first, opening_part, first_load}
+use Rattle.sk_drill.specs.Load.{LoadState, Part, word, drawn, later, one, pushing, push_part, poll_part, crash_part, fail_part, held_part, stage_part, fetch_part, works_part, work_part, part_of, turn_part, batches_part, with_first, opening_part}
 use Rattle.sk_drill.specs.declared.actor.Actor.{Actor}
 use Rattle.sk_drill.specs.declared.actor.Actor.TheVariants.{Client, Poller, Crash, Worker}
 

@@ -1,8 +1,11 @@
 -- How a drill ends, by what its threads tell.
 use denote.Param.Members.{Mut}
-use Rattle.std.specs.Prelude.{◌≡◌, ◌/◌, ℕ, List, length, Option, Some, None}
+use Rattle.std.specs.Prelude.{◌≡◌, ◌≢◌, ◌/◌, ℕ, List, [], length, map, Option, Some}
+use Rattle.std.specs.List.{AllByRecursion}
 use Rattle.sk_compare.specs.Alike.{AllAnswered, Alike, Compares, DiffersAt, noted, told}
+use Rattle.sk_compare.specs.Exchange.{exchange_of}
 use Rattle.sk_compare.specs.declared.difference.Difference.{Difference}
+use Rattle.sk_desk.specs.declared.entry.Entry.{Entry}
 use Rattle.sk_desk.specs.Journal.{IsJournal}
 use Rattle.sk_desk.specs.Log.{Log}
 use Rattle.sk_desk.specs.State.{StateView}
@@ -10,6 +13,7 @@ use Rattle.sk_jobs.specs.Counting.{tally_of}
 use Rattle.sk_lane.specs.declared.story.Story.{Story}
 use Rattle.sk_model.specs.World.{World}
 use Rattle.sk_policy.specs.declared.delay.DelayRule.{DelayRule}
+use Rattle.sk_worker.specs.Run.{Run}
 use Rattle.sk_worker.specs.declared.registry.Registry.{Registry}
 use Rattle.sk_drill.specs.Crews.{AreStories}
 use Rattle.sk_drill.specs.Soaked.{IsBalanced}
@@ -26,6 +30,11 @@ pub record IsRecorded (s : StateView) (stories : List Story) (d : Option Differe
   pub answered : AllAnswered log.entries
   pub compares : Compares (told stories) (noted log.entries) d
 
+-- Each story is all that the journal has of its seat: its asks are the seat's entries, each once and in order. Of a seat without a story there are none.
+pub record AreBySeat (stories : List Story) (entries : List Entry) : Type 0 where
+  pub own : AllByRecursion (λ story. noted entries story.seat ≡ map exchange_of story.asks.items) stories
+  pub others : (s : ℕ) → AllByRecursion (λ story. story.seat ≢ s) stories → noted entries s ≡ []
+
 -- The book is a journal, which is a run of the store; the summary has its length, and the tally of its last world. It has of each seat what the
 -- stories tell of it, each ask once and in order, with its reply.
 pub record IsDrilled (stories : List Story) (d : Drilled) : Type 0 where
@@ -39,6 +48,7 @@ pub record IsDrilled (stories : List Story) (d : Drilled) : Type 0 where
   pub stories_are : d.stories.items ≡ stories
   pub answered : AllAnswered log.entries
   pub alike : Alike (told stories) (noted log.entries)
+  pub by_seat : AreBySeat stories log.entries
 
 -- There was a journal with another ask at this place of this seat than the stories tell, or one of them has none there.
 pub record HasDiffered (stories : List Story) (d : Difference) : Type 0 where
@@ -60,6 +70,8 @@ plan_of seed jobs workers crashes = record { seed = seed; jobs = jobs; crashes =
 
 module _ {Job Rule : Type 0} {OfJob : Job → Type 0} {OfRule : Rule → Type 0} {Delays : Mut ((rule : Rule) × OfRule rule) (ℕ × Unit {0}) ℕ} where
   -- There was no memory. Or all threads told their stories, and the drill ends as they compare with the journal.
-  pub data Drills (plan : Plan) (workers : ℕ) (teams : List (Registry Job Rule OfJob OfRule Delays)) (rules : List (DelayRule Rule OfRule Delays)) : DrillEnd → Type 0 where
-    starved : Drills plan workers teams rules end.Memory
-    ended : (stories : List Story) (how : DrillEnd) → AreStories plan workers teams rules stories → EndsAs stories how → Drills plan workers teams rules how
+  pub data Drills (runs : (job : Job) × OfJob job → Option (List Run)) (plan : Plan) (workers : ℕ) (rules : List (DelayRule Rule OfRule Delays))
+      (teams teams_now : List (Registry Job Rule OfJob OfRule Delays)) : DrillEnd → Type 0 where
+    starved : Drills runs plan workers rules teams teams_now end.Memory
+    ended : (stories : List Story) (how : DrillEnd) → AreStories runs plan workers rules teams teams_now stories → EndsAs stories how →
+        Drills runs plan workers rules teams teams_now how

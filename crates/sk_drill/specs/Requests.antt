@@ -1,5 +1,5 @@
 -- The words of a load's commands.
-use Rattle.std.specs.Prelude.{ℕ, ℤ, ◌+◌, ◌-◌, ◌%◌, List, [], ◌∷◌, ◌++◌, zero, suc, Option, Some, None, codes}
+use Rattle.std.specs.Prelude.{ℕ, ℤ, ◌+◌, ◌-◌, ◌%◌, List, [], ◌∷◌, ◌++◌, zero, suc, Some, None, codes}
 use Rattle.std.specs.Fmt.{decimal}
 use Rattle.sk_base.specs.Score.{score_text}
 use Rattle.sk_resp.specs.Spelling.{Bytes}

@@ -37,6 +37,11 @@ abbrev pub pushes_from : ℕ → List Reply → List Exchange
 pushes_from k [] = []
 pushes_from k (answer ∷ answers) = exchange (push k (codes "default")) answer ∷ pushes_from (k + 1) answers
 
+-- Job k was pushed, and answered, behind these.
+pub record PushesOne (k : ℕ) (asks asks_now : List Exchange) : Type 0 where
+  pub answer : Reply
+  pub are : asks_now ≡ asks ++ exchange (push k (codes "default")) answer ∷ []
+
 -- So many jobs were pushed, from job 1 on.
 pub record Pushed (jobs : ℕ) (asks : List Exchange) : Type 0 where
   pub answers : List Reply
@@ -74,6 +79,12 @@ turn_asks events = exchanges (calls events)
 
 abbrev pub turns_asks : List (List Event) → List Exchange
 turns_asks turns = flat_map turn_asks turns
+
+-- One turn was taken, behind these.
+pub record PollsOnce (asks asks_now : List Exchange) : Type 0 where
+  pub events : List Event
+  pub polls : IsPoll events
+  pub are : asks_now ≡ asks ++ turn_asks events
 
 -- of each turn the number of asks before it, of which there are so many before the first
 abbrev pub turn_marks : ℕ → List (List Event) → List ℕ

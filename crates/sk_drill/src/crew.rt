@@ -1,10 +1,10 @@
 // The crew of a drill: a thread that pushes, the poller's, and a worker for each of the first teams. It is hired, works in threads, and is dismissed:
 // then the teams stand again in their order, whatever came of it.
-ghost use Rattle.std.specs.Prelude.{◌≡◌, ◌<◌, ◌≤◌, ◌+◌, ◌*◌, ◌++◌, ◌∷◌, [], All, IfOk, OnOk, Some, length, map, true, vec_capacity, vec_len};
-ghost use Rattle.std.specs.List.{AllByRecursion, flat_map};
+ghost use Rattle.std.specs.Prelude.{◌≡◌, ◌<◌, ◌≤◌, ◌+◌, ◌*◌, ◌++◌, ◌∷◌, [], IfOk, OnOk, Some, length, map, true, vec_capacity, vec_len};
+ghost use Rattle.std.specs.List.{AllByRecursion};
 ghost use Rattle.std.specs.Global.{Vec};
 ghost use Rattle.sk_lane.specs.declared.story.Story.{Story};
-ghost use Rattle.sk_drill.specs.Crews.{AreStories, Assigned, CanWork, HiresOne, IsHired, IsJoined, Room, TellAll, classes_of};
+ghost use Rattle.sk_drill.specs.Crews.{AreStories, Assigned, HiresOne, IsHired, IsJoined, IsReady, Room, StandApart, TellAll, classes_of};
 
 use crate::Memory;
 use crate::plan::Plan;
@@ -38,8 +38,9 @@ fn hire_one<S: Seats + Drop>(plan: Plan, number: u32, outfit: &mut Outfit<S>) ->
     requires number { (1 ≤ number) × (number ≤ 16) }
     requires room { AllByRecursion (λ s. Room (S.free s) (S.left s) plan.jobs) outfit.old.seats.items }
     ensures hired { HiresOne plan number outfit.old.teams.items outfit.old.rules.items result outfit.new.teams.items outfit.new.rules.items }
-    ensures ready { CanWork (S.free result.seats) (S.left result.seats) result.plan.jobs result.number }
-    ensures seats { length outfit.new.seats.items + 1 ≡ length outfit.old.seats.items }
+    ensures ready { IsReady S.Seats result }
+    ensures seats { outfit.old.seats.items ≡ result.seats ∷ outfit.new.seats.items }
+    ensures fewer { length outfit.new.seats.items + 1 ≡ length outfit.old.seats.items }
     ensures room { AllByRecursion (λ s. Room (S.free s) (S.left s) plan.jobs) outfit.new.seats.items }
 {
     let Some(seats) = outfit.seats.pop_front() else {
@@ -76,8 +77,9 @@ fn hire_all<S: Seats + Drop>(
     requires jobs { (1 ≤ plan.jobs) × (plan.jobs ≤ 20000) }
     requires room { AllByRecursion (λ s. Room (S.free s) (S.left s) plan.jobs) outfit.old.seats.items }
     ensures hired { Assigned (IsHired plan) 1 outfit.old.teams.items outfit.old.rules.items staff.new.items }
-    ensures ready { AllByRecursion (λ w. CanWork (S.free w.seats) (S.left w.seats) w.plan.jobs w.number) staff.new.items }
+    ensures ready { AllByRecursion (IsReady S.Seats) staff.new.items }
     ensures teams { map (λ w. w.registry) staff.new.items ++ outfit.new.teams.items ≡ outfit.old.teams.items }
+    ensures seats { map (λ w. w.seats) staff.new.items ++ outfit.new.seats.items ≡ outfit.old.seats.items }
     ensures len { vec_len staff.new ≡ count }
 {
     for i in 0..count {
@@ -186,13 +188,14 @@ fn run_hired<R: Threads + Sync, S: Seats + Drop + Send>(
 where
     S::Desk: Send,
     requires some { 0 < vec_len staff }
-    requires teams { vec_len back.old + vec_len staff ≤ vec_capacity back.old }
+    requires teams { vec_len staff ≤ vec_capacity back.old }
     requires lanes { (lanes.items ≡ []) × (vec_len staff ≤ vec_capacity lanes) }
+    requires empty { back.old.items ≡ [] }
     requires free { (S.free pushing.seats ≡ true) × (S.free polling.seats ≡ true) }
-    requires ready { AllByRecursion (λ w. CanWork (S.free w.seats) (S.left w.seats) w.plan.jobs w.number) staff.items }
-    ensures told { IfOk result (λ stories. TellAll pushing.jobs polling.turns staff.items stories.items) }
-    ensures back { classes_of back.new.items ≡ classes_of back.old.items ++ classes_of (map (λ w. w.registry) staff.items) }
-    ensures len { vec_len back.new ≡ vec_len back.old + vec_len staff }
+    requires ready { AllByRecursion (IsReady S.Seats) staff.items }
+    ensures told { IfOk result (λ stories. TellAll S.Seats runs pushing polling staff.items back.new.items stories.items) }
+    ensures back { classes_of back.new.items ≡ classes_of (map (λ w. w.registry) staff.items) }
+    ensures len { vec_len back.new ≡ vec_len staff }
     ensures capacity { vec_capacity back.new ≡ vec_capacity back.old }
 {
     let mut pushing = pushing;
@@ -233,7 +236,8 @@ where
     requires jobs { (1 ≤ plan.jobs) × (plan.jobs ≤ 20000) }
     requires free { (S.free posts.pushing ≡ true) × (S.free posts.polling ≡ true) }
     requires room { AllByRecursion (λ s. Room (S.free s) (S.left s) plan.jobs) posts.working.items }
-    ensures stories { IfOk result (λ stories. AreStories plan (length posts.working.items) teams.old.items rules.items stories.items) }
+    requires apart { StandApart S.last S.left 0 (posts.pushing ∷ posts.polling ∷ posts.working.items) }
+    ensures stories { IfOk result (λ s. AreStories runs plan (length posts.working.items) rules.items teams.old.items teams.new.items s.items) }
     ensures teams { classes_of teams.new.items ≡ classes_of teams.old.items }
 {
     let Posts {

@@ -1,10 +1,10 @@
 // A drill: threads at one store with a journal, which is compared with what they tell.
-ghost use Rattle.std.specs.Prelude.{◌≡◌, ◌<◌, ◌≤◌, ◌-◌, ◌^◌, IfErr, IfOk, IfSome, MatchOption, None, Ok, length, true, vec_len};
+ghost use Rattle.std.specs.Prelude.{◌≡◌, ◌<◌, ◌≤◌, ◌-◌, ◌^◌, ◌∷◌, IfErr, IfOk, IfSome, MatchOption, None, Ok, length, true, vec_len};
 ghost use Rattle.std.specs.List.{AllByRecursion};
 ghost use Rattle.sk_desk.specs.State.{IsConsistent};
 ghost use Rattle.sk_jobs.specs.Counting.{tally_of};
 ghost use Rattle.sk_drill.specs.Soaked.{IsBalanced};
-ghost use Rattle.sk_drill.specs.Crews.{AreStories, Room, classes_of};
+ghost use Rattle.sk_drill.specs.Crews.{AreStories, HaveOwnSeats, Room, StandApart, classes_of};
 ghost use Rattle.sk_drill.specs.Drilled.{Drills, EndsAs, IsRecorded, plan_of};
 
 use crate::crew::{Posts, run_drill};
@@ -92,7 +92,8 @@ fn end_by(came: Result<Option<Difference>, Memory>, drilled: Drilled) -> DrillEn
 
 // How the drill ends.
 fn finish<I: HubId>(alloc: Global, closed: Closed<I, FullBook>, stories: Vec<Story>) -> DrillEnd
-    requires { IsConsistent closed }
+    requires sound { IsConsistent closed }
+    requires apart { HaveOwnSeats stories.items }
     ensures { EndsAs stories.items result }
 {
     let came = compared(alloc, &closed, &stories);
@@ -119,9 +120,10 @@ fn posts<'a, R: Wait, I: HubId, B: Book>(
 ) -> Result<Posts<HubSeats<'a, R, I, B>>, Memory>
     requires workers { workers ≤ 16 }
     requires plan { (1 ≤ plan.jobs) × (plan.jobs ≤ 20000) × (plan.crashes ≤ 1000000) }
-    requires count { pass.old.count ≡ 2 ^ 32 - 1 }
+    requires count { (pass.old.given ≡ 0) × (pass.old.count ≡ 2 ^ 32 - 1) }
     ensures len { IfOk result (λ posts. length posts.working.items ≡ workers) }
     ensures room { IfOk result (λ posts. AllByRecursion (λ s. Room true s.pass.count plan.jobs) posts.working.items) }
+    ensures apart { IfOk result (λ p. StandApart (λ s. s.pass.given) (λ s. s.pass.count) 0 (p.pushing ∷ p.polling ∷ p.working.items)) }
 {
     let count = 2 * plan.jobs as u32 + plan.crashes + 1;
     let pushing = HubSeats {
@@ -163,8 +165,8 @@ fn stories_at<R: Threads + Wait + Sync, I: HubId + Send + Sync>(
     requires workers { (1 ≤ workers) × (workers ≤ 16) × (workers ≤ vec_len teams.old) }
     requires rules { vec_len rules ≡ vec_len teams.old }
     requires plan { (1 ≤ plan.jobs) × (plan.jobs ≤ 20000) × (plan.crashes ≤ 1000000) }
-    requires count { pass.old.count ≡ 2 ^ 32 - 1 }
-    ensures stories { IfOk result (λ stories. AreStories plan workers teams.old.items rules.items stories.items) }
+    requires count { (pass.old.given ≡ 0) × (pass.old.count ≡ 2 ^ 32 - 1) }
+    ensures stories { IfOk result (λ s. AreStories runs plan workers rules.items teams.old.items teams.new.items s.items) }
     ensures teams { classes_of teams.new.items ≡ classes_of teams.old.items }
 {
     let posts = posts(rt, alloc, hub, pass, plan, workers)?;
@@ -186,7 +188,7 @@ fn drill_on<I: HubId + Send + Sync, R: Threads + Wait + Sync>(
     requires workers { (1 ≤ workers) × (workers ≤ 16) × (workers ≤ vec_len teams.old) }
     requires rules { vec_len rules ≡ vec_len teams.old }
     requires plan { (1 ≤ plan.jobs) × (plan.jobs ≤ 20000) × (plan.crashes ≤ 1000000) }
-    ensures told { Drills plan workers teams.old.items rules.items result }
+    ensures told { Drills runs plan workers rules.items teams.old.items teams.new.items result }
     ensures teams { classes_of teams.new.items ≡ classes_of teams.old.items }
 {
     let book = FullBook::new(alloc);
@@ -227,7 +229,7 @@ pub fn drill<R: Threads + Wait + Sync>(
     requires rules { vec_len rules ≡ vec_len teams.old }
 
     // The stories are those of all threads, and the drill ends as they compare with the journal, which is a run of the store.
-    ensures told { Drills (plan_of seed jobs workers crashes) workers teams.old.items rules.items result }
+    ensures told { Drills runs (plan_of seed jobs workers crashes) workers rules.items teams.old.items teams.new.items result }
 
     // The teams have their classes still.
     ensures teams { classes_of teams.new.items ≡ classes_of teams.old.items }

@@ -1,5 +1,4 @@
 // What one thread of a drill does.
-ghost use Rattle.std.specs.Prelude.{◌≡◌};
 
 use std::alloc::Global;
 

@@ -1,8 +1,8 @@
 // A load: what it still holds, and the events of its turns.
-ghost use Rattle.std.specs.Prelude.{◌≡◌, ◌+◌, ◌*◌, ◌^◌, ◌<◌, ◌≤◌, ◌++◌, ◌∷◌, [], IfOk, OnOk, map, Some};
+ghost use Rattle.std.specs.Prelude.{◌≡◌, ◌+◌, ◌^◌, ◌<◌, ◌++◌, ◌∷◌, [], IfOk, OnOk, map, Some};
 ghost use Rattle.sk_base.specs.declared.limits.TheConstants.{LAST_GENERATION};
 ghost use Rattle.sk_payload.specs.Head.{head as head_of};
-ghost use Rattle.sk_drill.specs.Load.{Gives, after_failure, asks, batches_part, crash_part, drawn, fail_part, failed_text, fate_of, fetch_part, first_load, held_part, later, one, opening_part, poll_part, push_part, put_away, stage_part, with_first, word, work_part};
+ghost use Rattle.sk_drill.specs.Load.{Gives, after_failure, asks, batches_part, crash_part, drawn, fail_part, failed_text, fate_of, fetch_part, first_load, held_part, later, one, opening_part, poll_part, push_part, put_away, stage_part, word, work_part};
 
 use crate::Memory;
 use crate::actor::{process_of, queue_of};

@@ -1,9 +1,9 @@
 // The thread of the poller.
-ghost use Rattle.std.specs.Prelude.{◌≡◌, ◌++◌, List, [], IfOk, IfSome, OnOk, map, true};
+ghost use Rattle.std.specs.Prelude.{◌≡◌, [], IfOk, IfSome, OnOk, map, true};
 ghost use Rattle.sk_compare.specs.Exchange.{exchange_of};
-ghost use Rattle.sk_poller.specs.Event.{Event};
 ghost use Rattle.sk_poller.specs.Stage.{watch_of};
-ghost use Rattle.sk_drill.specs.Telling.{GoesOn, IsPoll, PollStory, Polled, turn_asks, watch};
+ghost use Rattle.sk_drill.specs.Crews.{PolledAt};
+ghost use Rattle.sk_drill.specs.Telling.{GoesOn, Polled, PollsOnce, watch};
 
 use crate::Memory;
 use crate::duty::Duty;
@@ -56,8 +56,7 @@ fn take_turn<D: Desk>(
     dice: &mut PcgDice,
 ) -> Result<(), Memory>
     requires { watch_of poller.now ≡ watch }
-    ensures { OnOk result ((events : List Event) × IsPoll events
-        × (map exchange_of link.new.asks.items ≡ map exchange_of link.old.asks.items ++ turn_asks events)) }
+    ensures { OnOk result (PollsOnce (map exchange_of link.old.asks.items) (map exchange_of link.new.asks.items)) }
 {
     goes_on(poller.turn(alloc, link, clock, dice))
 }
@@ -87,7 +86,7 @@ fn poll_all<D: Desk>(
 // Takes them from the next seat, and ends that.
 fn poll<S: Seats>(alloc: Global, seats: &mut S, turns: u64) -> Result<Story, Memory>
     requires { S.free seats.old ≡ true }
-    ensures { IfOk result (PollStory turns) }
+    ensures { IfOk result (PolledAt (S.last seats.old) (S.left seats.old) turns) }
 {
     let poller = poller(alloc)?;
     let Ok((seat, desk)) = seats.next() else {
@@ -123,7 +122,7 @@ pub(crate) struct PollDuty<S: Drop> {
 impl<S: Seats + Drop> Duty for PollDuty<S> {
     ghost ready = { λ a. S.free a.seats ≡ true };
 
-    ghost did = { λ a b. IfSome b.story (PollStory a.turns) };
+    ghost did = { λ a b. IfSome b.story (PolledAt (S.last a.seats) (S.left a.seats) a.turns) };
 
     fn run(&mut self, alloc: Global) {
         self.story = match poll(alloc, &mut self.seats, self.turns) {

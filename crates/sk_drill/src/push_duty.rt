@@ -1,9 +1,8 @@
 // The thread that pushes the jobs.
-ghost use Rattle.std.specs.Prelude.{◌≡◌, ◌++◌, ◌∷◌, [], IfOk, IfSome, OnOk, codes, map, true};
+ghost use Rattle.std.specs.Prelude.{◌≡◌, [], IfOk, IfSome, OnOk, map, true};
 ghost use Rattle.sk_compare.specs.Exchange.{exchange_of};
-ghost use Rattle.sk_resp.specs.declared.reply.Reply.{Reply};
-ghost use Rattle.sk_drill.specs.Requests.{push as push_words};
-ghost use Rattle.sk_drill.specs.Telling.{PushStory, Pushed, exchange};
+ghost use Rattle.sk_drill.specs.Crews.{PushedAt};
+ghost use Rattle.sk_drill.specs.Telling.{PushesOne, Pushed};
 
 use crate::Memory;
 use crate::duty::Duty;
@@ -17,8 +16,7 @@ use std::alloc::Global;
 
 // Pushes one job over a link.
 fn push_one<D: Desk>(alloc: Global, link: &mut SeatLink<D, StepClock>, k: u64) -> Result<(), Memory>
-    ensures { OnOk result ((answer : Reply) × (map exchange_of link.new.asks.items
-        ≡ map exchange_of link.old.asks.items ++ exchange (push_words k (codes "default")) answer ∷ [])) }
+    ensures { OnOk result (PushesOne k (map exchange_of link.old.asks.items) (map exchange_of link.new.asks.items)) }
 {
     let words = push(alloc, k, b"default")?;
     match link.call(alloc, &words) {
@@ -45,7 +43,7 @@ fn push_all<D: Desk>(
 // Pushes them from the next seat, and ends that.
 fn push_jobs<S: Seats>(alloc: Global, seats: &mut S, jobs: u64) -> Result<Story, Memory>
     requires { S.free seats.old ≡ true }
-    ensures { IfOk result (PushStory jobs) }
+    ensures { IfOk result (PushedAt (S.last seats.old) (S.left seats.old) jobs) }
 {
     let Ok((seat, desk)) = seats.next() else {
         return Err(Memory);
@@ -83,7 +81,7 @@ pub(crate) struct PushDuty<S: Drop> {
 impl<S: Seats + Drop> Duty for PushDuty<S> {
     ghost ready = { λ a. S.free a.seats ≡ true };
 
-    ghost did = { λ a b. IfSome b.story (PushStory a.jobs) };
+    ghost did = { λ a b. IfSome b.story (PushedAt (S.last a.seats) (S.left a.seats) a.jobs) };
 
     fn run(&mut self, alloc: Global) {
         self.story = match push_jobs(alloc, &mut self.seats, self.jobs) {

@@ -1,8 +1,8 @@
 // The thread of a worker.
 ghost use Rattle.std.specs.Prelude.{◌≡◌, IfSome};
-ghost use Rattle.sk_drill.specs.Crews.{CanWork, IsLane, Worked, task_of};
+ghost use Rattle.sk_lane.specs.Lane.{WorksAt};
+ghost use Rattle.sk_drill.specs.Crews.{CanWork, IsReady, Worked, task_of};
 
-use crate::duty::Duty;
 use crate::plan::Plan;
 use sk_lane::{Seats, Story, lane};
 use sk_policy::DelayRule;
@@ -19,7 +19,7 @@ fn work<S: Seats>(
     rule: DelayRule,
 ) -> Option<Vec<Story>>
     requires { CanWork (S.free seats.old) (S.left seats.old) plan.jobs number }
-    ensures told { IfSome result (λ stories. IsLane (task_of plan number) registry.old rule stories.items) }
+    ensures told { IfSome result (λ s. WorksAt S.Seats runs (task_of plan number) rule registry.old seats.old registry.new seats.new s.items) }
     ensures classes { registry.new.classes ≡ registry.old.classes }
 {
     match lane(
@@ -50,12 +50,12 @@ pub(crate) struct WorkDuty<S: Drop> {
     pub stories: Option<Vec<Story>>,
 }
 
-impl<S: Seats + Drop> Duty for WorkDuty<S> {
-    ghost ready = { λ a. CanWork (S.free a.seats) (S.left a.seats) a.plan.jobs a.number };
-
-    ghost did = { λ a b. Worked a b };
-
-    fn run(&mut self, alloc: Global) {
+impl<S: Seats + Drop> WorkDuty<S> {
+    /// It works from its first seat to its last turn.
+    pub fn run(&mut self, alloc: Global)
+        requires { IsReady S.Seats self.old }
+        ensures { Worked S.Seats runs self.old self.new }
+    {
         let Some(rule) = self.rule.take() else {
             self.stories = None;
             return;

@@ -1,5 +1,6 @@
 -- How a story is told, and how stories go on.
-use Rattle.std.proofs.Common.{◌≡◌, ◌<◌, ◌+◌, ◌++◌, ◌∙◌, ℕ, Bool, true, false, List, [], ◌∷◌, length, Option, Some, None, Result, Ok, Err, IfOk, refl, sym, ap, subst, append-nil, append_assoc, get_or}
+use Rattle.std.proofs.Common.{◌≡◌, ◌+◌, ◌++◌, ◌∙◌, ℕ, Bool, true, false, List, [], ◌∷◌, length, Option, Some, None, Result, Ok, Err, IfOk, refl, sym, ap, subst, append-nil, append_assoc, arith, get_or}
+use Rattle.std.proofs.lemmas.List.{length_push}
 use Rattle.std.proofs.lemmas.List.Elements.{filter-append}
 use Rattle.sk_base.specs.Outside.{Takes}
 use Rattle.sk_base.proofs.OutsideLaws.{takes_more, takes_nothing}
@@ -14,7 +15,7 @@ use Rattle.sk_lane.specs.Asks.{AddsPast, AreCalls}
 use Rattle.sk_lane.specs.Carrying.{LinkState}
 use Rattle.sk_lane.specs.Drawing.{in_turn}
 use Rattle.sk_lane.specs.Progress.{LaneSoFar, Said, TurnsTold}
-use Rattle.sk_lane.specs.Story.{Seated, Stories, StoryRan, StoryTold, all_told, beat, beat_words, join, one_more, turned, unbeaten, unjoined}
+use Rattle.sk_lane.specs.Story.{Seated, Sitting, Stories, StoryRan, StoryTold, all_told, beat, beat_words, join, one_more, turned, unbeaten, unjoined}
 use Rattle.sk_lane.specs.Turns.{Turns, asks_of, marks_of, runs_of}
 use Rattle.sk_lane.specs.declared.crashes.Crashes.{Crashes}
 use Rattle.sk_lane.specs.declared.crashes.Drawing.{Drawing}
@@ -72,11 +73,11 @@ ends_turned w OfRules OfJobs (Ok left) a m b held d e asks marks marks_now todo 
 -- ## At a seat
 
 pub seated : (last0 last1 last2 left0 left1 left2 : ℕ) (past0 past1 past2 : Option (List PastSeat)) (seat : ℕ) (calls : Option (List Call)) (asks : List Ask) →
-    last0 < last1 → last1 ≡ seat → left1 + 1 ≡ left0 → past1 ≡ past0 → AddsPast past1 (record { seat = last1; calls = calls } ∷ []) past2 → left2 ≡ left1 → last2 ≡ last1 →
-    AreCalls calls asks → Seated last0 last2 left0 left2 past0 past2 seat asks
+    last1 ≡ last0 + 1 → last1 ≡ seat → left1 + 1 ≡ left0 → past1 ≡ past0 → AddsPast past1 (record { seat = last1; calls = calls } ∷ []) past2 → left2 ≡ left1 → last2 ≡ last1 →
+    AreCalls calls asks → Seated (record { last = last0; left = left0; past = past0 }) (record { last = last2; left = left2; past = past2 }) seat asks
 seated last0 last1 last2 left0 left1 left2 past0 past1 past2 seat calls asks above is fewer same adds left last are = record {
   calls = calls;
-  later = subst (λ n. last0 < n) is above;
+  next = sym is ∙ above;
   last_is = last ∙ is;
   left_is = ap (λ n. n + 1) left ∙ fewer;
   past_is = subst (λ s. AddsPast s (record { seat = seat; calls = calls } ∷ []) past2) same
@@ -102,52 +103,56 @@ pub past_added : (a b : Option (List PastSeat)) (n m : ℕ) (x y : Option (List 
 past_added a b n m x y now e f g adds = subst (λ s. AddsPast s (record { seat = n; calls = x } ∷ []) now) e
     (subst (λ k. AddsPast b (record { seat = k; calls = x } ∷ []) now) f (subst (λ c. AddsPast b (record { seat = m; calls = c } ∷ []) now) g adds))
 
-pub lane_none : (thread : ℕ) (w : Settings) (OfRules : List Choice → Type 0) (OfJobs : List Run → Type 0) (c : Crashes) (todo last : ℕ) (past : Option (List PastSeat)) →
-    OfJobs [] → LaneSoFar thread w OfRules OfJobs c todo last past past [] c todo last
-lane_none thread w OfRules OfJobs c todo last past ran = record {
+pub lane_none : (thread : ℕ) (w : Settings) (OfRules : List Choice → Type 0) (OfJobs : List Run → Type 0) (c : Crashes) (todo : ℕ) (seats : Sitting) →
+    OfJobs [] → LaneSoFar thread w OfRules OfJobs c todo seats seats [] c todo
+lane_none thread w OfRules OfJobs c todo seats ran = record {
   runs = [];
   seats_ended = [];
   ran = ran;
-  past_is = past_none past;
+  past_is = past_none seats.past;
+  left_is = omega arith;
   on = λ rest more later told. told;
 }
 
-pub lane_begins : (thread : ℕ) (w : Settings) (OfRules : List Choice → Type 0) (OfJobs : List Run → Type 0) (c now : Crashes) (todo last : ℕ) (past : Option (List PastSeat)) (stories : List Story) →
-    now ≡ c → stories ≡ [] → OfJobs [] → LaneSoFar thread w OfRules OfJobs c todo last past past stories now todo last
-lane_begins thread w OfRules OfJobs c now todo last past stories e none ran =
-    subst (λ l. LaneSoFar thread w OfRules OfJobs c todo last past past l now todo last) (sym none)
-    (subst (λ d. LaneSoFar thread w OfRules OfJobs c todo last past past [] d todo last) (sym e) (lane_none thread w OfRules OfJobs c todo last past ran))
+pub lane_begins : (thread : ℕ) (w : Settings) (OfRules : List Choice → Type 0) (OfJobs : List Run → Type 0) (c now : Crashes) (todo : ℕ) (seats : Sitting) (stories : List Story) →
+    now ≡ c → stories ≡ [] → OfJobs [] → LaneSoFar thread w OfRules OfJobs c todo seats seats stories now todo
+lane_begins thread w OfRules OfJobs c now todo seats stories e none ran =
+    subst (λ l. LaneSoFar thread w OfRules OfJobs c todo seats seats l now todo) (sym none)
+    (subst (λ d. LaneSoFar thread w OfRules OfJobs c todo seats seats [] d todo) (sym e) (lane_none thread w OfRules OfJobs c todo seats ran))
 
-pub lane_on : (thread : ℕ) (w : Settings) (OfRules : List Choice → Type 0) (Before First Now : List Run → Type 0) (c d e : Crashes) (todo left next : ℕ) (last0 last1 last2 left1 left2 : ℕ)
-    (past0 past1 past2 : Option (List PastSeat)) (s1 s2 : List Story) (story : Story) → LaneSoFar thread w OfRules Before c todo last0 past0 past1 s1 d left last1 → story.thread ≡ thread →
-    StoryRan w OfRules First d left story.asks.items story.marks.items e next → Seated last1 last2 left1 left2 past1 past2 story.seat story.asks.items → s2 ≡ s1 ++ story ∷ [] →
-    ((xs ys : List Run) → Before xs → First ys → Now (xs ++ ys)) → LaneSoFar thread w OfRules Now c todo last0 past0 past2 s2 e next last2
-lane_on thread w OfRules Before First Now c d e todo left next last0 last1 last2 left1 left2 past0 past1 past2 s1 s2 story far is one seated pushed more =
+pub lane_on : (thread : ℕ) (w : Settings) (OfRules : List Choice → Type 0) (Before First Now : List Run → Type 0) (c d e : Crashes) (todo left next : ℕ) (seats0 seats1 seats2 : Sitting)
+    (s1 s2 : List Story) (story : Story) → LaneSoFar thread w OfRules Before c todo seats0 seats1 s1 d left → story.thread ≡ thread →
+    StoryRan w OfRules First d left story.asks.items story.marks.items e next → Seated seats1 seats2 story.seat story.asks.items → s2 ≡ s1 ++ story ∷ [] →
+    ((xs ys : List Run) → Before xs → First ys → Now (xs ++ ys)) → LaneSoFar thread w OfRules Now c todo seats0 seats2 s2 e next
+lane_on thread w OfRules Before First Now c d e todo left next seats0 seats1 seats2 s1 s2 story far is one seated pushed more =
     let ended : PastSeat = record { seat = story.seat; calls = seated.calls } in
+    let last0 = seats0.last in
     record {
       runs = far.runs ++ one.runs;
       seats_ended = far.seats_ended ++ ended ∷ [];
       ran = more far.runs one.runs far.ran one.ran;
-      past_is = past_more past0 far.seats_ended past1 (ended ∷ []) past2 far.past_is seated.past_is;
+      past_is = past_more seats0.past far.seats_ended seats1.past (ended ∷ []) seats2.past far.past_is seated.past_is;
+      left_is = omega (arith, far.left_is, seated.left_is, ap (λ l. length l) pushed, length_push s1 story);
       on = λ rest runs later told.
           subst (λ l. Stories thread w OfRules c todo last0 l ((far.runs ++ one.runs) ++ runs) ((far.seats_ended ++ ended ∷ []) ++ later))
           (sym (ap (λ l. l ++ rest) pushed ∙ append_assoc s1 (story ∷ []) rest))
           (subst (λ l. Stories thread w OfRules c todo last0 (s1 ++ story ∷ rest) l ((far.seats_ended ++ ended ∷ []) ++ later)) (sym (append_assoc far.runs one.runs runs))
           (subst (λ l. Stories thread w OfRules c todo last0 (s1 ++ story ∷ rest) (far.runs ++ (one.runs ++ runs)) l) (sym (append_assoc far.seats_ended (ended ∷ []) later))
           (far.on (story ∷ rest) (one.runs ++ runs) (ended ∷ later)
-          (one_more d e left next last1 story rest one.runs runs seated.calls later is seated.later one.told seated.same
+          (one_more d e left next seats1.last story rest one.runs runs seated.calls later is seated.next one.told seated.same
           (subst (λ n. Stories thread w OfRules e next n rest runs later) seated.last_is told)))));
     }
 
 -- All stories, where no turn is left.
-pub lane_all : (thread : ℕ) (w : Settings) (OfRules : List Choice → Type 0) (OfJobs : List Run → Type 0) (c d : Crashes) (todo left last0 last1 : ℕ)
-    (past0 past1 : Option (List PastSeat)) (stories : List Story) → left ≡ 0 → (far : LaneSoFar thread w OfRules OfJobs c todo last0 past0 past1 stories d left last1) →
-    Stories thread w OfRules c todo last0 stories far.runs far.seats_ended
-lane_all thread w OfRules OfJobs c d todo left last0 last1 past0 past1 stories none far =
+pub lane_all : (thread : ℕ) (w : Settings) (OfRules : List Choice → Type 0) (OfJobs : List Run → Type 0) (c d : Crashes) (todo left : ℕ) (seats0 seats1 : Sitting)
+    (stories : List Story) → left ≡ 0 → (far : LaneSoFar thread w OfRules OfJobs c todo seats0 seats1 stories d left) →
+    Stories thread w OfRules c todo seats0.last stories far.runs far.seats_ended
+lane_all thread w OfRules OfJobs c d todo left seats0 seats1 stories none far =
+    let last0 = seats0.last in
     subst (λ l. Stories thread w OfRules c todo last0 l far.runs far.seats_ended) (append-nil stories)
     (subst (λ l. Stories thread w OfRules c todo last0 (stories ++ []) l far.seats_ended) (append-nil far.runs)
     (subst (λ l. Stories thread w OfRules c todo last0 (stories ++ []) (far.runs ++ []) l) (append-nil far.seats_ended)
-    (far.on [] [] [] (subst (λ n. Stories thread w OfRules d n last1 [] [] []) (sym none) (all_told d last1)))))
+    (far.on [] [] [] (subst (λ n. Stories thread w OfRules d n seats1.last [] [] []) (sym none) (all_told d seats1.last)))))
 
 -- ## Runs
 

@@ -1,6 +1,7 @@
 -- What a link over a desk carries.
 use Rattle.std.specs.Prelude.{◌≡◌, ◌++◌, ℕ, List, [], ◌∷◌, Option, Result, Ok, Err}
 use Rattle.sk_base.specs.Yields.{Yields, YieldsAll}
+use Rattle.sk_base.specs.declared.clock.Clock as a_clock
 use Rattle.sk_resp.specs.Spelling.{Bytes}
 use Rattle.sk_resp.specs.declared.reply.Reply.{Reply}
 use Rattle.sk_link.specs.Call.{Call as LinkCall}
@@ -9,10 +10,12 @@ use Rattle.sk_link.specs.declared.link.LinkFault.{LinkFault}
 use Rattle.sk_link.specs.declared.link.LinkFault.TheVariants.{Memory}
 use Rattle.sk_desk.specs.Calls.{AddsCall, call_of}
 use Rattle.sk_desk.specs.declared.call.Call.{Call}
+use Rattle.sk_desk.specs.declared.desk.Desk as a_desk
 use Rattle.sk_desk.specs.declared.entry.Ask.{Ask}
-use Rattle.sk_lane.specs.Asks.{answered_ask}
+use Rattle.sk_lane.specs.Asks.{AreCalls, answered_ask}
 use Rattle.sk_lane.specs.Drawing.{DrawsCall}
 use Rattle.sk_lane.specs.declared.crashes.Drawing.{Drawing}
+use Rattle.sk_lane.specs.declared.seat_link.SeatLink.{SeatLink}
 
 -- what a link keeps, the moments that its clock is going to give, the calls that its desk tells, and where its crashes stand
 pub record LinkState : Type 0 where
@@ -27,6 +30,11 @@ pub record Asked (request : List Bytes) (answer : Reply) (asks after : List Ask)
   pub at : Yields moments now later
   pub kept : after ≡ asks ++ answered_ask now request answer ∷ []
   pub told : AddsCall calls (call_of request now answer) calls_now
+
+-- The same, by what a clock and a desk tell.
+abbrev pub AskedOf : {D C : Type 0} → a_desk.Ghosts D → a_clock.Ghosts C → List Bytes → Reply → List Ask → C → D → List Ask → C → D → Type 0
+AskedOf OfDesk OfClock request answer asks clock desk after clock_now desk_now =
+    Asked request answer asks after (OfClock.moments clock) (OfClock.moments clock_now) (OfDesk.calls desk) (OfDesk.calls desk_now)
 
 -- The clock was read, or it wasn't.
 abbrev pub ReadsAtMost : Option (ℕ → ℕ) → Option (ℕ → ℕ) → Type 0
@@ -46,6 +54,11 @@ pub record CarriesCall (a : LinkState) (call : LinkCall) (b : LinkState) : Type 
 abbrev pub Carries : LinkState → LinkState → List LinkCall → Type 0
 Carries a b calls = Walk CarriesCall a calls b
 
--- the state of a link, by what its clock and its desk tell
-abbrev pub link_state : {C D : Type 0} → (C → Option (ℕ → ℕ)) → (D → Option (List Call)) → C → D → List Ask → Drawing → LinkState
-link_state moments calls clock desk asks drawing = record { asks = asks; moments = moments clock; calls = calls desk; drawing = drawing }
+-- the state of a link, by what its desk and its clock tell
+abbrev pub state_of : {D C : Type 0} → a_desk.Ghosts D → a_clock.Ghosts C → SeatLink D C → LinkState
+state_of OfDesk OfClock link =
+    record { asks = link.asks.items; moments = OfClock.moments link.clock; calls = OfDesk.calls link.desk; drawing = link.drawing }
+
+-- Where the asks were the desk's calls, they are so still.
+abbrev pub KeepsCalls : {D C : Type 0} → a_desk.Ghosts D → SeatLink D C → SeatLink D C → Type 0
+KeepsCalls OfDesk link link_now = AreCalls (OfDesk.calls link.desk) link.asks.items → AreCalls (OfDesk.calls link_now.desk) link_now.asks.items

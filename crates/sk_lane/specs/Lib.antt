@@ -7,4 +7,5 @@ pub mod Story
 pub mod Lane
 pub mod Progress
 pub mod Threads
+pub mod Shifts
 pub mod CoreSeats

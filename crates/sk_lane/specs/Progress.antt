@@ -1,6 +1,6 @@
 -- How far a worker's thread has come: what its requests, its turns and its stories add to what it did before.
 use denote.Param.Members.{Mut}
-use Rattle.std.specs.Prelude.{◌≡◌, ◌++◌, ℕ, Bool, true, false, List, [], ◌∷◌, length, Option, Some, Result}
+use Rattle.std.specs.Prelude.{◌≡◌, ◌+◌, ◌++◌, ℕ, Bool, true, false, List, [], ◌∷◌, length, Option, Some, Result}
 use Rattle.sk_resp.specs.Spelling.{Bytes}
 use Rattle.sk_resp.specs.declared.reply.Reply.{Reply}
 use Rattle.sk_link.specs.Asking.{is_okay}
@@ -15,7 +15,7 @@ use Rattle.sk_worker.specs.declared.worker.Worker.{Worker}
 use Rattle.sk_desk.specs.declared.entry.Ask.{Ask}
 use Rattle.sk_lane.specs.Asks.{AddsPast, AreCalls, answered_ask, is_oom}
 use Rattle.sk_lane.specs.Carrying.{Carries, LinkState}
-use Rattle.sk_lane.specs.Story.{Stories}
+use Rattle.sk_lane.specs.Story.{Sitting, Stories}
 use Rattle.sk_lane.specs.Turns.{TurnTaken, Turns, asks_of, marks_of, moment, runs_of}
 use Rattle.sk_lane.specs.declared.crashes.Crashes.{Crashes}
 use Rattle.sk_lane.specs.declared.crashes.Drawing.{Drawing}
@@ -75,14 +75,15 @@ pub record TurnsSoFar (w : Settings) (OfRules : List Choice → Type 0) (OfJobs 
 -- ## Stories
 
 -- A lane so far: whatever stories come behind come behind these.
-pub record LaneSoFar (thread : ℕ) (w : Settings) (OfRules : List Choice → Type 0) (OfJobs : List Run → Type 0) (c : Crashes) (todo last : ℕ)
-    (past past_now : Option (List PastSeat)) (stories : List Story) (now : Crashes) (left last_now : ℕ) : Type 0 where
+pub record LaneSoFar (thread : ℕ) (w : Settings) (OfRules : List Choice → Type 0) (OfJobs : List Run → Type 0) (c : Crashes) (todo : ℕ)
+    (seats seats_now : Sitting) (stories : List Story) (now : Crashes) (left : ℕ) : Type 0 where
   pub runs : List Run
   pub seats_ended : List PastSeat
   pub ran : OfJobs runs
-  pub past_is : AddsPast past seats_ended past_now
-  pub on : (rest : List Story) (more : List Run) (later : List PastSeat) → Stories thread w OfRules now left last_now rest more later →
-      Stories thread w OfRules c todo last (stories ++ rest) (runs ++ more) (seats_ended ++ later)
+  pub past_is : AddsPast seats.past seats_ended seats_now.past
+  pub left_is : seats_now.left + length stories ≡ seats.left
+  pub on : (rest : List Story) (more : List Run) (later : List PastSeat) → Stories thread w OfRules now left seats_now.last rest more later →
+      Stories thread w OfRules c todo seats.last (stories ++ rest) (runs ++ more) (seats_ended ++ later)
 
 -- ## A worker with its jobs
 

@@ -1,5 +1,5 @@
 -- What a story is: all that happened at one seat.
-use Rattle.std.specs.Prelude.{◌≡◌, ◌<◌, ◌+◌, ℕ, true, false, List, [], ◌∷◌, ◌++◌, codes, Option}
+use Rattle.std.specs.Prelude.{◌≡◌, ◌+◌, ℕ, true, false, List, [], ◌∷◌, ◌++◌, codes, Option}
 use Rattle.sk_resp.specs.Spelling.{Bytes}
 use Rattle.sk_resp.specs.declared.reply.Reply.{Reply}
 use Rattle.sk_link.specs.Asking.{is_okay}
@@ -15,6 +15,7 @@ use Rattle.sk_lane.specs.Turns.{Turns, asks_of, marks_of, moment, runs_of}
 use Rattle.sk_lane.specs.declared.crashes.Crashes.{Crashes}
 use Rattle.sk_lane.specs.declared.crashes.Drawing.{Drawing}
 use Rattle.sk_lane.specs.declared.past_seat.PastSeat.{PastSeat}
+use Rattle.sk_lane.specs.declared.seats.Seats as the_seats
 use Rattle.sk_lane.specs.declared.story.Story.{Story}
 
 abbrev pub beat_words : Bytes → List Bytes
@@ -53,22 +54,31 @@ pub record StoryRan (w : Settings) (OfRules : List Choice → Type 0) (OfJobs : 
 
 -- ## At a seat
 
--- The seat is above those before, and its desk's calls are these asks, where they are told.
-pub record Seated (last last_now left left_now : ℕ) (past past_now : Option (List PastSeat)) (seat : ℕ) (asks : List Ask) : Type 0 where
+-- what seats tell: the number that was given last, how many are left behind it, and the seats that have ended, where those are told
+pub record Sitting : Type 0 where
+  pub last : ℕ
+  pub left : ℕ
+  pub past : Option (List PastSeat)
+
+abbrev pub sitting : {S Desk : Type 0} → the_seats.Ghosts S Desk → S → Sitting
+sitting OfSeats seats = record { last = OfSeats.last seats; left = OfSeats.left seats; past = OfSeats.past seats }
+
+-- The seat is the next one, and its desk's calls are these asks, where they are told.
+pub record Seated (seats seats_now : Sitting) (seat : ℕ) (asks : List Ask) : Type 0 where
   pub calls : Option (List Call)
-  pub later : last < seat
-  pub last_is : last_now ≡ seat
-  pub left_is : left_now + 1 ≡ left
-  pub past_is : AddsPast past (record { seat = seat; calls = calls } ∷ []) past_now
+  pub next : seat ≡ seats.last + 1
+  pub last_is : seats_now.last ≡ seat
+  pub left_is : seats_now.left + 1 ≡ seats.left
+  pub past_is : AddsPast seats.past (record { seat = seat; calls = calls } ∷ []) seats_now.past
   pub same : AreCalls calls asks
 
 -- ## All of a thread
 
--- Stories in the order of their seats, with the runs in them and the calls of their desks, until no turn is left: with the crashes and the number of
+-- Stories of one seat after another, with the runs in them and the calls of their desks, until no turn is left: with the crashes and the number of
 -- turns to be taken before them, and the last seat before them.
 pub data Stories (thread : ℕ) (w : Settings) (OfRules : List Choice → Type 0) : Crashes → ℕ → ℕ → List Story → List Run → List PastSeat → Type 0 where
   all_told : (c : Crashes) (last : ℕ) → Stories thread w OfRules c 0 last [] [] []
   one_more : (c now : Crashes) (todo left last : ℕ) (story : Story) (rest : List Story) (runs more : List Run) (calls : Option (List Call)) (seats_ended : List PastSeat) →
-      story.thread ≡ thread → last < story.seat → StoryTold w OfRules c todo story.asks.items story.marks.items runs now left →
+      story.thread ≡ thread → story.seat ≡ last + 1 → StoryTold w OfRules c todo story.asks.items story.marks.items runs now left →
       AreCalls calls story.asks.items → Stories thread w OfRules now left story.seat rest more seats_ended →
       Stories thread w OfRules c todo last (story ∷ rest) (runs ++ more) (record { seat = story.seat; calls = calls } ∷ seats_ended)

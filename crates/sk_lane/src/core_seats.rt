@@ -82,7 +82,7 @@ impl Seats for CoreSeats {
     fn next(&mut self) -> Result<(u32, MemDesk), HubFault>
         requires { is_some self.old.world ≡ true }
         ensures store { IfOk result (λ r. (self.old.world ≡ Some r.1.world) × (r.1.seat ≡ r.0)) }
-        ensures number { IfOk result (λ r. (self.old.last < self.new.last) × (self.new.last ≡ r.0)) }
+        ensures number { IfOk result (λ r. (self.new.last ≡ self.old.last + 1) × (self.new.last ≡ r.0)) }
         ensures left { IfOk result (λ r. self.new.left + 1 ≡ self.old.left) }
         ensures fresh { IfOk result (λ r. IfSome r.1.calls (λ calls. calls ≡ [])) }
         ensures past { self.new.past ≡ self.old.past }

@@ -1,12 +1,12 @@
 // All that one worker's thread does: it works at one seat after another, until it has taken its turns.
-ghost use Rattle.std.specs.Prelude.{◌≡◌, ◌≤◌, ◌<◌, ◌+◌, ◌*◌, ◌∷◌, [], codes, map, true, IfOk};
+ghost use Rattle.std.specs.Prelude.{◌≡◌, ◌≤◌, ◌<◌, ◌+◌, ◌*◌, ◌∷◌, [], codes, true, IfOk};
 ghost use Rattle.sk_policy.specs.Order.{strict_order};
 ghost use Rattle.sk_lane.specs.Drawing.{first_crashes};
-ghost use Rattle.sk_lane.specs.Lane.{LaneTold, RulesOf, RunsOf, sitting, task};
+ghost use Rattle.sk_lane.specs.Lane.{WorksAt, task};
 ghost use Rattle.sk_lane.specs.Progress.{KeepsRules};
-ghost use Rattle.sk_lane.specs.Story.{Seated, StoryRan};
-ghost use Rattle.sk_lane.specs.Threads.{IsThread};
-ghost use Rattle.sk_lane.specs.Turns.{ident_of, lane_settings};
+ghost use Rattle.sk_lane.specs.Story.{Seated, sitting};
+ghost use Rattle.sk_lane.specs.Threads.{IsThread, TellsStory};
+ghost use Rattle.sk_lane.specs.Turns.{ident_of};
 
 use crate::shift::{Shift, still};
 use crate::{Crashes, Drawing, Memory, SeatLink, Seats, Story};
@@ -78,10 +78,8 @@ fn sit<S: Seats>(
     requires order { thread.order ≡ strict_order (codes "default" ∷ []) }
     requires number { thread.number ≤ 16 }
     ensures free { S.free seats.new ≡ true }
-    ensures story { IfOk result (λ r. StoryRan (lane_settings thread.number registry.old.classes) (RulesOf registry.old thread.rule)
-        (RunsOf registry.old.classes (map (λ slot. runs (slot.job.vtable, slot.job.value)) registry.old.slots.items) (map (λ slot. runs (slot.job.vtable, slot.job.value)) registry.new.slots.items)) thread.crashes todo r.0.asks.items r.0.marks.items r.2.crashes r.1) }
-    ensures seated { IfOk result (λ r. Seated (S.last seats.old) (S.last seats.new) (S.left seats.old) (S.left seats.new)
-        (S.past seats.old) (S.past seats.new) r.0.seat r.0.asks.items) }
+    ensures story { IfOk result (λ r. TellsStory runs thread registry.old todo r.0 registry.new r.1 r.2.crashes) }
+    ensures seated { IfOk result (λ r. Seated (sitting S.Seats seats.old) (sitting S.Seats seats.new) r.0.seat r.0.asks.items) }
     ensures thread { IfOk result (λ r. IsThread thread.number thread.rule r.2.crashes r.2) }
     ensures number { IfOk result (λ r. r.0.thread ≡ thread.number + 1) }
     ensures less { IfOk result (λ r. r.1 < todo) }
@@ -165,9 +163,7 @@ pub fn lane<S: Seats>(
     requires jobs { (1 ≤ jobs) × (jobs ≤ 20000) }
     requires seats { 2 * jobs ≤ S.left seats.old }
     requires free { S.free seats.old ≡ true }
-    ensures told { IfOk result (λ stories. LaneTold (task seed jobs number crashes) registry.old.classes (RulesOf registry.old rule)
-        (map (λ slot. runs (slot.job.vtable, slot.job.value)) registry.old.slots.items) (map (λ slot. runs (slot.job.vtable, slot.job.value)) registry.new.slots.items)
-        (sitting S.last S.past seats.old) (sitting S.last S.past seats.new) stories.items) }
+    ensures told { IfOk result (λ s. WorksAt S.Seats runs (task seed jobs number crashes) rule registry.old seats.old registry.new seats.new s.items) }
     ensures free { S.free seats.new ≡ true }
     ensures classes { registry.new.classes ≡ registry.old.classes }
     ensures rules { registry.new.rules ≡ registry.old.rules }

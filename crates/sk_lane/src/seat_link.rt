@@ -3,7 +3,7 @@ ghost use Rattle.std.specs.Prelude.{◌≡◌, [], false, Ok, IfOk, OnOk, OnErr,
 ghost use Rattle.sk_resp.specs.Reply.{wire};
 ghost use Rattle.sk_cmd.specs.Table.{IsRead};
 ghost use Rattle.sk_lane.specs.Asks.{is_oom, is_oom_text as oom_text};
-ghost use Rattle.sk_lane.specs.Carrying.{Asked, Carries, ReadsAtMost, link_state};
+ghost use Rattle.sk_lane.specs.Carrying.{AskedOf, Carries, ReadsAtMost, state_of};
 ghost use Rattle.sk_lane.specs.CarryLaws.{carries_ends, carries_more};
 ghost use Rattle.sk_lane.specs.Drawing.{at_rest, is_off};
 
@@ -81,8 +81,7 @@ fn ask<D: Desk, C: Clock>(
     asks: &mut Vec<Ask>,
     words: &Words,
 ) -> Result<Reply, Memory>
-    ensures ok { IfOk result (λ reply. Asked words.now reply asks.old.items asks.new.items
-        (C.moments clock.old) (C.moments clock.new) (D.calls desk.old) (D.calls desk.new)) }
+    ensures ok { IfOk result (λ reply. AskedOf D.Desk C.Clock words.now reply asks.old.items clock.old desk.old asks.new.items clock.new desk.new) }
     ensures served { IfOk result (λ reply. is_oom reply ≡ false) }
     ensures err { OnErr result (ReadsAtMost (C.moments clock.old) (C.moments clock.new) × (asks.new.items ≡ asks.old.items)) }
 {
@@ -103,9 +102,7 @@ fn ask<D: Desk, C: Clock>(
 }
 
 impl<D: Desk, C: Clock> Link for SeatLink<D, C> {
-    ghost carried = { λ a b calls. Carries
-        (link_state C.moments D.calls a.clock a.desk a.asks.items a.drawing)
-        (link_state C.moments D.calls b.clock b.desk b.asks.items b.drawing) calls };
+    ghost carried = { λ a b calls. Carries (state_of D.Desk C.Clock a) (state_of D.Desk C.Clock b) calls };
 
     ghost has_ended = { λ a. is_off a.drawing };
 

@@ -1,5 +1,5 @@
 // Where a thread gets its seats.
-ghost use Rattle.std.specs.Prelude.{◌≡◌, ◌+◌, ◌<◌, ◌↔◌, ℕ, List, [], ◌∷◌, Bool, true, Option, Err, IfOk, IfSome, OnErr};
+ghost use Rattle.std.specs.Prelude.{◌≡◌, ◌+◌, ◌↔◌, ℕ, List, [], ◌∷◌, Bool, true, Option, Err, IfOk, IfSome, OnErr};
 ghost use Rattle.sk_lane.specs.Asks.{AddsPast};
 ghost use Rattle.sk_lane.specs.declared.past_seat.PastSeat.{PastSeat};
 
@@ -22,10 +22,10 @@ pub trait Seats {
     /// The desk that was given last has been ended.
     ghost free: { Self → Bool };
 
-    /// The next seat, with its number. Spent exactly where none is left. After a fault all is as before.
+    /// The next seat, with its number, which is one above the last. Spent exactly where none is left. After a fault all is as before.
     fn next(&mut self) -> Result<(u32, Self::Desk), HubFault>
         requires { free self.old ≡ true }
-        ensures number { IfOk result (λ r. (last self.old < last self.new) × (last self.new ≡ r.0)) }
+        ensures number { IfOk result (λ r. (last self.new ≡ last self.old + 1) × (last self.new ≡ r.0)) }
         ensures left { IfOk result (λ r. left self.new + 1 ≡ left self.old) }
         ensures fresh { IfOk result (λ r. IfSome (Self.Desk.calls r.1) (λ calls. calls ≡ [])) }
         ensures past { past self.new ≡ past self.old }

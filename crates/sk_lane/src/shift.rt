@@ -1,15 +1,13 @@
 // A worker at one seat: it beats and joins, and takes its turns.
-ghost use Rattle.std.specs.Prelude.{◌≡◌, ◌<◌, ◌||◌, [], map, true, false, IfOk, OnOk};
+ghost use Rattle.std.specs.Prelude.{◌≡◌, ◌<◌, ◌||◌, [], true, false, IfOk, OnOk};
 ghost use Rattle.std.specs.Result.{is_err};
 ghost use Rattle.sk_worker.specs.Broken.{is_lost};
-ghost use Rattle.sk_worker.specs.Promises.{settings};
 ghost use Rattle.sk_worker.specs.Request.{join_words};
-ghost use Rattle.sk_lane.specs.Asks.{AreCalls};
-ghost use Rattle.sk_lane.specs.Carrying.{link_state};
+ghost use Rattle.sk_lane.specs.Carrying.{KeepsCalls, state_of};
 ghost use Rattle.sk_lane.specs.Drawing.{at_rest, is_off};
-ghost use Rattle.sk_lane.specs.Lane.{RulesOf, RunsOf};
-ghost use Rattle.sk_lane.specs.Progress.{KeepsRules, KeepsWorker, Said, SeatTurn, Stands, TurnsTold, is_memory};
-ghost use Rattle.sk_lane.specs.Story.{StoryRan, beat_words};
+ghost use Rattle.sk_lane.specs.Progress.{KeepsRules, KeepsWorker, Said, Stands, is_memory};
+ghost use Rattle.sk_lane.specs.Shifts.{PlaysStory, TakesTurn, TakesTurns};
+ghost use Rattle.sk_lane.specs.Story.{beat_words};
 ghost use Rattle.sk_lane.specs.Turns.{moment};
 
 use crate::{Memory, SeatLink};
@@ -62,9 +60,7 @@ impl<D: Desk, C: Clock> Shift<D, C> {
     fn beat(&mut self, alloc: Global) -> Result<bool, Memory>
         requires stands { Stands (C.moments self.old.link.clock) }
         requires rest { self.old.link.drawing.in_turn ≡ false }
-        ensures said { IfOk result (Said (beat_words self.old.worker.ident)
-            (link_state C.moments D.calls self.old.link.clock self.old.link.desk self.old.link.asks.items self.old.link.drawing)
-            (link_state C.moments D.calls self.new.link.clock self.new.link.desk self.new.link.asks.items self.new.link.drawing)) }
+        ensures said { IfOk result (Said (beat_words self.old.worker.ident) (state_of D.Desk C.Clock self.old.link) (state_of D.Desk C.Clock self.new.link)) }
         ensures worker { self.new.worker ≡ self.old.worker }
         ensures marks { self.new.marks.items ≡ self.old.marks.items }
     {
@@ -81,9 +77,7 @@ impl<D: Desk, C: Clock> Shift<D, C> {
         requires stands { Stands (C.moments self.old.link.clock) }
         requires rest { self.old.link.drawing.in_turn ≡ false }
         requires whole { self.old.worker.ended ≡ false }
-        ensures said { IfOk result (Said (join_words self.old.worker.ident)
-            (link_state C.moments D.calls self.old.link.clock self.old.link.desk self.old.link.asks.items self.old.link.drawing)
-            (link_state C.moments D.calls self.new.link.clock self.new.link.desk self.new.link.asks.items self.new.link.drawing)) }
+        ensures said { IfOk result (Said (join_words self.old.worker.ident) (state_of D.Desk C.Clock self.old.link) (state_of D.Desk C.Clock self.new.link)) }
         ensures whole { IfOk result (λ okay. okay ≡ true → self.new.worker.ended ≡ false) }
         ensures worker { KeepsWorker self.old.worker self.new.worker }
         ensures held { self.new.worker.held.items ≡ self.old.worker.held.items }
@@ -99,9 +93,7 @@ impl<D: Desk, C: Clock> Shift<D, C> {
     // A turn, with a clock of its own.
     fn turn(&mut self, alloc: Global, registry: &mut Registry) -> Result<Turn, WorkFault>
         requires whole { self.old.worker.ended ≡ false }
-        ensures told { SeatTurn (settings self.old.worker registry.old) (RulesOf registry.old self.old.worker.plain) (RunsOf registry.old.classes (map (λ slot. runs (slot.job.vtable, slot.job.value)) registry.old.slots.items) (map (λ slot. runs (slot.job.vtable, slot.job.value)) registry.new.slots.items))
-            (link_state C.moments D.calls self.old.link.clock self.old.link.desk self.old.link.asks.items self.old.link.drawing) self.old.worker.held.items
-            (link_state C.moments D.calls self.new.link.clock self.new.link.desk self.new.link.asks.items self.new.link.drawing) self.new.worker.held.items result }
+        ensures told { TakesTurn D.Desk C.Clock runs self.old registry.old self.new registry.new result }
         ensures link { is_off self.new.link.drawing ≡ (is_off self.old.link.drawing || is_lost result) }
         ensures ended { self.new.worker.ended ≡ is_err result }
         ensures worker { KeepsWorker self.old.worker self.new.worker }
@@ -134,11 +126,8 @@ impl<D: Desk, C: Clock> Shift<D, C> {
         requires stands { Stands (C.moments self.old.link.clock) }
         requires on { is_off self.old.link.drawing ≡ false }
         requires whole { self.old.worker.ended ≡ false }
-        ensures told { IfOk result (λ left. TurnsTold (settings self.old.worker registry.old) (RulesOf registry.old self.old.worker.plain)
-            (RunsOf registry.old.classes (map (λ slot. runs (slot.job.vtable, slot.job.value)) registry.old.slots.items) (map (λ slot. runs (slot.job.vtable, slot.job.value)) registry.new.slots.items)) self.old.link.drawing todo self.old.worker.held.items
-            self.old.link.asks.items self.new.link.asks.items self.old.marks.items self.new.marks.items self.new.link.drawing left) }
-        ensures calls { OnOk result (AreCalls (D.calls self.old.link.desk) self.old.link.asks.items
-            → AreCalls (D.calls self.new.link.desk) self.new.link.asks.items) }
+        ensures told { IfOk result (λ left. TakesTurns runs self.old registry.old todo self.new registry.new left) }
+        ensures calls { OnOk result (KeepsCalls D.Desk self.old.link self.new.link) }
         ensures less { IfOk result (λ left. left < todo) }
         ensures worker { KeepsWorker self.old.worker self.new.worker }
         ensures registry { KeepsRules registry.old registry.new }
@@ -172,11 +161,8 @@ impl<D: Desk, C: Clock> Shift<D, C> {
         requires marks { self.old.marks.items ≡ [] }
         requires held { self.old.worker.held.items ≡ [] }
         requires whole { self.old.worker.ended ≡ false }
-        ensures told { IfOk result (λ left. StoryRan (settings self.old.worker registry.old) (RulesOf registry.old self.old.worker.plain)
-            (RunsOf registry.old.classes (map (λ slot. runs (slot.job.vtable, slot.job.value)) registry.old.slots.items) (map (λ slot. runs (slot.job.vtable, slot.job.value)) registry.new.slots.items)) self.old.link.drawing.crashes todo
-            self.new.link.asks.items self.new.marks.items self.new.link.drawing.crashes left) }
-        ensures calls { OnOk result (AreCalls (D.calls self.old.link.desk) self.old.link.asks.items
-            → AreCalls (D.calls self.new.link.desk) self.new.link.asks.items) }
+        ensures told { IfOk result (λ left. PlaysStory runs self.old registry.old todo self.new registry.new left) }
+        ensures calls { OnOk result (KeepsCalls D.Desk self.old.link self.new.link) }
         ensures less { IfOk result (λ left. left < todo) }
         ensures worker { KeepsWorker self.old.worker self.new.worker }
         ensures registry { KeepsRules registry.old registry.new }

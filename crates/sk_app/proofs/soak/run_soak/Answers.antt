@@ -1,5 +1,4 @@
 use Rattle.sk_app.proofs.Completes.{soak_completes}
-use Rattle.sk_app.proofs.Endings.{line_alone}
 use Rattle.sk_app.proofs.soak.run_soak.Goals as goal
 
 pub returns-clause-told : goal.returns-clause-told

@@ -1,12 +1,13 @@
-use Rattle.std.proofs.Common.{◌≡◌, ◌<◌, ◌+◌, ◌++◌, length, map, true, vec_capacity, vec_len}
+use Rattle.std.proofs.Common.{◌≡◌, ◌+◌, ◌++◌, length, map, vec_capacity, vec_len}
 use Rattle.std.specs.List.{AllByRecursion}
-use Rattle.sk_drill.specs.Crews.{AssignedSoFar, CanWork, IsHired, Room}
+use Rattle.sk_drill.specs.Crews.{AssignedSoFar, IsHired, IsReady, Room}
 use Rattle.sk_drill.proofs.crew.hire_all.Given as goal
 
 abbrev pub invariant-loop-i : goal.invariant-loop-i
 invariant-loop-i g l = record {
   hired : AssignedSoFar (IsHired l.plan) l.fn.outfit.teams.items l.fn.outfit.rules.items l.staff.items (l.i + 1) l.outfit.teams.items l.outfit.rules.items;
-  ready : AllByRecursion (λ w. CanWork (g.S.Seats.free w.seats) (g.S.Seats.left w.seats) w.plan.jobs w.number) l.staff.items;
+  ready : AllByRecursion (IsReady g.S.Seats) l.staff.items;
+  seats : map (λ w. w.seats) l.staff.items ++ l.outfit.seats.items ≡ l.fn.outfit.seats.items;
   teams : map (λ w. w.registry) l.staff.items ++ l.outfit.teams.items ≡ l.fn.outfit.teams.items;
   len : vec_len l.staff ≡ l.i;
   capacity : vec_capacity l.staff ≡ vec_capacity l.fn.staff;

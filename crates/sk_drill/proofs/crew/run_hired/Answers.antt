@@ -1,14 +1,16 @@
-use Rattle.std.proofs.Common.{arith}
-use Rattle.sk_drill.proofs.Assigning.{back_len, classes_back, if_some, then_ok}
+use Rattle.std.proofs.Common.{ap, arith, length, map}
+use Rattle.sk_drill.proofs.Assigning.{back_len, classes_back, if_some, nothing_before, then_ok}
 use Rattle.sk_drill.proofs.crew.run_hired.Goals as goal
 
 pub returns-in_err-dismissed-clause-back : goal.returns-in_err-dismissed-clause-back
 returns-in_err-dismissed-clause-back g c =
-    classes_back (λ w. w.registry) (λ team. team.classes) _ (λ a b p. p.classes) _ _ _ _ c.run_crew.ensures.worked c.dismiss-dismissed.ensures.back
+    nothing_before _ _ _ (classes_back (λ w. w.registry) (λ team. team.classes) _ (λ a b p. p.classes) _ _ _ _ c.run_crew.ensures.worked c.dismiss-dismissed.ensures.back)
+    (ap (λ l. map (λ team. team.classes) l) c.requires.empty)
 
 pub returns-clause-back : goal.returns-clause-back
 returns-clause-back g c =
-    classes_back (λ w. w.registry) (λ team. team.classes) _ (λ a b p. p.classes) _ _ _ _ c.run_crew.ensures.worked c.dismiss-dismissed.ensures.back
+    nothing_before _ _ _ (classes_back (λ w. w.registry) (λ team. team.classes) _ (λ a b p. p.classes) _ _ _ _ c.run_crew.ensures.worked c.dismiss-dismissed.ensures.back)
+    (ap (λ l. map (λ team. team.classes) l) c.requires.empty)
 
 pub returns-in_err-dismissed-clause-len : goal.returns-in_err-dismissed-clause-len
 returns-in_err-dismissed-clause-len g c =
@@ -16,7 +18,7 @@ returns-in_err-dismissed-clause-len g c =
       arith,
       back_len (λ w. w.registry) _ _ _ _ _ c.run_crew.ensures.worked c.dismiss-dismissed.ensures.back,
       c.dismiss-dismissed.new.back.ok,
-      c.args.back.now.ok,
+      ap (λ l. length l) c.requires.empty,
       c.args.staff.ok,
     )
 
@@ -26,7 +28,7 @@ returns-clause-len g c =
       arith,
       back_len (λ w. w.registry) _ _ _ _ _ c.run_crew.ensures.worked c.dismiss-dismissed.ensures.back,
       c.dismiss-dismissed.new.back.ok,
-      c.args.back.now.ok,
+      ap (λ l. length l) c.requires.empty,
       c.args.staff.ok,
     )
 
@@ -41,4 +43,5 @@ returns-clause-told g c = then_ok c.join_stories.result c.join_stories.ensures (
   staff_now = c.run_crew.new.workers.items;
   worked = c.run_crew.ensures.worked;
   told = c.in_ok-dismissed.ensures.lanes;
+  back_is = nothing_before _ _ _ c.dismiss-dismissed.ensures.back c.requires.empty;
 })

@@ -1,5 +1,4 @@
 use denote.Param.Send.{sendable}
-use Rattle.std.proofs.Crossing.{crosses}
 use Rattle.sk_drill.proofs.Assigning.{then_ok}
 use Rattle.sk_drill.proofs.Crossing.{book_send, desk_send, place_send, seats_send}
 use Rattle.sk_drill.proofs.Lanes.{stories_of}
@@ -13,4 +12,4 @@ run_drill-requires-send-S-Desk g c κs within = search (sendable, desk_send, boo
 
 pub returns-clause-stories : goal.returns-clause-stories
 returns-clause-stories g c = then_ok c.run_drill.result c.run_drill.ensures.stories
-    (λ stories s. stories_of c.args.plan _ _ _ _ stories.items c.in_ok-posts.ensures.len s)
+    (λ stories s. stories_of _ c.args.plan _ _ _ _ _ stories.items c.in_ok-posts.ensures.len s)

@@ -1,4 +1,4 @@
-use Rattle.std.proofs.Common.{◌∙◌, ap}
+use Rattle.std.proofs.Common.{◌∙◌}
 use Rattle.sk_drill.proofs.Answered.{watch_is}
 use Rattle.sk_drill.proofs.poll_duty.poller.Goals as goal
 

@@ -1,4 +1,4 @@
-use Rattle.std.proofs.Common.{◌*◌, ◌≤◌, arith, refl}
+use Rattle.std.proofs.Common.{arith}
 use Rattle.sk_drill.proofs.SoFar.{begun, count_small, crons_small, moment_small, soaked, taken_on}
 use Rattle.sk_drill.proofs.soaking.run_load.Goals as goal
 

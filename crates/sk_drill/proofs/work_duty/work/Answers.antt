@@ -1,4 +1,4 @@
 use Rattle.sk_drill.proofs.work_duty.work.Goals as goal
 
 pub returns-in-Ok-clause-told : goal.returns-in-Ok-clause-told
-returns-in-Ok-clause-told g c = record { before = _; after_ = _; seats = _; seats_now = _; told = c.in-Ok.ensures.told }
+returns-in-Ok-clause-told g c = c.in-Ok.ensures.told

@@ -1,6 +1,6 @@
-use Rattle.std.proofs.Common.{◌≡◌, ◌≤◌, false, map}
+use Rattle.std.proofs.Common.{◌≡◌, ◌≤◌, false}
 use Rattle.sk_worker.specs.Promises.{settings}
-use Rattle.sk_lane.specs.Asks.{AreCalls}
+use Rattle.sk_lane.specs.Carrying.{KeepsCalls}
 use Rattle.sk_lane.specs.Drawing.{is_off}
 use Rattle.sk_lane.specs.Lane.{RulesOf, RunsOf}
 use Rattle.sk_lane.specs.Progress.{KeepsRules, KeepsWorker, Stands, TurnsSoFar}
@@ -17,11 +17,9 @@ invariant-loop-left g l = record {
   whole : l.self.worker.ended ≡ false;
   worker : KeepsWorker l.initial.self.worker l.self.worker;
   registry : KeepsRules l.initial.registry l.registry;
-  calls : AreCalls (g.D.Desk.calls l.initial.self.link.desk) l.initial.self.link.asks.items → AreCalls (g.D.Desk.calls l.self.link.desk) l.self.link.asks.items;
+  calls : KeepsCalls g.D.Desk l.initial.self.link l.self.link;
   told : TurnsSoFar (settings l.initial.self.worker l.initial.registry) (RulesOf l.initial.registry l.initial.self.worker.plain)
-      (RunsOf l.initial.registry.classes
-      (map (λ slot. (goal.Job-dyn g (slot.job.vtable, slot.job.value)).runs slot.job.value) l.initial.registry.slots.items)
-      (map (λ slot. (goal.Job-dyn g (slot.job.vtable, slot.job.value)).runs slot.job.value) l.registry.slots.items))
+      (RunsOf (λ v. (goal.Job-dyn g v).runs v.1) l.initial.registry l.registry)
       l.initial.self.link.drawing l.initial.left l.initial.self.worker.held.items l.initial.self.link.asks.items l.self.link.asks.items
       l.initial.self.marks.items l.self.marks.items l.self.link.drawing l.left l.self.worker.held.items;
 }

@@ -1,6 +1,6 @@
 use Rattle.std.proofs.Common.{sym}
 use Rattle.std.proofs.lemmas.Option.{IfSome_then}
-use Rattle.sk_drill.proofs.work_duty.WorkDutyDuty.run.Goals as goal
+use Rattle.sk_drill.proofs.work_duty.WorkDuty.run.Goals as goal
 
 pub returns : goal.returns
 returns g c = record {
