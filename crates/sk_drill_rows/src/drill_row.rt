@@ -1,0 +1,123 @@
+// A drill, as a row says.
+ghost use Rattle.std.specs.Prelude.{◌≡◌, ◌≤◌, OnOk, vec_len};
+
+use crate::job::Counted;
+use crate::number::{count, invalid, number};
+use crate::shown::shown;
+use sk_drill::drill;
+use sk_policy::{DelayRule, plain_delay};
+use sk_resp::Text;
+use sk_worker::{Job, Registry};
+use std::alloc::Global;
+use std::io;
+use std::sync::atomic::{AtomicU64, Ordering};
+use std::sync::{Arc, Wait};
+use std::thread::Threads;
+
+/// A row, `SEED JOBS WORKERS CRASHES` or `SEED JOBS WORKERS CRASHES CLASS`, with blanks between.
+#[derive(Drop)]
+pub struct DrillRow<'a> {
+    pub seed: u64,
+    /// From 1 to 20,000.
+    pub jobs: u64,
+    /// How many workers there are, and teams: from 1 to 16.
+    pub workers: u32,
+    /// Up to 1,000,000.
+    pub crashes: u32,
+    /// The class of which each team has a job that returns. Without one the teams have no classes.
+    pub class: Option<&'a str>,
+    ghost jobs_are: { (1 ≤ jobs) × (jobs ≤ 20000) },
+    ghost workers_are: { (1 ≤ workers) × (workers ≤ 16) },
+    ghost crashes_are: { crashes ≤ 1000000 },
+}
+
+impl<'a> DrillRow<'a> {
+    /// Reads a row. A text that doesn't begin so is invalid data.
+    pub fn read(row: &'a str) -> io::Result<DrillRow<'a>> {
+        let mut words = row.split_whitespace();
+        let seed = number(words.next())?;
+        let jobs = number(words.next())?;
+        let workers = count(words.next())?;
+        let crashes = count(words.next())?;
+        if jobs < 1 || jobs > 20_000 || workers < 1 || workers > 16 || crashes > 1_000_000 {
+            return Err(invalid());
+        }
+        Ok(DrillRow {
+            seed,
+            jobs,
+            workers,
+            crashes,
+            class: words.next(),
+        })
+    }
+}
+
+// Adds the class, whose job counts its runs there.
+fn add(
+    alloc: Global,
+    team: &mut Registry,
+    class: &str,
+    runs: Arc<AtomicU64, Global>,
+) -> io::Result<()> {
+    let job: Box<dyn Job + Send> = Box::new(alloc, Counted { runs })?;
+    let delay: Box<dyn Fn(u32) -> u64 + Send> = Box::new(alloc, |count: u32| plain_delay(count))?;
+    let class = Text::new(String::from_str(alloc, class)?);
+    match team.add(class, job, DelayRule::new(delay)) {
+        Ok(()) => Ok(()),
+        Err(_) => Err(invalid()),
+    }
+}
+
+// The team of a worker.
+fn team(alloc: Global, class: Option<&str>, runs: &Arc<AtomicU64, Global>) -> io::Result<Registry> {
+    let mut team = Registry::new(alloc);
+    if let Some(class) = class {
+        add(alloc, &mut team, class, Arc::try_clone(runs)?)?;
+    }
+    Ok(team)
+}
+
+// Adds a team and a plain rule for each worker.
+fn add_teams(
+    alloc: Global,
+    row: &DrillRow<'_>,
+    runs: &Arc<AtomicU64, Global>,
+    teams: &mut Vec<Registry>,
+    rules: &mut Vec<DelayRule>,
+) -> io::Result<()>
+    requires { (vec_len teams.old ≡ 0) × (vec_len rules.old ≡ 0) }
+    ensures { OnOk result ((vec_len teams.new ≡ row.now.workers) × (vec_len rules.new ≡ row.now.workers)) }
+{
+    for _worker in 0..row.workers {
+        let plain: Box<dyn Fn(u32) -> u64 + Send> = Box::new(
+            alloc,
+            |count: u32| plain_delay(count),
+        )?;
+        teams.push(team(alloc, row.class, runs)?)?;
+        rules.push(DelayRule::new(plain))?;
+    }
+    Ok(())
+}
+
+/// What comes of the row.
+pub fn play<R: Threads + Wait + Sync>(
+    rt: &R,
+    alloc: Global,
+    row: &DrillRow<'_>,
+) -> io::Result<String> {
+    let runs = Arc::new(alloc, AtomicU64::new(0))?;
+    let mut teams = Vec::new(alloc);
+    let mut rules = Vec::new(alloc);
+    add_teams(alloc, row, &runs, &mut teams, &mut rules)?;
+    let end = drill(
+        rt,
+        alloc,
+        row.seed,
+        row.jobs,
+        row.workers,
+        row.crashes,
+        &mut teams,
+        rules,
+    );
+    shown(alloc, row, end, runs.load(Ordering::SeqCst))
+}
