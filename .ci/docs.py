@@ -16,7 +16,7 @@ The checks, in order:
 - toolchain   docs/PROVED.md names the sum of the logic that `rt version` prints, where there is one: kits of other names share it.
 - citations   No file of the repository cites a numbered paper.
 - lines       No line of a document is longer than 150 characters.
-- clauses     How many clauses in src/ are longer than 150 characters. (It is told, and fails nothing.)
+- clauses     No crate has more clauses above 150 characters, each joined to one line, than its ceiling says. A ceiling only falls.
 """
 import re
 import subprocess
@@ -281,17 +281,40 @@ def prose(text):
         yield '' if is_code else line
 
 
-CLAUSE = re.compile(r'\s*(?:requires|ensures|invariant|decreases|×|→|⊎|\()')
+# How many clauses of each crate's src/ are longer than a line of a document. A number here only falls; a crate that isn't named has none.
+CEILINGS = {
+    'sk_base': 1, 'sk_resp': 12, 'sk_talk': 8, 'sk_zset': 1, 'sk_value': 1, 'sk_keys': 1, 'sk_payload': 6, 'sk_places': 20, 'sk_batch': 13,
+    'sk_leases': 1, 'sk_jobs': 1, 'sk_core': 1, 'sk_pipe': 3, 'sk_serve': 2, 'sk_policy': 2, 'sk_worker': 1, 'sk_middle': 1, 'sk_cron': 2,
+    'sk_lane': 11, 'sk_compare': 1, 'sk_drill': 2, 'sk_app': 8,
+}
+CLAUSE = re.compile(r'\s*(?:requires|ensures|invariant|decreases)\b')
 
 
-def long_clauses():
-    files = [it for crate in crate_names() for it in sorted((CRATES / crate / 'src').rglob('*.rt'))]
-    return ['%s:%d has %d characters' % (short(it), number, len(line)) for it in files
-            for number, line in enumerate(text_of(it).splitlines(), 1) if len(line) > LONGEST and CLAUSE.match(line)]
+def clauses_of(path):
+    """The clauses of a file, each with the number of its first line, joined to one line: it ends where its braces balance."""
+    clause, first = '', 0
+    for number, line in enumerate(text_of(path).splitlines(), 1):
+        if not clause and not CLAUSE.match(line):
+            continue
+        first = first if clause else number
+        clause = (clause + ' ' + line.strip()).strip()
+        if '{' in clause and clause.count('{') == clause.count('}'):
+            yield first, clause
+            clause = ''
+
+
+def long_clauses(crate):
+    return ['%s:%d has %d characters' % (short(it), number, len(clause)) for it in sorted((CRATES / crate / 'src').rglob('*.rt'))
+            for number, clause in clauses_of(it) if len(clause) > LONGEST]
 
 
 def check_clauses():
-    return [], '%d clauses are longer than %d characters' % (len(long_clauses()), LONGEST)
+    counts = {it: len(long_clauses(it)) for it in crate_names()}
+    wrong = ['%s has %d clauses above %d characters, and its ceiling is %d: name a fact of theirs (docs.py --clauses)'
+             % (it, count, LONGEST, CEILINGS.get(it, 0)) for it, count in counts.items() if count > CEILINGS.get(it, 0)]
+    low = [it for it, most in CEILINGS.items() if counts.get(it, 0) < most]
+    told = '%d clauses are longer than %d characters' % (sum(counts.values()), LONGEST)
+    return wrong, told + (', lower the ceilings of ' + ', '.join(low) if low else '')
 
 
 CHECKS = {
@@ -314,7 +337,7 @@ def main(words):
         print(__doc__.strip())
         return 2
     if words == ['--clauses']:
-        print('\n'.join(long_clauses()))
+        print('\n'.join(line for crate in crate_names() for line in long_clauses(crate)))
         return 0
     if words == ['--write']:
         write()

@@ -12,3 +12,4 @@ pub mod Drilling
 pub mod Programs
 pub mod Working
 pub mod Completing
+pub mod Promises

@@ -2,7 +2,7 @@
 use Rattle.std.specs.Prelude.{List, Result, Ok, Err}
 use Rattle.clap.specs.Words.{Text}
 use Rattle.sk_resp.specs.Spelling.{Bytes}
-use Rattle.sk_drill.specs.Soaked.{IsSoak}
+use Rattle.sk_drill.specs.Soaked.{IsSummaryOf}
 use Rattle.sk_drill.specs.SoakText.{soak_text}
 use Rattle.sk_drill.specs.declared.summary.Summary.{Summary}
 use Rattle.sk_line.specs.Soak as line
@@ -13,7 +13,7 @@ use Rattle.sk_app.specs.declared.failure.Failure.TheVariants as failure
 -- There was no memory, or the output is the summary of the run that the line asks for.
 pub data Soaks (line : SoakLine) : Result Bytes Failure → Type 0 where
   starved : Soaks line (Err failure.Memory)
-  soaked : (summary : Summary) → IsSoak line.seed line.jobs summary → Soaks line (Ok (soak_text line.seed line.jobs summary))
+  soaked : (summary : Summary) → IsSummaryOf line.seed line.jobs summary → Soaks line (Ok (soak_text line.seed line.jobs summary))
 
 -- The words are no line of `soak`. Or there was no memory to read them. Or a run was made.
 pub data SoakRun (words : List Text) : Result Bytes Failure → Type 0 where

@@ -1,6 +1,6 @@
 // The program `drill`: its words are read, threads push, poll and work at one store, their stories are compared with its journal, and the summary is
 // written, or where they differ.
-ghost use Rattle.std.specs.Prelude.{◌≡◌, ◌≢◌, ◌≤◌, Err, IfOk, OnErr, map, string_bytes, vec_len};
+ghost use Rattle.std.specs.Prelude.{◌≡◌, ◌≢◌, ◌≤◌, Err, IfOk, OnErr, vec_len};
 ghost use Rattle.sk_base.specs.Outside.{Rose};
 ghost use Rattle.sk_base.specs.declared.limits.TheConstants.{MOST_WORKERS};
 ghost use Rattle.sk_drill.specs.DrillText.{drill_text};
@@ -10,6 +10,7 @@ ghost use Rattle.sk_line.specs.declared.drill_line.DrillLine.{DrillLine};
 ghost use Rattle.sk_app.specs.Completing.{DoneOr};
 ghost use Rattle.sk_app.specs.Drilling.{IsOutcome, RunsDrill};
 ghost use Rattle.sk_app.specs.Ending.{Ends};
+ghost use Rattle.sk_app.specs.Promises.{texts};
 ghost use Rattle.sk_app.specs.declared.failure.Failure.TheVariants.{Line, Memory};
 
 use crate::Failure;
@@ -79,7 +80,7 @@ fn outcome_by<R: Threads + Wait + Sync>(
 ) -> Result<Word, Failure>
     requires rules { vec_len rules ≡ vec_len teams.old }
     requires few { vec_len teams.old ≤ MOST_WORKERS }
-    ensures told { RunsDrill runs rules.items teams.old teams.new (map string_bytes words.now) result }
+    ensures told { RunsDrill runs rules.items teams.old teams.new (texts words.now) result }
     ensures teams { classes_of teams.new.items ≡ classes_of teams.old.items }
     ensures untouched { result ≡ Err Line → teams.new ≡ teams.old }
 {
@@ -111,10 +112,10 @@ pub fn run_drill<R: Threads + Wait + Sync, K: Sink>(
 ) -> u8
     requires rules { vec_len rules ≡ vec_len teams.old }
     requires few { vec_len teams.old ≤ MOST_WORKERS }
-    ensures told { Ends K.Sink sink.old sink.new result (RunsDrill runs rules.items teams.old teams.new (map string_bytes words.now)) }
+    ensures told { Ends K.Sink sink.old sink.new result (RunsDrill runs rules.items teams.old teams.new (texts words.now)) }
 
     // A line of `drill` is done, where the sink takes what is written: all is alike, or there is a difference.
-    ensures completes { (line : DrillLine) → IsDrill (vec_len teams.old) (map string_bytes words.now) line → result ≢ 4 → DoneOr (result ≡ 8) result }
+    ensures completes { (line : DrillLine) → IsDrill (vec_len teams.old) (texts words.now) line → result ≢ 4 → DoneOr (result ≡ 8) result }
 
     // The teams stand in their order again.
     ensures teams { classes_of teams.new.items ≡ classes_of teams.old.items }

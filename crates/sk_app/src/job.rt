@@ -1,8 +1,8 @@
 // The job that a line of `push` asks for.
-ghost use Rattle.std.specs.Prelude.{◌≡◌, ◌∷◌, [], ℕ, IfOk, option_map};
-ghost use Rattle.sk_base.specs.Yields.{Yields, YieldsAll};
+ghost use Rattle.std.specs.Prelude.{◌≡◌, ℕ, option_map};
 ghost use Rattle.sk_client.specs.Jid.{jid_of_words};
 ghost use Rattle.sk_app.specs.Jobs.{IsJob, lock_for};
+ghost use Rattle.sk_app.specs.Promises.{MakesJob};
 
 use sk_base::{Clock, Dice, Score};
 use sk_client::fresh_jid;
@@ -61,8 +61,7 @@ pub fn job_of<C: Clock, D: Dice>(
     clock: &mut C,
     dice: &mut D,
 ) -> Result<PushJob, AllocError>
-    ensures { (now_ first second : ℕ) × Yields (C.moments clock.old) now_ (C.moments clock.new)
-        × YieldsAll (D.words dice.old) (first ∷ second ∷ []) (D.words dice.new) × IfOk result (IsJob line now_ first second) }
+    ensures { MakesJob C.Clock D.Dice clock.old dice.old clock.new dice.new line result }
 {
     let created = clock.now();
     let jid = fresh_jid(alloc, dice)?;

@@ -1,16 +1,15 @@
 // The program `push`: its words are read, the job is made, handed to the chain, and tried whether it can be written; then a connection is made, one
 // request pushes the job, the connection is left to the door, and what came of it is told.
-ghost use Rattle.std.specs.Prelude.{◌≡◌, ◌≢◌, ◌⊎◌, None, Err, IfErr, OnOk, map, string_bytes};
+ghost use Rattle.std.specs.Prelude.{◌≡◌, ◌⊎◌, None, Err, IfErr, OnOk};
 ghost use Rattle.sk_base.specs.Outside.{Rose};
 ghost use Rattle.sk_client.specs.Push.{Accepted, Fails};
 ghost use Rattle.sk_payload.specs.Draft.{draft_fault};
-ghost use Rattle.sk_app.specs.Completing.{DoneOr, PushHindered};
 ghost use Rattle.sk_app.specs.Dialogue.{Dials};
 ghost use Rattle.sk_app.specs.Ending.{Ends};
-ghost use Rattle.sk_app.specs.Jobs.{Draws};
 ghost use Rattle.sk_middle.specs.Applied.{applied};
-ghost use Rattle.sk_app.specs.Pushing.{Hands, PushRun, Pushes, outcome_of, request};
+ghost use Rattle.sk_app.specs.Pushing.{Hands, Pushes, outcome_of, request};
 ghost use Rattle.sk_app.specs.declared.failure.Failure.TheVariants.{Line, Memory};
+ghost use Rattle.sk_app.specs.Promises.{DoPush, PushDone};
 
 use crate::Failure;
 use crate::ending::{self, conclude, line};
@@ -111,10 +110,7 @@ fn outcome_by<N: Door, C: Clock, D: Dice>(
     clock: &mut C,
     dice: &mut D,
 ) -> Result<Word, Failure>
-    ensures told { PushRun (map string_bytes words.now) (net.new ≡ net.old)
-        (Draws C.Clock D.Dice clock.old dice.old clock.new dice.new)
-        (applied chain.now)
-        (λ job outcome. Dials N.Door N.Conn.Source N.Conn.Sink net.old net.new (λ carried. Pushes carried job) outcome) result }
+    ensures told { DoPush N.Door N.Conn.Source N.Conn.Sink C.Clock D.Dice words.now (applied chain.now) net.old clock.old dice.old net.new clock.new dice.new result }
     ensures untouched { result ≡ Err Line → net.new ≡ net.old }
 {
     let line = read_push(alloc, words)?;
@@ -140,13 +136,10 @@ pub fn run_push<K: Sink, N: Door, C: Clock, D: Dice>(
     dice: &mut D,
 ) -> u8
     ensures told { Ends K.Sink sink.old sink.new result
-        (PushRun (map string_bytes words.now) (net.new ≡ net.old)
-        (Draws C.Clock D.Dice clock.old dice.old clock.new dice.new)
-        (applied chain.now)
-        (λ job outcome. Dials N.Door N.Conn.Source N.Conn.Sink net.old net.new (λ carried. Pushes carried job) outcome)) }
+        (DoPush N.Door N.Conn.Source N.Conn.Sink C.Clock D.Dice words.now (applied chain.now) net.old clock.old dice.old net.new clock.new dice.new) }
 
     // A job is pushed, held or stopped, unless the door fails or its request isn't answered, where the sink takes what is told.
-    ensures completes { result ≢ 2 → result ≢ 4 → DoneOr (PushHindered N.Door N.Conn.Source N.Conn.Sink net.old net.new) result }
+    ensures completes { PushDone N.Door N.Conn.Source N.Conn.Sink net.old net.new result }
 
     // With status 4 the sink's count of faults rose.
     ensures sink_cause { result ≡ 4 → Rose (K.write_faults sink.old) (K.write_faults sink.new) }

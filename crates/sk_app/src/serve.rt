@@ -1,14 +1,11 @@
 // The program `serve`: its words are read, connections are served until a SHUTDOWN or until each loop has served its number, and the summary is written.
-ghost use Rattle.std.specs.Prelude.{◌≡◌, ◌≢◌, ◌<◌, ◌≤◌, Err, IfOk, map, string_bytes};
+ghost use Rattle.std.specs.Prelude.{◌≡◌, ◌<◌, ◌≤◌, Err, IfOk, string_bytes};
 ghost use Rattle.sk_base.specs.Outside.{Rose};
 ghost use Rattle.sk_base.specs.declared.limits.TheConstants.{MOST_LOOPS_SERVED};
-ghost use Rattle.sk_line.specs.Lines.{IsServe};
-ghost use Rattle.sk_line.specs.declared.serve_line.ServeLine.{ServeLine};
-ghost use Rattle.sk_serve.specs.Server.{HasFailed};
-ghost use Rattle.sk_app.specs.Completing.{DoneOr, ServeHindered};
 ghost use Rattle.sk_app.specs.Ending.{Ends};
-ghost use Rattle.sk_app.specs.Serving.{IsOutcome, ServeRun, Serves, first_line, summary_text};
+ghost use Rattle.sk_app.specs.Serving.{IsOutcome, Serves, first_line, summary_text};
 ghost use Rattle.sk_app.specs.declared.failure.Failure.TheVariants.{Line};
+ghost use Rattle.sk_app.specs.Promises.{DoServe, ServeDone, ServerFails};
 
 use crate::Failure;
 use crate::ending::conclude;
@@ -67,7 +64,7 @@ fn serve_by<R: Threads + Wait + Sync, N: Door, C: Clock + Send>(
 where
     N::Ear: Send,
     requires loops { (0 < line.loops) × (line.loops ≤ MOST_LOOPS_SERVED) }
-    ensures told { Serves line (λ loops. HasFailed N.door_faults N.gathered N.Ear.ear_faults loops net.old net.new) result }
+    ensures told { Serves line (λ loops. ServerFails N.Door N.Ear.ear_faults net.old net.new loops) result }
     ensures never { result ≡ Err Line → ⊥ }
     ensures later { N.door_faults net.old ≤ N.door_faults net.new }
 {
@@ -97,8 +94,7 @@ fn outcome_by<R: Threads + Wait + Sync, N: Door, C: Clock + Send>(
 ) -> Result<Word, Failure>
 where
     N::Ear: Send,
-    ensures told { ServeRun (map string_bytes words.now) (net.new ≡ net.old)
-        (λ loops. HasFailed N.door_faults N.gathered N.Ear.ear_faults loops net.old net.new) result }
+    ensures told { DoServe N.Door N.Ear.ear_faults words.now net.old net.new result }
     ensures untouched { result ≡ Err Line → net.new ≡ net.old }
     ensures later { N.door_faults net.old ≤ N.door_faults net.new }
 {
@@ -118,13 +114,10 @@ pub fn run_serve<R: Threads + Wait + Sync, K: Sink, N: Door, C: Clock + Send>(
 ) -> u8
 where
     N::Ear: Send,
-    ensures told { Ends K.Sink sink.old sink.new result
-        (ServeRun (map string_bytes words.now) (net.new ≡ net.old)
-        (λ loops. HasFailed N.door_faults N.gathered N.Ear.ear_faults loops net.old net.new)) }
+    ensures told { Ends K.Sink sink.old sink.new result (DoServe N.Door N.Ear.ear_faults words.now net.old net.new) }
 
     // A line of `serve` is done, unless the door or an ear fails or seats are used up, where the sink takes the summary.
-    ensures completes { (line : ServeLine) → IsServe (map string_bytes words.now) line → result ≢ 4 → DoneOr (ServeHindered (map string_bytes words.now)
-        (λ loops. HasFailed N.door_faults N.gathered N.Ear.ear_faults loops net.old net.new)) result }
+    ensures completes { ServeDone N.Door N.Ear.ear_faults words.now net.old net.new result }
 
     // With status 4 the sink's count of faults rose.
     ensures sink_cause { result ≡ 4 → Rose (K.write_faults sink.old) (K.write_faults sink.new) }

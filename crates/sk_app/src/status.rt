@@ -1,14 +1,12 @@
 // The program `status`: its words are read, a connection is made, the store is asked for its page, the connection is left to the door, and the page is
 // written.
-ghost use Rattle.std.specs.Prelude.{◌≡◌, ◌≢◌, ◌⊎◌, Err, IfOk, map, string_bytes};
+ghost use Rattle.std.specs.Prelude.{◌≡◌, ◌⊎◌, Err, IfOk};
 ghost use Rattle.sk_base.specs.Outside.{Rose};
-ghost use Rattle.sk_line.specs.Lines.{IsStatus};
-ghost use Rattle.sk_line.specs.declared.status_line.StatusLine.{StatusLine};
-ghost use Rattle.sk_app.specs.Completing.{DoneOr, StatusHindered};
 ghost use Rattle.sk_app.specs.Dialogue.{Dials};
 ghost use Rattle.sk_app.specs.Ending.{Ends};
-ghost use Rattle.sk_app.specs.Paging.{Asks, StatusRun, page_of, status_words};
+ghost use Rattle.sk_app.specs.Paging.{Asks, page_of, status_words};
 ghost use Rattle.sk_app.specs.declared.failure.Failure.TheVariants.{Line, Memory};
+ghost use Rattle.sk_app.specs.Promises.{DoStatus, StatusDone};
 
 use crate::Failure;
 use crate::ending::conclude;
@@ -62,8 +60,7 @@ fn ask<N: Door>(alloc: Global, net: &mut N, address: &Address) -> Result<Word, F
 
 // What `status` comes to.
 fn outcome_by<N: Door>(alloc: Global, words: &[String], net: &mut N) -> Result<Word, Failure>
-    ensures told { StatusRun (map string_bytes words.now) (net.new ≡ net.old)
-        (Dials N.Door N.Conn.Source N.Conn.Sink net.old net.new Asks) result }
+    ensures told { DoStatus N.Door N.Conn.Source N.Conn.Sink words.now net.old net.new result }
     ensures untouched { result ≡ Err Line → net.new ≡ net.old }
 {
     let line = read_status(alloc, words)?;
@@ -78,13 +75,10 @@ pub fn run_status<K: Sink, N: Door>(
     sink: &mut K,
     net: &mut N,
 ) -> u8
-    ensures told { Ends K.Sink sink.old sink.new result
-        (StatusRun (map string_bytes words.now) (net.new ≡ net.old)
-        (Dials N.Door N.Conn.Source N.Conn.Sink net.old net.new Asks)) }
+    ensures told { Ends K.Sink sink.old sink.new result (DoStatus N.Door N.Conn.Source N.Conn.Sink words.now net.old net.new) }
 
     // A line of `status` is done, unless the door fails or its request gets no page, where the sink takes the page.
-    ensures completes { (line : StatusLine) → IsStatus (map string_bytes words.now) line → result ≢ 4
-        → DoneOr (StatusHindered N.Door N.Conn.Source N.Conn.Sink net.old net.new) result }
+    ensures completes { StatusDone N.Door N.Conn.Source N.Conn.Sink words.now net.old net.new result }
 
     // With status 4 the sink's count of faults rose.
     ensures sink_cause { result ≡ 4 → Rose (K.write_faults sink.old) (K.write_faults sink.new) }

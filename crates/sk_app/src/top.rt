@@ -1,36 +1,21 @@
 // The top call: what the words of a command line ask for. The first of them names the program.
-ghost use Rattle.std.specs.Prelude.{◌≡◌, ◌≢◌, ◌≤◌, ◌⊎◌, None, Some, map, string_bytes, vec_len};
+ghost use Rattle.std.specs.Prelude.{◌≡◌, ◌≢◌, ◌≤◌, ◌⊎◌, None, vec_len};
 ghost use Rattle.sk_base.specs.Outside.{Rose};
-ghost use Rattle.sk_pipe.specs.Run.{Completes, IsPipeLine, IsPiped, shipped, status_of};
-ghost use Rattle.sk_pipe.specs.declared.pipe_end.PipeEnd.{PipeEnd};
-ghost use Rattle.sk_serve.specs.Server.{HasFailed};
+ghost use Rattle.sk_pipe.specs.Run.{IsPipeLine};
 ghost use Rattle.sk_base.specs.declared.limits.TheConstants.{MOST_WORKERS};
-ghost use Rattle.sk_launcher.specs.Connections.{classes_of, door_tells};
-ghost use Rattle.sk_launcher.specs.Launching.{Launched};
-ghost use Rattle.sk_launcher.specs.Teams.{teams_of};
-ghost use Rattle.sk_link.specs.Wire.{WireCarries};
+ghost use Rattle.sk_launcher.specs.Connections.{classes_of};
 ghost use Rattle.sk_middle.specs.Applied.{applied};
 ghost use Rattle.sk_line.specs.Drill.{IsDrill};
 ghost use Rattle.sk_line.specs.declared.drill_line.DrillLine.{DrillLine};
-ghost use Rattle.sk_line.specs.Lines.{IsServe, IsStatus};
 ghost use Rattle.sk_line.specs.Soak.{IsSoak};
-ghost use Rattle.sk_line.specs.Work.{IsWork};
-ghost use Rattle.sk_line.specs.declared.serve_line.ServeLine.{ServeLine};
 ghost use Rattle.sk_line.specs.declared.soak_line.SoakLine.{SoakLine};
-ghost use Rattle.sk_line.specs.declared.status_line.StatusLine.{StatusLine};
-ghost use Rattle.sk_line.specs.declared.work_line.WorkLine.{WorkLine};
-ghost use Rattle.sk_app.specs.Completing.{DoneOr, PushHindered, ServeHindered, StatusHindered, WorkHindered};
-ghost use Rattle.sk_app.specs.Dialogue.{Dials};
+ghost use Rattle.sk_app.specs.Completing.{DoneOr};
 ghost use Rattle.sk_app.specs.Drilling.{RunsDrill};
 ghost use Rattle.sk_app.specs.Ending.{Ends};
-ghost use Rattle.sk_app.specs.Jobs.{Draws};
-ghost use Rattle.sk_app.specs.Paging.{Asks, StatusRun};
 ghost use Rattle.sk_app.specs.Programs.{program_of};
-ghost use Rattle.sk_app.specs.Pushing.{PushRun, Pushes};
-ghost use Rattle.sk_app.specs.Serving.{ServeRun};
 ghost use Rattle.sk_app.specs.Soaking.{SoakRun};
-ghost use Rattle.sk_app.specs.Working.{WorkRun};
 ghost use Rattle.sk_app.specs.declared.program.Program.TheVariants.{Drill, Push, Serve, Soak, Status, Work};
+ghost use Rattle.sk_app.specs.Promises.{DoPush, DoServe, DoStatus, DoWork, Names, PipeDone, Pipes, PushDone, ServeDone, StatusDone, WorkDone, texts};
 
 use crate::program::{Program, program_of};
 use crate::{run_drill, run_push, run_serve, run_soak, run_status, run_work};
@@ -79,83 +64,56 @@ where
     requires few { vec_len teams.old ≤ MOST_WORKERS }
 
     // The word `pipe` pipes the source to the sink, and the status tells how that ended.
-    ensures piped { IsPipeLine (map string_bytes words.now) → (end : PipeEnd) × (result ≡ status_of end)
-        × IsPiped shipped S.left S.read_faults K.taken K.write_faults source.old source.new sink.old sink.new end }
+    ensures piped { IsPipeLine (texts words.now) → Pipes S.Source K.Sink source.old sink.old source.new sink.new result }
 
     // Input that is commands end to end is done to its end, or to a QUIT or SHUTDOWN, where neither count of faults rises.
-    ensures completes { IsPipeLine (map string_bytes words.now)
-        → Completes (S.left source.old) (Rose (S.read_faults source.old) (S.read_faults source.new) ⊎ Rose (K.write_faults sink.old) (K.write_faults sink.new)) result }
+    ensures completes { IsPipeLine (texts words.now) → PipeDone S.Source K.Sink source.old sink.old source.new sink.new result }
 
     // A server.
-    ensures served { program_of (map string_bytes words.now) ≡ Some Serve → Ends K.Sink sink.old sink.new result
-        (ServeRun (map string_bytes words.now) (net.new ≡ net.old)
-        (λ loops. HasFailed N.door_faults N.gathered N.Ear.ear_faults loops net.old net.new)) }
+    ensures served { Names words.now Serve → Ends K.Sink sink.old sink.new result (DoServe N.Door N.Ear.ear_faults words.now net.old net.new) }
 
     // Workers.
-    ensures worked { program_of (map string_bytes words.now) ≡ Some Work → Ends K.Sink sink.old sink.new result
-        (WorkRun (vec_len teams.old) (map string_bytes words.now) ((net.new ≡ net.old) × (teams.new ≡ teams.old))
-        (λ line how. Launched (WireCarries N.Conn.taken N.Conn.left N.Conn.read_faults N.Conn.write_faults)
-        (Rose (N.door_faults net.old) (N.door_faults net.new)) line (door_tells (N.dialled net.old) (N.kept net.old))
-        (door_tells (N.dialled net.new) (N.kept net.new)) (teams_of runs teams.old.items) (teams_of runs teams.new.items) how)) }
+    ensures worked { Names words.now Work → Ends K.Sink sink.old sink.new result
+        (DoWork N.Door N.Conn.Source N.Conn.Sink runs words.now net.old teams.old net.new teams.new) }
 
     // A push.
-    ensures pushed { program_of (map string_bytes words.now) ≡ Some Push → Ends K.Sink sink.old sink.new result
-        (PushRun (map string_bytes words.now) (net.new ≡ net.old)
-        (Draws C.Clock D.Dice clock.old dice.old clock.new dice.new)
-        (applied chain.now)
-        (λ job outcome. Dials N.Door N.Conn.Source N.Conn.Sink net.old net.new (λ carried. Pushes carried job) outcome)) }
+    ensures pushed { Names words.now Push → Ends K.Sink sink.old sink.new result
+        (DoPush N.Door N.Conn.Source N.Conn.Sink C.Clock D.Dice words.now (applied chain.now) net.old clock.old dice.old net.new clock.new dice.new) }
 
     // A page.
-    ensures paged { program_of (map string_bytes words.now) ≡ Some Status → Ends K.Sink sink.old sink.new result
-        (StatusRun (map string_bytes words.now) (net.new ≡ net.old)
-        (Dials N.Door N.Conn.Source N.Conn.Sink net.old net.new Asks)) }
+    ensures paged { Names words.now Status → Ends K.Sink sink.old sink.new result (DoStatus N.Door N.Conn.Source N.Conn.Sink words.now net.old net.new) }
 
     // A large run.
-    ensures soaked { program_of (map string_bytes words.now) ≡ Some Soak
-        → Ends K.Sink sink.old sink.new result (SoakRun (map string_bytes words.now)) }
+    ensures soaked { Names words.now Soak → Ends K.Sink sink.old sink.new result (SoakRun (texts words.now)) }
 
     // A drill.
-    ensures drilled { program_of (map string_bytes words.now) ≡ Some Drill → Ends K.Sink sink.old sink.new result
-        (RunsDrill runs rules.items teams.old teams.new (map string_bytes words.now)) }
+    ensures drilled { Names words.now Drill → Ends K.Sink sink.old sink.new result (RunsDrill runs rules.items teams.old teams.new (texts words.now)) }
 
     // A line of a program is done, where the sink takes what is told and nothing hinders it. Where something does, it is this.
-    ensures serve_completes { program_of (map string_bytes words.now) ≡ Some Serve → (line : ServeLine) → IsServe (map string_bytes words.now) line
-        → result ≢ 4 → DoneOr (ServeHindered (map string_bytes words.now)
-        (λ loops. HasFailed N.door_faults N.gathered N.Ear.ear_faults loops net.old net.new)) result }
-    ensures work_completes { program_of (map string_bytes words.now) ≡ Some Work → (line : WorkLine)
-        → IsWork (vec_len teams.old) (map string_bytes words.now) line → result ≢ 4
-        → DoneOr (WorkHindered (vec_len teams.old) (map string_bytes words.now)
-        (λ line how. Launched (WireCarries N.Conn.taken N.Conn.left N.Conn.read_faults N.Conn.write_faults)
-        (Rose (N.door_faults net.old) (N.door_faults net.new)) line (door_tells (N.dialled net.old) (N.kept net.old))
-        (door_tells (N.dialled net.new) (N.kept net.new)) (teams_of runs teams.old.items) (teams_of runs teams.new.items) how)) result }
-    ensures push_completes { program_of (map string_bytes words.now) ≡ Some Push → result ≢ 2 → result ≢ 4
-        → DoneOr (PushHindered N.Door N.Conn.Source N.Conn.Sink net.old net.new) result }
-    ensures status_completes { program_of (map string_bytes words.now) ≡ Some Status → (line : StatusLine) → IsStatus (map string_bytes words.now) line
-        → result ≢ 4 → DoneOr (StatusHindered N.Door N.Conn.Source N.Conn.Sink net.old net.new) result }
-    ensures soak_completes { program_of (map string_bytes words.now) ≡ Some Soak → (line : SoakLine) → IsSoak (map string_bytes words.now) line
-        → result ≢ 4 → (result ≡ 0) ⊎ (result ≡ 5) }
-
-    ensures drill_completes { program_of (map string_bytes words.now) ≡ Some Drill → (line : DrillLine)
-        → IsDrill (vec_len teams.old) (map string_bytes words.now) line → result ≢ 4 → DoneOr (result ≡ 8) result }
+    ensures serve_completes { Names words.now Serve → ServeDone N.Door N.Ear.ear_faults words.now net.old net.new result }
+    ensures work_completes { Names words.now Work → WorkDone N.Door N.Conn.Source N.Conn.Sink runs words.now net.old teams.old net.new teams.new result }
+    ensures push_completes { Names words.now Push → PushDone N.Door N.Conn.Source N.Conn.Sink net.old net.new result }
+    ensures status_completes { Names words.now Status → StatusDone N.Door N.Conn.Source N.Conn.Sink words.now net.old net.new result }
+    ensures soak_completes { Names words.now Soak → (line : SoakLine) → IsSoak (texts words.now) line → result ≢ 4 → (result ≡ 0) ⊎ (result ≡ 5) }
+    ensures drill_completes { Names words.now Drill → (line : DrillLine) → IsDrill (vec_len teams.old) (texts words.now) line
+        → result ≢ 4 → DoneOr (result ≡ 8) result }
 
     // Words that name no program are refused.
-    ensures unknown { (IsPipeLine (map string_bytes words.now) → ⊥) → program_of (map string_bytes words.now) ≡ None → result ≡ 2 }
+    ensures unknown { (IsPipeLine (texts words.now) → ⊥) → program_of (texts words.now) ≡ None → result ≡ 2 }
 
     // Where words are refused nothing is read, written or opened. `pipe` alone reads the source.
     ensures refused { result ≡ 2 → (source.new ≡ source.old) × (sink.new ≡ sink.old) × (net.new ≡ net.old) × (teams.new ≡ teams.old) }
-    ensures source_alone { (IsPipeLine (map string_bytes words.now) → ⊥) → source.new ≡ source.old }
+    ensures source_alone { (IsPipeLine (texts words.now) → ⊥) → source.new ≡ source.old }
 
     // `pipe`, `soak` and `drill` open nothing.
-    ensures inside { (program_of (map string_bytes words.now) ≡ None) ⊎ (program_of (map string_bytes words.now) ≡ Some Soak)
-        ⊎ (program_of (map string_bytes words.now) ≡ Some Drill) → net.new ≡ net.old }
+    ensures inside { (program_of (texts words.now) ≡ None) ⊎ Names words.now Soak ⊎ Names words.now Drill → net.new ≡ net.old }
 
     // The teams stand in their order again, and `work` and `drill` alone have to do with them.
     ensures teams { classes_of teams.new.items ≡ classes_of teams.old.items }
-    ensures others { (program_of (map string_bytes words.now) ≡ Some Work → ⊥) → (program_of (map string_bytes words.now) ≡ Some Drill → ⊥)
-        → teams.new ≡ teams.old }
+    ensures others { (Names words.now Work → ⊥) → (Names words.now Drill → ⊥) → teams.new ≡ teams.old }
 
     // With status 4 the sink's count of faults rose. (For the pipe that is said above.)
-    ensures sink_cause { (IsPipeLine (map string_bytes words.now) → ⊥) → result ≡ 4 → Rose (K.write_faults sink.old) (K.write_faults sink.new) }
+    ensures sink_cause { (IsPipeLine (texts words.now) → ⊥) → result ≡ 4 → Rose (K.write_faults sink.old) (K.write_faults sink.new) }
 {
     match program_of(words) {
         Some(Program::Serve) => run_serve(rt, alloc, words, sink, net, clock),

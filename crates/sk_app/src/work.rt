@@ -1,17 +1,12 @@
 // The program `work`: its words are read, a poller and workers take their turns over connections of their own, and how the turns ended is written.
-ghost use Rattle.std.specs.Prelude.{◌≡◌, ◌≢◌, ◌≤◌, Err, IfOk, map, string_bytes, vec_len};
+ghost use Rattle.std.specs.Prelude.{◌≡◌, ◌≤◌, Err, IfOk, vec_len};
 ghost use Rattle.sk_base.specs.Outside.{Rose};
 ghost use Rattle.sk_base.specs.declared.limits.TheConstants.{MOST_WORKERS};
-ghost use Rattle.sk_app.specs.Completing.{DoneOr, WorkHindered};
 ghost use Rattle.sk_app.specs.Ending.{Ends};
-ghost use Rattle.sk_app.specs.Working.{IsOutcome, WorkRun, summary_text};
-ghost use Rattle.sk_line.specs.Work.{IsWork};
-ghost use Rattle.sk_line.specs.declared.work_line.WorkLine.{WorkLine};
-ghost use Rattle.sk_launcher.specs.Connections.{classes_of, door_tells};
-ghost use Rattle.sk_launcher.specs.Launching.{Launched};
-ghost use Rattle.sk_launcher.specs.Teams.{teams_of};
-ghost use Rattle.sk_link.specs.Wire.{WireCarries};
+ghost use Rattle.sk_app.specs.Working.{IsOutcome, summary_text};
+ghost use Rattle.sk_launcher.specs.Connections.{classes_of};
 ghost use Rattle.sk_app.specs.declared.failure.Failure.TheVariants.{Line};
+ghost use Rattle.sk_app.specs.Promises.{DoWork, WorkDone};
 
 use crate::Failure;
 use crate::ending::conclude;
@@ -59,10 +54,7 @@ fn outcome_by<R: Threads + Wait + Sync, N: Door, C: Clock + Send, D: Dice>(
 ) -> Result<Word, Failure>
     requires rules { vec_len rules ≡ vec_len teams.old }
     requires few { vec_len teams.old ≤ MOST_WORKERS }
-    ensures told { WorkRun (vec_len teams.old) (map string_bytes words.now) ((net.new ≡ net.old) × (teams.new ≡ teams.old))
-        (λ line how. Launched (WireCarries N.Conn.taken N.Conn.left N.Conn.read_faults N.Conn.write_faults)
-        (Rose (N.door_faults net.old) (N.door_faults net.new)) line (door_tells (N.dialled net.old) (N.kept net.old))
-        (door_tells (N.dialled net.new) (N.kept net.new)) (teams_of runs teams.old.items) (teams_of runs teams.new.items) how) result }
+    ensures told { DoWork N.Door N.Conn.Source N.Conn.Sink runs words.now net.old teams.old net.new teams.new result }
     ensures teams { classes_of teams.new.items ≡ classes_of teams.old.items }
     ensures untouched { result ≡ Err Line → (net.new ≡ net.old) × (teams.new ≡ teams.old) }
 {
@@ -88,21 +80,13 @@ pub fn run_work<R: Threads + Wait + Sync, K: Sink, N: Door, C: Clock + Send, D: 
 ) -> u8
     requires rules { vec_len rules ≡ vec_len teams.old }
     requires few { vec_len teams.old ≤ MOST_WORKERS }
-    ensures told { Ends K.Sink sink.old sink.new result
-        (WorkRun (vec_len teams.old) (map string_bytes words.now) ((net.new ≡ net.old) × (teams.new ≡ teams.old))
-        (λ line how. Launched (WireCarries N.Conn.taken N.Conn.left N.Conn.read_faults N.Conn.write_faults)
-        (Rose (N.door_faults net.old) (N.door_faults net.new)) line (door_tells (N.dialled net.old) (N.kept net.old))
-        (door_tells (N.dialled net.new) (N.kept net.new)) (teams_of runs teams.old.items) (teams_of runs teams.new.items) how)) }
+    ensures told { Ends K.Sink sink.old sink.new result (DoWork N.Door N.Conn.Source N.Conn.Sink runs words.now net.old teams.old net.new teams.new) }
 
     // The teams stand in their order again.
     ensures teams { classes_of teams.new.items ≡ classes_of teams.old.items }
 
     // A line of `work` is done, unless a fault ends its turns, where the sink takes the counts.
-    ensures completes { (line : WorkLine) → IsWork (vec_len teams.old) (map string_bytes words.now) line → result ≢ 4
-        → DoneOr (WorkHindered (vec_len teams.old) (map string_bytes words.now)
-        (λ line how. Launched (WireCarries N.Conn.taken N.Conn.left N.Conn.read_faults N.Conn.write_faults)
-        (Rose (N.door_faults net.old) (N.door_faults net.new)) line (door_tells (N.dialled net.old) (N.kept net.old))
-        (door_tells (N.dialled net.new) (N.kept net.new)) (teams_of runs teams.old.items) (teams_of runs teams.new.items) how)) result }
+    ensures completes { WorkDone N.Door N.Conn.Source N.Conn.Sink runs words.now net.old teams.old net.new teams.new result }
 
     // With status 4 the sink's count of faults rose.
     ensures sink_cause { result ≡ 4 → Rose (K.write_faults sink.old) (K.write_faults sink.new) }

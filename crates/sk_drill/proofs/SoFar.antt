@@ -10,7 +10,7 @@ use Rattle.sk_model.proofs.Theorems.Runs.{leads_on}
 use Rattle.sk_pipe.specs.Run.{shipped}
 use Rattle.sk_status.specs.declared.tally.Tally.{Tally}
 use Rattle.sk_drill.specs.Load.{LoadState, first_load, opening_part, turn_part}
-use Rattle.sk_drill.specs.Soaked.{DoesPart, HasCome, IsSoak, Plays, begins, is_served, turns}
+use Rattle.sk_drill.specs.Soaked.{DoesPart, HasCome, IsSummaryOf, Plays, begins, is_served, turns}
 use Rattle.sk_drill.specs.declared.summary.Summary.{Summary}
 use Rattle.sk_drill.proofs.Playing.{both_served}
 use Rattle.sk_drill.proofs.Small.{opening_small, turn_small}
@@ -78,7 +78,7 @@ so_far_on seed jobs n s t w v count more so_far does =
     }
 
 so_far_last : (seed jobs n : ℕ) (s : LoadState) (w : World) (count : ℕ) (tally : Tally) → SoFar seed jobs n s w count → n ≡ 20 * jobs → tally ≡ tally_of w
-    → IsSoak seed jobs (record { events = count; tally = tally })
+    → IsSummaryOf seed jobs (record { events = count; tally = tally })
 so_far_last seed jobs n s w count tally so_far all is = record {
   steps = so_far.steps;
   load = s;
@@ -105,9 +105,9 @@ taken_on seed jobs n s t w v count more taken does = so_far_on seed jobs n s t w
 
 -- All turns are done.
 pub soaked : (seed jobs n : ℕ) (s : LoadState) (w : World) (count : ℕ) (summary : Summary) → HasTaken seed jobs n s w count → n ≡ 20 * jobs
-    → summary ≡ record { events = count; tally = tally_of w } → IsSoak seed jobs summary
+    → summary ≡ record { events = count; tally = tally_of w } → IsSummaryOf seed jobs summary
 unfolding HasTaken
-soaked seed jobs n s w count summary taken all is = subst (IsSoak seed jobs) (sym is) (so_far_last seed jobs n s w count (tally_of w) taken all refl)
+soaked seed jobs n s w count summary taken all is = subst (IsSummaryOf seed jobs) (sym is) (so_far_last seed jobs n s w count (tally_of w) taken all refl)
 
 -- the numbers of a load are small
 pub moment_small : (seed jobs n : ℕ) (s : LoadState) (w : World) (count : ℕ) → HasTaken seed jobs n s w count → s.moment ≤ 1700000000000 + 200 * n

@@ -50,7 +50,7 @@ pub data HasCome (seed jobs : ℕ) : ℕ → LoadState → World → List Step �
 
 -- The summary is that of the load's run, from the empty store with the limits of the program through twenty turns for each job, and all that holds of
 -- every run holds of it.
-pub record IsSoak (seed jobs : ℕ) (summary : Summary) : Type 0 where
+pub record IsSummaryOf (seed jobs : ℕ) (summary : Summary) : Type 0 where
   pub steps : List Step
   pub load : LoadState
   pub world : World

@@ -4,7 +4,7 @@ ghost use Rattle.sk_jobs.specs.Counting.{tally_of};
 ghost use Rattle.sk_model.specs.World.{first};
 ghost use Rattle.sk_pipe.specs.Run.{shipped};
 ghost use Rattle.sk_drill.specs.Load.{opening_part, turn_part};
-ghost use Rattle.sk_drill.specs.Soaked.{DoesPart, IsBalanced, IsSoak};
+ghost use Rattle.sk_drill.specs.Soaked.{DoesPart, IsBalanced, IsSummaryOf};
 
 use crate::load::Load;
 use crate::play::play;
@@ -56,7 +56,7 @@ pub(crate) fn summary(core: &Core, events: u64) -> Summary
 fn run_load(alloc: Global, seed: u64, jobs: u64, core: &mut Core) -> Result<Summary, Memory>
     requires few { jobs ≤ 1000000 }
     requires empty { core.old ≡ first shipped }
-    ensures run { IfOk result (IsSoak seed jobs) }
+    ensures run { IfOk result (IsSummaryOf seed jobs) }
     ensures balanced { IfOk result (λ s. IsBalanced s.tally) }
 {
     let mut load = Load::new(alloc, seed, jobs);
@@ -77,7 +77,7 @@ pub fn soak(alloc: Global, seed: u64, jobs: u64) -> Result<Summary, Memory>
     requires { jobs ≤ 1000000 }
 
     // The summary is that of the load's run, in which there was memory for each event, and all that holds of every run holds of it.
-    ensures run { IfOk result (IsSoak seed jobs) }
+    ensures run { IfOk result (IsSummaryOf seed jobs) }
 
     // Each row that was pushed had no head, or its job was there already, is live, or has ended.
     ensures balanced { IfOk result (λ s. IsBalanced s.tally) }

@@ -7,3 +7,4 @@ pub mod Polling
 pub mod Faults
 pub mod Connections
 pub mod Launching
+pub mod Promises

@@ -1,13 +1,8 @@
 // How a worker leaves, and gives back what it was made of.
-ghost use Rattle.std.specs.Prelude.{◌≡◌, ◌≤◌, ◌<◌, ◌+◌, ◌∷◌, ◌++◌, [], List, None, map, length, vec_len, vec_capacity, option_map, option_to_list, IfOk};
-ghost use Rattle.std.specs.List.{AllZip};
+ghost use Rattle.std.specs.Prelude.{◌≡◌, ◌≤◌, ◌<◌, ◌+◌, ◌++◌, [], vec_len, vec_capacity, option_map, option_to_list, IfOk};
 ghost use Rattle.sk_base.specs.declared.limits.TheConstants.{MOST_WORKERS};
-ghost use Rattle.sk_launcher.specs.Connections.{Each, Keeping, door_tells};
 ghost use Rattle.sk_launcher.specs.Faults.{by_work};
-ghost use Rattle.sk_launcher.specs.Launching.{AllReturned, Leaves, Returned, returned};
-ghost use Rattle.sk_launcher.specs.Teams.{teams_of};
-ghost use Rattle.sk_launcher.specs.Working.{WorkState, hired_worker};
-ghost use Rattle.sk_link.specs.Wire.{WireCarries, WireState};
+ghost use Rattle.sk_launcher.specs.Promises.{Dismisses, DismissesAll, HasRoom, KeepsRoom};
 
 use crate::LaunchFault;
 use crate::processor::Processor;
@@ -32,7 +27,7 @@ impl Returns {
     pub fn with_room(alloc: Global, teams: usize, workers: usize) -> Result<Returns, AllocError>
         requires { workers ≤ MOST_WORKERS }
         ensures empty { IfOk result (λ r. (r.teams.items ≡ []) × (r.tallies.items ≡ []) × (r.faults.items ≡ [])) }
-        ensures room { IfOk result (λ r. (teams ≤ vec_capacity r.teams) × (workers ≤ vec_capacity r.tallies) × (workers + 2 ≤ vec_capacity r.faults)) }
+        ensures room { IfOk result (λ r. HasRoom teams workers r) }
     {
         Ok(Returns {
             teams: Vec::with_capacity(alloc, teams)?,
@@ -64,15 +59,11 @@ fn dismiss<N: Door, C: Clock>(
     requires teams { vec_len returns.old.teams < vec_capacity returns.old.teams }
     requires tallies { vec_len returns.old.tallies < vec_capacity returns.old.tallies }
     requires faults { vec_len returns.old.faults < vec_capacity returns.old.faults }
-    ensures gone { (gone : WorkState (WireState N.Conn))
-        × Leaves (WireCarries N.Conn.taken N.Conn.left N.Conn.read_faults N.Conn.write_faults) (hired_worker C.moments runs worker) gone
-        × Keeping (door_tells (N.dialled net.old) (N.kept net.old)) gone.link.conn (door_tells (N.dialled net.new) (N.kept net.new))
-        × Returned gone (returned (teams_of runs returns.old.teams.items) returns.old.tallies.items returns.old.faults.items)
-        (returned (teams_of runs returns.new.teams.items) returns.new.tallies.items returns.new.faults.items) }
-    ensures room { (vec_capacity returns.new.teams ≡ vec_capacity returns.old.teams) × (vec_capacity returns.new.tallies ≡ vec_capacity returns.old.tallies)
-        × (vec_capacity returns.new.faults ≡ vec_capacity returns.old.faults) }
-    ensures few { (vec_len returns.new.teams ≡ vec_len returns.old.teams + 1) × (vec_len returns.new.tallies ≡ vec_len returns.old.tallies + 1)
-        × (vec_len returns.new.faults ≤ vec_len returns.old.faults + 1) }
+    ensures gone { Dismisses N.Door N.Conn.Source N.Conn.Sink C.Clock runs worker net.old returns.old net.new returns.new }
+    ensures room { KeepsRoom returns.old returns.new }
+    ensures teams { vec_len returns.new.teams ≡ vec_len returns.old.teams + 1 }
+    ensures tallies { vec_len returns.new.tallies ≡ vec_len returns.old.tallies + 1 }
+    ensures few { vec_len returns.new.faults ≤ vec_len returns.old.faults + 1 }
     ensures faults { N.door_faults net.new ≡ N.door_faults net.old }
 {
     worker.leave(alloc);
@@ -104,16 +95,11 @@ pub(crate) fn dismiss_all<N: Door, C: Clock>(
     requires teams { vec_len returns.old.teams + vec_len staff ≤ vec_capacity returns.old.teams }
     requires tallies { vec_len returns.old.tallies + vec_len staff ≤ vec_capacity returns.old.tallies }
     requires faults { vec_len returns.old.faults + vec_len staff ≤ vec_capacity returns.old.faults }
-    ensures gone { (gone : List (WorkState (WireState N.Conn)))
-        × AllZip (λ w gone. Leaves (WireCarries N.Conn.taken N.Conn.left N.Conn.read_faults N.Conn.write_faults) (hired_worker C.moments runs w) gone)
-        staff.items gone
-        × Each (λ a gone b. Keeping a gone.link.conn b) (door_tells (N.dialled net.old) (N.kept net.old)) gone
-        (door_tells (N.dialled net.new) (N.kept net.new))
-        × AllReturned gone (returned (teams_of runs returns.old.teams.items) returns.old.tallies.items returns.old.faults.items)
-        (returned (teams_of runs returns.new.teams.items) returns.new.tallies.items returns.new.faults.items) }
-    ensures room { (vec_capacity returns.new.teams ≡ vec_capacity returns.old.teams) × (vec_capacity returns.new.faults ≡ vec_capacity returns.old.faults) }
-    ensures few { (vec_len returns.new.teams ≡ vec_len returns.old.teams + vec_len staff)
-        × (vec_len returns.new.faults ≤ vec_len returns.old.faults + vec_len staff) }
+    ensures gone { DismissesAll N.Door N.Conn.Source N.Conn.Sink C.Clock runs staff net.old returns.old net.new returns.new }
+    ensures room_of_teams { vec_capacity returns.new.teams ≡ vec_capacity returns.old.teams }
+    ensures room { vec_capacity returns.new.faults ≡ vec_capacity returns.old.faults }
+    ensures teams { vec_len returns.new.teams ≡ vec_len returns.old.teams + vec_len staff }
+    ensures few { vec_len returns.new.faults ≤ vec_len returns.old.faults + vec_len staff }
     ensures faults { N.door_faults net.new ≡ N.door_faults net.old }
 {
     for worker in staff {

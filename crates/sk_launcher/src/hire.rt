@@ -1,12 +1,10 @@
 // How a worker gets its connection and joins.
-ghost use Rattle.std.specs.Prelude.{◌≡◌, ◌≤◌, ◌<◌, ◌+◌, ◌∷◌, ◌++◌, [], List, None, IfOk, IfErr, OnOk, OnErr, All, false, length, vec_len, vec_capacity};
-ghost use Rattle.sk_base.specs.Outside.{Rose};
+ghost use Rattle.std.specs.Prelude.{◌≡◌, ◌≤◌, ◌<◌, ◌+◌, ◌∷◌, [], IfOk, IfErr, OnOk, OnErr, All, false, length, vec_len, vec_capacity};
 ghost use Rattle.sk_base.specs.declared.limits.TheConstants.{MOST_PREFETCH};
-ghost use Rattle.sk_launcher.specs.Connections.{Gives, door_tells};
-ghost use Rattle.sk_launcher.specs.Launching.{Hindered, Hire, HiresAll, HiresOne, IsStarted, office};
-ghost use Rattle.sk_launcher.specs.Teams.{team_of, teams_of};
-ghost use Rattle.sk_launcher.specs.Working.{hired_worker, hired_workers, settings};
-ghost use Rattle.sk_link.specs.Wire.{WireCarries, WireState};
+ghost use Rattle.sk_launcher.specs.Connections.{Gives};
+ghost use Rattle.sk_launcher.specs.Launching.{Hindered};
+ghost use Rattle.sk_launcher.specs.Promises.{Failed, HiresNext, HiresStaff, Starts, Wire, told_by};
+ghost use Rattle.sk_launcher.specs.Working.{settings};
 
 use crate::LaunchFault;
 use crate::processor::Processor;
@@ -36,10 +34,10 @@ pub(crate) fn open_post<N: Door>(
     line: &WorkLine,
     net: &mut N,
 ) -> Result<Post<N>, LaunchFault>
-    ensures given { IfOk result (λ post. Gives (door_tells (N.dialled net.old) (N.kept net.old)) post.conn (door_tells (N.dialled net.new) (N.kept net.new))) }
+    ensures given { IfOk result (λ post. Gives (told_by N.Door net.old) post.conn (told_by N.Door net.new)) }
     ensures post { IfOk result (λ post. (post.ident ≡ line.now.ident) × (post.order ≡ line.now.order)) }
-    ensures err { OnErr result (door_tells (N.dialled net.new) (N.kept net.new) ≡ door_tells (N.dialled net.old) (N.kept net.old)) }
-    ensures cause { IfErr result (λ f. Hindered (Rose (N.door_faults net.old) (N.door_faults net.new)) (f ∷ [])) }
+    ensures err { OnErr result (told_by N.Door net.new ≡ told_by N.Door net.old) }
+    ensures cause { IfErr result (λ f. Hindered (Failed N.Door net.old net.new) (f ∷ [])) }
     ensures later { N.door_faults net.old ≤ N.door_faults net.new }
 {
     let ident = line.ident.copy()?;
@@ -67,8 +65,7 @@ fn start<N: Door, C: Clock>(
     clock: &C,
 ) -> WorkerThread<WireLink<N::Conn>, C, PcgDice>
     requires { (1 ≤ prefetch) × (prefetch ≤ MOST_PREFETCH) }
-    ensures { (h : Hire (WireState N.Conn)) × IsStarted (WireCarries N.Conn.taken N.Conn.left N.Conn.read_faults N.Conn.write_faults) post.conn
-        (settings post.ident post.order prefetch registry.classes) (team_of runs registry) h × (hired_worker C.moments runs result ≡ h.joined) }
+    ensures { Starts (Wire N.Conn.Source N.Conn.Sink) C.Clock runs post.conn (settings post.ident post.order prefetch) registry result }
 {
     let worker = Worker::new(alloc, post.ident, post.order, plain, prefetch as usize);
     let mut thread = WorkerThread {
@@ -98,14 +95,12 @@ fn hire_one<N: Door, C: Clock>(
     requires teams { 0 < length outfit.old.teams.items }
     requires rules { 0 < length outfit.old.rules.items }
     requires dice { 0 < length outfit.old.dice.items }
-    ensures hired { IfOk result (λ worker. HiresOne (WireCarries N.Conn.taken N.Conn.left N.Conn.read_faults N.Conn.write_faults)
-        (settings line.now.ident line.now.order line.now.prefetch)
-        (office (door_tells (N.dialled net.old) (N.kept net.old)) (teams_of runs outfit.old.teams.items)) (hired_worker C.moments runs worker)
-        (office (door_tells (N.dialled net.new) (N.kept net.new)) (teams_of runs outfit.new.teams.items))) }
-    ensures used { OnOk result ((length outfit.new.teams.items + 1 ≡ length outfit.old.teams.items)
-        × (length outfit.new.rules.items + 1 ≡ length outfit.old.rules.items) × (length outfit.new.dice.items + 1 ≡ length outfit.old.dice.items)) }
-    ensures err { OnErr result (((door_tells (N.dialled net.new) (N.kept net.new)) ≡ (door_tells (N.dialled net.old) (N.kept net.old))) × (outfit.new ≡ outfit.old)) }
-    ensures cause { IfErr result (λ f. Hindered (Rose (N.door_faults net.old) (N.door_faults net.new)) (f ∷ [])) }
+    ensures hired { IfOk result (λ w. HiresNext N.Door N.Conn.Source N.Conn.Sink C.Clock runs line.now net.old outfit.old w net.new outfit.new) }
+    ensures teams { OnOk result (length outfit.new.teams.items + 1 ≡ length outfit.old.teams.items) }
+    ensures rules { OnOk result (length outfit.new.rules.items + 1 ≡ length outfit.old.rules.items) }
+    ensures dice { OnOk result (length outfit.new.dice.items + 1 ≡ length outfit.old.dice.items) }
+    ensures err { OnErr result ((told_by N.Door net.new ≡ told_by N.Door net.old) × (outfit.new ≡ outfit.old)) }
+    ensures cause { IfErr result (λ f. Hindered (Failed N.Door net.old net.new) (f ∷ [])) }
     ensures later { N.door_faults net.old ≤ N.door_faults net.new }
 {
     let post = open_post(alloc, line, net)?;
@@ -135,14 +130,11 @@ pub(crate) fn hire_all<N: Door, C: Clock>(
     requires teams { line.now.threads ≤ length outfit.old.teams.items }
     requires rules { line.now.threads ≤ length outfit.old.rules.items }
     requires dice { line.now.threads ≤ length outfit.old.dice.items }
-    ensures hired { HiresAll (WireCarries N.Conn.taken N.Conn.left N.Conn.read_faults N.Conn.write_faults)
-        (settings line.now.ident line.now.order line.now.prefetch)
-        (office (door_tells (N.dialled net.old) (N.kept net.old)) (teams_of runs outfit.old.teams.items)) (hired_workers C.moments runs staff.new.items)
-        (office (door_tells (N.dialled net.new) (N.kept net.new)) (teams_of runs outfit.new.teams.items)) }
+    ensures hired { HiresStaff N.Door N.Conn.Source N.Conn.Sink C.Clock runs line.now net.old outfit.old staff.new net.new outfit.new }
     ensures enough { OnOk result (All (λ w. w.processor.worker.ended ≡ false) staff.new.items → vec_len staff.new ≡ line.now.threads) }
     ensures few { vec_len staff.new ≤ line.now.threads }
     ensures left { length outfit.new.teams.items + vec_len staff.new ≡ length outfit.old.teams.items }
-    ensures cause { IfErr result (λ f. Hindered (Rose (N.door_faults net.old) (N.door_faults net.new)) (f ∷ [])) }
+    ensures cause { IfErr result (λ f. Hindered (Failed N.Door net.old net.new) (f ∷ [])) }
     ensures later { N.door_faults net.old ≤ N.door_faults net.new }
 {
     while staff.len() < line.threads as usize {

@@ -1,17 +1,14 @@
 // The launcher: it makes the connections, starts the poller and the workers, lets them take their turns in threads, and gives everything back.
-ghost use Rattle.std.specs.Prelude.{◌≡◌, ◌≤◌, ◌<◌, ◌+◌, ◌-◌, ◌^◌, ◌∷◌, ◌++◌, [], IfOk, IfErr, OnOk, OnErr, None, false, length, map, option_map, option_to_list, true, vec_len, vec_capacity};
+ghost use Rattle.std.specs.Prelude.{◌≡◌, ◌≤◌, ◌<◌, ◌+◌, ◌-◌, ◌^◌, ◌∷◌, ◌++◌, [], IfOk, IfErr, OnOk, OnErr, None, length, map, option_map, option_to_list, true, vec_len, vec_capacity};
 ghost use Rattle.std.specs.List.{list_all};
-ghost use Rattle.sk_base.specs.Outside.{Rose};
 ghost use Rattle.sk_base.specs.declared.limits.TheConstants.{MOST_PREFETCH, MOST_WORKERS};
 ghost use Rattle.sk_cron.specs.Offset.{IsOffset};
-ghost use Rattle.sk_launcher.specs.Connections.{Gives, Keeping, classes_of, door_tells};
-ghost use Rattle.sk_launcher.specs.Launching.{AllWorked, AreWhole, Employs, HaveAtMost, HaveTaken, Hindered, InThreads, IsAnswer, Launched, Process, hindrance_of, office};
+ghost use Rattle.sk_launcher.specs.Connections.{Gives, Keeping, classes_of};
+ghost use Rattle.sk_launcher.specs.Launching.{Hindered, IsAnswer, hindrance_of};
 ghost use Rattle.sk_launcher.specs.Faults.{by_poll};
-ghost use Rattle.sk_launcher.specs.Polling.{PollState, PollerTurn, own_poller};
-ghost use Rattle.sk_launcher.specs.Turning.{WentOn};
-ghost use Rattle.sk_launcher.specs.Teams.{HaveReturned, done_in, teams_of};
-ghost use Rattle.sk_launcher.specs.Working.{hired_workers, settings};
-ghost use Rattle.sk_link.specs.Wire.{WireCarries, WireState};
+ghost use Rattle.sk_launcher.specs.Polling.{own_poller};
+ghost use Rattle.sk_launcher.specs.Promises.{Begins, DoneByTeams, Employ, Failed, Fills, FillsLine, HasOutfits, HasRoom, Launches, RunsProcess, Wire, Works, WorksThrough, told_by};
+ghost use Rattle.sk_launcher.specs.Teams.{teams_of};
 ghost use Rattle.sk_poller.specs.Loop.{is_loop};
 ghost use Rattle.sk_poller.specs.Stage.{watch_of};
 
@@ -113,13 +110,12 @@ fn make_ready<N: Door, D: Dice>(
 ) -> Result<Ready<N>, LaunchFault>
     requires { line.now.threads ≤ MOST_WORKERS }
     ensures given { IfOk result (λ r. (r.ident ≡ line.now.ident)
-        × Gives (door_tells (N.dialled net.old) (N.kept net.old)) r.conn (door_tells (N.dialled net.new) (N.kept net.new))) }
+        × Gives (told_by N.Door net.old) r.conn (told_by N.Door net.new)) }
     ensures dice { IfOk result (λ r. length r.others.items ≡ line.now.threads) }
     ensures empty { IfOk result (λ r. (r.returns.teams.items ≡ []) × (r.returns.tallies.items ≡ []) × (r.returns.faults.items ≡ [])) }
-    ensures err { OnErr result (door_tells (N.dialled net.new) (N.kept net.new) ≡ door_tells (N.dialled net.old) (N.kept net.old)) }
-    ensures cause { IfErr result (λ f. Hindered (Rose (N.door_faults net.old) (N.door_faults net.new)) (f ∷ [])) }
-    ensures room { IfOk result (λ r. (teams ≤ vec_capacity r.returns.teams) × (line.now.threads ≤ vec_capacity r.returns.tallies)
-        × (line.now.threads + 2 ≤ vec_capacity r.returns.faults)) }
+    ensures err { OnErr result (told_by N.Door net.new ≡ told_by N.Door net.old) }
+    ensures cause { IfErr result (λ f. Hindered (Failed N.Door net.old net.new) (f ∷ [])) }
+    ensures room { IfOk result (λ r. HasRoom teams line.now.threads r.returns) }
     ensures later { N.door_faults net.old ≤ N.door_faults net.new }
 {
     let count = line.threads as usize;
@@ -147,9 +143,7 @@ fn start_poller<N: Door, C: Clock>(
 ) -> PollerThread<WireLink<N::Conn>, C, PcgDice>
     ensures once { result.fault ≡ None → result.taken ≡ 1 }
     ensures most { result.taken ≤ 1 }
-    ensures begun { (fresh : PollState (WireState N.Conn)) × (fresh.link ≡ record { conn = conn; pending = []; ended = false })
-        × (fresh.watch ≡ watch_of poller) × (fresh.taken ≡ 0) × (fresh.fault ≡ None)
-        × WentOn (PollerTurn (WireCarries N.Conn.taken N.Conn.left N.Conn.read_faults N.Conn.write_faults)) fresh (own_poller C.moments result) }
+    ensures begun { Begins (Wire N.Conn.Source N.Conn.Sink) conn (watch_of poller) (own_poller C.moments result) }
 {
     let mut poller = PollerThread {
         poller,
@@ -172,12 +166,9 @@ fn run_threads<R: Threads + Wait + Sync, L: Link + Drop + Send, C: Clock + Send>
     staff: &mut Vec<WorkerThread<L, C, PcgDice>>,
 )
     requires { 0 < vec_len staff.old }
-    ensures worked { InThreads L.carried (own_poller C.moments poller.old) (own_poller C.moments poller.new)
-        (hired_workers C.moments runs staff.old.items) (hired_workers C.moments runs staff.new.items) }
+    ensures worked { Works L.carried C.Clock runs poller.old staff.old poller.new staff.new }
     ensures same { vec_len staff.new ≡ vec_len staff.old }
-    ensures taken { HaveAtMost shared.now.polls shared.now.turns (own_poller C.moments poller.old) (hired_workers C.moments runs staff.old.items)
-        → AreWhole (own_poller C.moments poller.new) (hired_workers C.moments runs staff.new.items)
-        → HaveTaken shared.now.polls shared.now.turns (own_poller C.moments poller.new) (hired_workers C.moments runs staff.new.items) }
+    ensures taken { Fills shared.now.polls shared.now.turns C.Clock runs poller.old staff.old poller.new staff.new }
 {
     run_on(rt, shared, poller, staff.as_mut_slice());
 }
@@ -191,14 +182,9 @@ fn work<R: Threads + Wait + Sync, N: Door, C: Clock + Send>(
     staff: &mut Vec<WorkerThread<WireLink<N::Conn>, C, PcgDice>>,
 )
     requires { 1 ≤ line.now.threads }
-    ensures worked { InThreads (WireCarries N.Conn.taken N.Conn.left N.Conn.read_faults N.Conn.write_faults)
-        (own_poller C.moments poller.old) (own_poller C.moments poller.new)
-        (hired_workers C.moments runs staff.old.items) (hired_workers C.moments runs staff.new.items) }
+    ensures worked { Works (Wire N.Conn.Source N.Conn.Sink) C.Clock runs poller.old staff.old poller.new staff.new }
     ensures same { vec_len staff.new ≡ vec_len staff.old }
-    ensures taken { 0 < line.now.turns → vec_len staff.old ≡ line.now.threads
-        → HaveAtMost 1 0 (own_poller C.moments poller.old) (hired_workers C.moments runs staff.old.items)
-        → AreWhole (own_poller C.moments poller.new) (hired_workers C.moments runs staff.new.items)
-        → HaveTaken (line.now.turns + 1) line.now.turns (own_poller C.moments poller.new) (hired_workers C.moments runs staff.new.items) }
+    ensures taken { vec_len staff.old ≡ line.now.threads → FillsLine line.now C.Clock runs poller.old staff.old poller.new staff.new }
 {
     if staff.len() != line.threads as usize {
         return;
@@ -223,17 +209,11 @@ fn employ<R: Threads + Wait + Sync, N: Door, C: Clock + Send>(
     requires threads { 1 ≤ line.now.threads }
     requires prefetch { (1 ≤ line.now.prefetch) × (line.now.prefetch ≤ MOST_PREFETCH) }
     requires room { (vec_len staff.old ≡ 0) × (line.now.threads ≤ vec_capacity staff.old) }
-    requires outfit { (line.now.threads ≤ length outfit.old.teams.items) × (line.now.threads ≤ length outfit.old.rules.items)
-        × (line.now.threads ≤ length outfit.old.dice.items) }
+    requires outfit { HasOutfits line.now.threads outfit.old }
     requires begun { poller.old.taken ≤ 1 }
-    ensures employed { Employs (WireCarries N.Conn.taken N.Conn.left N.Conn.read_faults N.Conn.write_faults)
-        (settings line.now.ident line.now.order line.now.prefetch) (own_poller C.moments poller.old) (own_poller C.moments poller.new)
-        (office (door_tells (N.dialled net.old) (N.kept net.old)) (teams_of runs outfit.old.teams.items))
-        (office (door_tells (N.dialled net.new) (N.kept net.new)) (teams_of runs outfit.new.teams.items))
-        (hired_workers C.moments runs staff.new.items) }
-    ensures cause { Hindered (Rose (N.door_faults net.old) (N.door_faults net.new)) (hindrance_of result) }
-    ensures all { OnOk result (0 < line.now.turns → AreWhole (own_poller C.moments poller.new) (hired_workers C.moments runs staff.new.items)
-        → AllWorked line.now.threads line.now.turns (own_poller C.moments poller.new) (hired_workers C.moments runs staff.new.items)) }
+    ensures crew { Employ N.Door N.Conn.Source N.Conn.Sink C.Clock runs line.now poller.old poller.new net.old outfit.old net.new outfit.new staff.new }
+    ensures cause { Hindered (Failed N.Door net.old net.new) (hindrance_of result) }
+    ensures all { OnOk result (WorksThrough line.now C.Clock runs poller.new staff.new) }
     ensures few { vec_len staff.new ≤ line.now.threads }
     ensures left { length outfit.new.teams.items + vec_len staff.new ≡ length outfit.old.teams.items }
     ensures later { N.door_faults net.old ≤ N.door_faults net.new }
@@ -253,7 +233,7 @@ fn dismiss_poller<N: Door, C: Clock>(
     faults: &mut Vec<LaunchFault>,
 )
     requires { vec_len faults.old < vec_capacity faults.old }
-    ensures kept { Keeping (door_tells (N.dialled net.old) (N.kept net.old)) poller.link.conn (door_tells (N.dialled net.new) (N.kept net.new)) }
+    ensures kept { Keeping (told_by N.Door net.old) poller.link.conn (told_by N.Door net.new) }
     ensures given { faults.new.items ≡ faults.old.items ++ option_to_list (option_map by_poll poller.fault) }
     ensures few { vec_len faults.new ≤ vec_len faults.old + 1 }
     ensures room { vec_capacity faults.new ≡ vec_capacity faults.old }
@@ -325,20 +305,13 @@ fn run_process<R: Threads + Wait + Sync, N: Door, C: Clock + Send>(
     requires threads { 1 ≤ line.now.threads }
     requires prefetch { (1 ≤ line.now.prefetch) × (line.now.prefetch ≤ MOST_PREFETCH) }
     requires room { (vec_len staff ≡ 0) × (line.now.threads ≤ vec_capacity staff) }
-    requires outfit { (line.now.threads ≤ length outfit.teams.items) × (line.now.threads ≤ length outfit.rules.items)
-        × (line.now.threads ≤ length outfit.dice.items) }
+    requires outfit { HasOutfits line.now.threads outfit }
     requires begun { poller.taken ≤ 1 }
     requires empty { (returns.old.teams.items ≡ []) × (returns.old.tallies.items ≡ []) × (returns.old.faults.items ≡ []) }
-    requires returns { (length outfit.teams.items ≤ vec_capacity returns.old.teams) × (line.now.threads ≤ vec_capacity returns.old.tallies)
-        × (line.now.threads + 2 ≤ vec_capacity returns.old.faults) }
-    ensures process { Process (WireCarries N.Conn.taken N.Conn.left N.Conn.read_faults N.Conn.write_faults)
-        (Rose (N.door_faults net.old) (N.door_faults net.new)) (settings line.now.ident line.now.order line.now.prefetch)
-        line.now.threads line.now.turns (own_poller C.moments poller)
-        (office (door_tells (N.dialled net.old) (N.kept net.old)) (teams_of runs outfit.teams.items))
-        (door_tells (N.dialled net.new) (N.kept net.new)) returns.new.faults.items (map (λ t. t.counts) returns.new.tallies.items) }
+    requires returns { HasRoom (length outfit.teams.items) line.now.threads returns.old }
+    ensures process { RunsProcess N.Door N.Conn.Source N.Conn.Sink C.Clock runs line.now poller net.old outfit net.new returns.new }
     ensures teams { classes_of returns.new.teams.items ≡ classes_of outfit.teams.items }
-    ensures done { returns.new.faults.items ≡ []
-        → HaveReturned (teams_of runs outfit.teams.items) (teams_of runs returns.new.teams.items) (done_in (map (λ t. t.counts) returns.new.tallies.items)) }
+    ensures done { DoneByTeams runs outfit returns.new }
     ensures later { N.door_faults net.old ≤ N.door_faults net.new }
 {
     let hired = employ(
@@ -383,9 +356,7 @@ pub fn launch<R: Threads + Wait + Sync, N: Door, C: Clock + Send, D: Dice>(
     requires prefetch { (1 ≤ line.prefetch) × (line.prefetch ≤ MOST_PREFETCH) }
     requires offset { IsOffset line.offset }
     requires loops { list_all is_loop line.loops.items ≡ true }
-    ensures told { Launched (WireCarries N.Conn.taken N.Conn.left N.Conn.read_faults N.Conn.write_faults)
-        (Rose (N.door_faults net.old) (N.door_faults net.new)) line (door_tells (N.dialled net.old) (N.kept net.old))
-        (door_tells (N.dialled net.new) (N.kept net.new)) (teams_of runs teams.old.items) (teams_of runs teams.new.items) result }
+    ensures told { Launches N.Door N.Conn.Source N.Conn.Sink runs net.old teams.old net.new teams.new line result }
     ensures teams { classes_of teams.new.items ≡ classes_of teams.old.items }
     ensures later { N.door_faults net.old ≤ N.door_faults net.new }
 {

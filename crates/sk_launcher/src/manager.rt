@@ -1,8 +1,8 @@
 // The threads: the poller's and the workers'.
-ghost use Rattle.std.specs.Prelude.{◌≡◌, ◌≤◌, ◌<◌, ◌↔◌, All, IsTrue, None, false, length};
-ghost use Rattle.std.specs.List.{AllZip};
+ghost use Rattle.std.specs.Prelude.{◌≡◌, ◌≤◌, ◌<◌, ◌↔◌, All, IsTrue, false, length};
 ghost use Rattle.sk_launcher.specs.Polling.{PollerAdvances, own_poller};
-ghost use Rattle.sk_launcher.specs.Working.{WorkerAdvances, hired_worker, hired_workers};
+ghost use Rattle.sk_launcher.specs.Promises.{StaffAdvances, TookAll};
+ghost use Rattle.sk_launcher.specs.Working.{WorkerAdvances, hired_worker};
 
 use crate::poller_thread::PollerThread;
 use crate::shared::Shared;
@@ -22,7 +22,7 @@ fn run_workers<R: Threads + Sync, L: Link + Drop + Send, C: Clock + Send>(
     workers: &mut [WorkerThread<L, C, PcgDice>],
 )
     requires { 0 < threads }
-    ensures { AllZip (WorkerAdvances L.carried shared.now.turns) (hired_workers C.moments runs workers.old) (hired_workers C.moments runs workers.new) }
+    ensures { StaffAdvances L.carried C.Clock runs shared.now.turns workers.old workers.new }
 {
     thread::for_each_mut(
         rt,
@@ -49,7 +49,7 @@ fn run_all<
 )
     requires { 0 < length workers.old }
     ensures poller { PollerAdvances P.carried shared.now.polls (own_poller K.moments poller.old) (own_poller K.moments poller.new) }
-    ensures workers { AllZip (WorkerAdvances L.carried shared.now.turns) (hired_workers C.moments runs workers.old) (hired_workers C.moments runs workers.new) }
+    ensures workers { StaffAdvances L.carried C.Clock runs shared.now.turns workers.old workers.new }
 {
     let threads = workers.len();
     thread::join_mut(
@@ -57,8 +57,7 @@ fn run_all<
         &mut || poller.run(shared),
         &mut ||
             requires { 0 < threads }
-            ensures { AllZip (WorkerAdvances L.carried shared.entry.now.turns) (hired_workers C.moments runs workers.entry.now)
-                (hired_workers C.moments runs workers.exit.now) }
+            ensures { StaffAdvances L.carried C.Clock runs shared.entry.now.turns workers.entry.now workers.exit.now }
         { run_workers(rt, shared, threads, workers) },
     );
 }
@@ -93,10 +92,9 @@ pub(crate) fn run_on<R: Threads + Wait + Sync, L: Link + Drop + Send, C: Clock +
 )
     requires { 0 < length workers.old }
     ensures poller { PollerAdvances L.carried shared.now.polls (own_poller C.moments poller.old) (own_poller C.moments poller.new) }
-    ensures workers { AllZip (WorkerAdvances L.carried shared.now.turns) (hired_workers C.moments runs workers.old) (hired_workers C.moments runs workers.new) }
+    ensures workers { StaffAdvances L.carried C.Clock runs shared.now.turns workers.old workers.new }
     ensures same { length workers.new ≡ length workers.old }
-    ensures all { poller.new.fault ≡ None → All (λ w. w.processor.worker.ended ≡ false) workers.new
-        → (shared.now.polls ≤ poller.new.taken) × All (λ w. shared.now.turns ≤ w.processor.tally.taken) workers.new }
+    ensures all { TookAll shared.now.polls shared.now.turns poller.new workers.new }
 {
     run_all(rt, shared, poller, workers);
     for _ in rt.forever() {

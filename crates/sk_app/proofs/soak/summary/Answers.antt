@@ -1,6 +1,6 @@
 use Rattle.std.proofs.Common.{◌≡◌, ◌∙◌, Ok, ap, subst, sym}
 use Rattle.sk_drill.specs.SoakText.{soak_text}
-use Rattle.sk_drill.specs.Soaked.{IsSoak}
+use Rattle.sk_drill.specs.Soaked.{IsSummaryOf}
 use Rattle.sk_app.specs.Soaking.{Soaks, soaked}
 use Rattle.sk_app.proofs.SoakRuns.{no_memory}
 use Rattle.sk_app.proofs.soak.summary.Goals as goal
@@ -17,4 +17,4 @@ returns-clause-told c =
     let summary = c.in_ok-summary.summary in
     let jobs : c.from-jobs.result ≡ c.args.line.jobs = c.from-jobs.ensures in
     let text : c.in_ok-write_soak.field-0 ≡ soak_text seed c.args.line.jobs summary = c.in_ok-write_soak.ensures ∙ ap (λ n. soak_text seed n summary) jobs in
-    subst (λ t. Soaks c.args.line (Ok t)) (sym text) (soaked summary (subst (λ n. IsSoak seed n summary) jobs c.in_ok-summary.ensures.run))
+    subst (λ t. Soaks c.args.line (Ok t)) (sym text) (soaked summary (subst (λ n. IsSummaryOf seed n summary) jobs c.in_ok-summary.ensures.run))

@@ -1,4 +1,7 @@
-use Rattle.std.proofs.Common.{◌∙◌, [], refl, rules}
+use Rattle.std.proofs.Common.{◌∙◌, [], arith, refl, rules, sym}
+use Rattle.std.proofs.lemmas.Iterator.Adapters.{YieldsList-from_vec}
+use Rattle.std.proofs.lemmas.Iterator.Consumers.{YieldsList-end}
+use Rattle.std.proofs.lemmas.List.{map-id}
 use Rattle.sk_launcher.specs.Connections.{none}
 use Rattle.sk_launcher.proofs.Leaving.{gone_more, nobody_returned}
 use Rattle.sk_launcher.proofs.dismiss.dismiss_all.Goals as goal
@@ -29,3 +32,13 @@ loop-worker-preserved g c =
       some_faults = search rules;
       same = one.faults ∙ i.same;
     }
+
+pub returns-clause-gone : goal.returns-clause-gone
+returns-clause-gone g c =
+    let i = c.loop-worker.invariant.gone in
+    let gives = c.into_iter-worker-iterator.ensures.into_iter_gives in
+    let road = YieldsList-from_vec c.args.staff.items gives.0 (omega (arith, gives.1)) in
+    let ended = YieldsList-end road c.loop-worker.yielded c.loop-worker.worker-iterator c.loop-worker.yielded_by
+    c.next.result c.next.new.self c.in-None.is c.next.ensures.steps in
+    let all = sym (map-id c.loop-worker.yielded) ∙ ended.0 in
+    (i.0, rw all at i.1, i.2, i.3)

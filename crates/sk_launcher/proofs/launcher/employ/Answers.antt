@@ -6,8 +6,8 @@ use Rattle.sk_launcher.proofs.Employed.{all_placed, back, none_taken, on_ok, sto
 use Rattle.sk_launcher.proofs.Hiring.{empty_staff}
 use Rattle.sk_launcher.proofs.launcher.employ.Goals as goal
 
-pub returns-then-is_some-clause-employed : goal.returns-then-is_some-clause-employed
-returns-then-is_some-clause-employed g c =
+pub returns-then-is_some-clause-crew : goal.returns-then-is_some-clause-crew
+returns-then-is_some-clause-crew g c =
     let nobody = empty_staff (hired_worker g.C.Clock.moments (λ v. (goal.Job-dyn g v).runs v.1)) c.args.staff.now.items (omega (arith, c.requires.room)) in
     record {
       hired = [];
@@ -26,5 +26,5 @@ returns-clause-all g c =
     record {
       some = some;
       all = omega (arith, length-map new (hired_worker moments (λ v. (goal.Job-dyn g v).runs v.1)), c.work.ensures.same, all);
-      taken = c.work.ensures.taken some all (c.requires.begun, none_taken _ _ _ _ _ c.hire_all-hired.ensures.hired) whole;
+      taken = c.work.ensures.taken all some (c.requires.begun, none_taken _ _ _ _ _ c.hire_all-hired.ensures.hired) whole;
     })

@@ -29,7 +29,7 @@ returns-clause-process g c =
       done = own_poller moments c.employ-hired.new.poller;
       worked = hired_workers moments (λ v. (goal.Job-dyn g v).runs v.1) c.employ-hired.new.staff.items;
       door_then = door_tells (g.N.Door.dialled c.dismiss_poller.new.net) (g.N.Door.kept c.dismiss_poller.new.net);
-      employed = employed.employed;
+      employed = employed.crew;
       gone = gone;
       leaving_them = zip;
       kept_first = c.dismiss_poller.ensures.kept;
@@ -39,7 +39,7 @@ returns-clause-process g c =
           (sym (c.dismiss_all.ensures.faults ∙ c.dismiss_poller.ensures.faults)) employed.cause;
       faults_are = are;
       counts_are = ap (map (λ t. t.counts)) (left.3.tallies ∙ ap (λ xs. xs ++ map (λ w. w.tally) gone) c.requires.empty.1) ∙ mapped (λ w. w.tally) (λ t. t.counts) gone;
-      all = all_worked _ _ c.args.line.now.threads c.args.line.now.turns _ _ _ _ _ gone result faults_now employed.employed zip are employed.all;
+      all = all_worked _ _ c.args.line.now.threads c.args.line.now.turns _ _ _ _ _ gone result faults_now employed.crew zip are employed.all;
     }
 
 pub returns-clause-teams : goal.returns-clause-teams
@@ -50,7 +50,7 @@ returns-clause-teams g c =
     let zip = zip_seen _ (hired_worker moments (λ v. (goal.Job-dyn g v).runs v.1)) c.employ-hired.new.staff.items left.0 left.1 in
     sym (mapped (team_of (λ v. (goal.Job-dyn g v).runs v.1)) classes c.return_teams.new.teams.items)
     ∙ ap (map classes) (teams_now _ _ _ _ _ c.return_teams.ensures left.3.teams (ap (teams_of (λ v. (goal.Job-dyn g v).runs v.1)) c.requires.empty.0))
-    ∙ teams_back _ _ (λ classes. refl) _ _ _ _ _ left.0 c.employ-hired.ensures.employed zip
+    ∙ teams_back _ _ (λ classes. refl) _ _ _ _ _ left.0 c.employ-hired.ensures.crew zip
     ∙ mapped (team_of (λ v. (goal.Job-dyn g v).runs v.1)) classes c.args.outfit.teams.items
 
 pub returns-clause-done : goal.returns-clause-done
@@ -64,4 +64,4 @@ returns-clause-done g c = λ no_fault.
     let counts = ap (map (λ t. t.counts)) (left.3.tallies ∙ ap (λ xs. xs ++ map (λ w. w.tally) gone) c.requires.empty.1) ∙ mapped (λ w. w.tally) (λ t. t.counts) gone in
     subst (λ n. HaveReturned (teams_of (λ v. (goal.Job-dyn g v).runs v.1) c.args.outfit.teams.items) (teams_of (λ v. (goal.Job-dyn g v).runs v.1) c.return_teams.new.teams.items) n) (ap done_in (sym counts))
     (subst (λ ts. HaveReturned (teams_of (λ v. (goal.Job-dyn g v).runs v.1) c.args.outfit.teams.items) ts (done_in (map (λ w. w.tally.counts) gone))) (sym now)
-    (teams_returned _ _ _ _ _ _ _ gone c.employ-hired.ensures.employed zip none))
+    (teams_returned _ _ _ _ _ _ _ gone c.employ-hired.ensures.crew zip none))

@@ -11,13 +11,13 @@ pub returns-then-not-are_whole-clause-worked : goal.returns-then-not-are_whole-c
 returns-then-not-are_whole-clause-worked g c = stood_still _ _ _
 
 pub returns-then-not-are_whole-clause-taken : goal.returns-then-not-are_whole-clause-taken
-returns-then-not-are_whole-clause-taken g c = λ some same most whole.
+returns-then-not-are_whole-clause-taken g c = λ same some most whole.
     let moments = g.C.Clock.moments in
     let all = all_placed (λ w. w.ended ≡ false) (hired_worker moments (λ v. (goal.Job-dyn g v).runs v.1)) c.args.staff.now.items whole.1 in
     absurd (true≢false (sym (c.are_whole.ensures (rw c.deref.ensures.value all)) ∙ c.if-not-are_whole.true))
 
 pub returns-clause-taken : goal.returns-clause-taken
-returns-clause-taken g c = λ some same most whole.
+returns-clause-taken g c = λ same some most whole.
     let moments = g.C.Clock.moments in
     let line = c.args.line.now in
     let turns = c.new.ensures.turns ∙ c.turns_of.ensures.is some in

@@ -1,0 +1,126 @@
+-- What the programs promise, by the traits of the sink, of the door and its connections, of the clock and of the dice.
+use denote.Param.Members.{Mut}
+use Rattle.std.specs.Prelude.{◌≡◌, ◌≢◌, ◌⊎◌, ◌∷◌, [], ℕ, List, Option, Some, Result, IfOk, map, string_bytes, vec_len}
+use Rattle.std.specs.declared.alloc.Global.{Global}
+use Rattle.std.specs.declared.string.String.{String}
+use Rattle.std.specs.declared.vec.Vec.{Vec}
+use Rattle.sk_base.specs.Outside.{Rose}
+use Rattle.sk_base.specs.Yields.{Yields, YieldsAll}
+use Rattle.sk_base.specs.declared.clock.Clock as a_clock
+use Rattle.sk_base.specs.declared.dice.Dice as a_dice
+use Rattle.sk_base.specs.declared.sink.Sink as a_sink
+use Rattle.sk_base.specs.declared.source.Source as a_source
+use Rattle.sk_edge.specs.declared.door.Door as a_door
+use Rattle.sk_resp.specs.Spelling.{Bytes}
+use Rattle.sk_launcher.specs.Promises.{Launches}
+use Rattle.sk_line.specs.Lines.{IsServe, IsStatus}
+use Rattle.sk_line.specs.Work.{IsWork}
+use Rattle.sk_line.specs.declared.push_line.PushLine.{PushLine}
+use Rattle.sk_line.specs.declared.serve_line.ServeLine.{ServeLine}
+use Rattle.sk_line.specs.declared.status_line.StatusLine.{StatusLine}
+use Rattle.sk_line.specs.declared.work_line.WorkLine.{WorkLine}
+use Rattle.sk_middle.specs.declared.chain.Through.{Through}
+use Rattle.sk_payload.specs.declared.draft.JobDraft.{JobDraft}
+use Rattle.sk_pipe.specs.Run.{Completes, IsPiped, shipped, status_of}
+use Rattle.sk_pipe.specs.declared.pipe_end.PipeEnd.{PipeEnd}
+use Rattle.sk_serve.specs.Server.{HasFailed}
+use Rattle.sk_worker.specs.Run.{Run}
+use Rattle.sk_worker.specs.declared.registry.Registry.{Registry}
+use Rattle.sk_app.specs.Completing.{DoneOr, PushHindered, ServeHindered, StatusHindered, WorkHindered}
+use Rattle.sk_app.specs.Dialogue.{Dials}
+use Rattle.sk_app.specs.Jobs.{Draws, IsJob}
+use Rattle.sk_app.specs.Paging.{Asks, StatusRun}
+use Rattle.sk_app.specs.Programs.{program_of}
+use Rattle.sk_app.specs.Pushing.{PushRun, Pushes}
+use Rattle.sk_app.specs.Serving.{ServeRun}
+use Rattle.sk_app.specs.Working.{WorkRun}
+use Rattle.sk_app.specs.declared.failure.Failure.{Failure}
+use Rattle.sk_app.specs.declared.job.PushJob.{PushJob}
+use Rattle.sk_app.specs.declared.program.Program.{Program}
+
+-- ## The words of a command line
+
+abbrev pub texts : {A : Type 0} → List (String A) → List Bytes
+texts words = map string_bytes words
+
+-- The first word names the program.
+abbrev pub Names : {A : Type 0} → List (String A) → Program → Type 0
+Names words program = program_of (texts words) ≡ Some program
+
+-- ## pipe
+
+-- The source was piped to the sink, and the status tells how that ended.
+abbrev pub Pipes : {S K : Type 0} → a_source.Ghosts S → a_sink.Ghosts K → S → K → S → K → ℕ → Type 0
+Pipes Source Sink source sink source_after sink_after status = (end : PipeEnd) × (status ≡ status_of end)
+    × IsPiped shipped Source.left Source.read_faults Sink.taken Sink.write_faults source source_after sink sink_after end
+
+-- Input that is commands end to end is done to its end, or to a QUIT or SHUTDOWN, where neither count of faults rises.
+abbrev pub PipeDone : {S K : Type 0} → a_source.Ghosts S → a_sink.Ghosts K → S → K → S → K → ℕ → Type 0
+PipeDone Source Sink source sink source_after sink_after status = Completes (Source.left source)
+    (Rose (Source.read_faults source) (Source.read_faults source_after) ⊎ Rose (Sink.write_faults sink) (Sink.write_faults sink_after)) status
+
+-- ## serve
+
+-- The door, or an ear of so many loops, failed. (What an ear tells of its faults is given as a function.)
+abbrev pub ServerFails : {N Conn Ear : Type 0} → a_door.Ghosts N Conn Ear → (Ear → ℕ) → N → N → ℕ → Type 0
+ServerFails Door ear_faults net net_after loops = HasFailed Door.door_faults Door.gathered ear_faults loops net net_after
+
+-- What `serve` did for these words, and came to.
+abbrev pub DoServe : {N Conn Ear A : Type 0} → a_door.Ghosts N Conn Ear → (Ear → ℕ) → List (String A) → N → N → Result Bytes Failure → Type 0
+DoServe Door ear_faults words net net_after outcome = ServeRun (texts words) (net_after ≡ net) (λ loops. ServerFails Door ear_faults net net_after loops) outcome
+
+-- A line of `serve` is done, unless the door or an ear fails or seats are used up, where the sink takes the summary.
+abbrev pub ServeDone : {N Conn Ear A : Type 0} → a_door.Ghosts N Conn Ear → (Ear → ℕ) → List (String A) → N → N → ℕ → Type 0
+ServeDone Door ear_faults words net net_after status = (line : ServeLine) → IsServe (texts words) line → status ≢ 4 →
+    DoneOr (ServeHindered (texts words) (λ loops. ServerFails Door ear_faults net net_after loops)) status
+
+-- ## work
+
+module _ {Rule Job : Type 0} {OfRule : Rule → Type 0} {OfJob : Job → Type 0} {Delays : Mut ((rule : Rule) × OfRule rule) (ℕ × Unit {0}) ℕ} where
+  -- What `work` did for these words with a door and teams, and came to.
+  abbrev pub DoWork : {N Conn Ear A : Type 0} → a_door.Ghosts N Conn Ear → a_source.Ghosts Conn → a_sink.Ghosts Conn →
+      ((job : Job) × OfJob job → Option (List Run)) → List (String A) → N → Vec (Registry Job Rule OfJob OfRule Delays) Global →
+      N → Vec (Registry Job Rule OfJob OfRule Delays) Global → Result Bytes Failure → Type 0
+  DoWork Door Source Sink runs words net teams net_after teams_after outcome =
+      WorkRun (vec_len teams) (texts words) ((net_after ≡ net) × (teams_after ≡ teams))
+      (λ line how. Launches Door Source Sink runs net teams net_after teams_after line how) outcome
+
+  -- A line of `work` is done, unless a fault ends its turns, where the sink takes the counts.
+  abbrev pub WorkDone : {N Conn Ear A : Type 0} → a_door.Ghosts N Conn Ear → a_source.Ghosts Conn → a_sink.Ghosts Conn →
+      ((job : Job) × OfJob job → Option (List Run)) → List (String A) → N → Vec (Registry Job Rule OfJob OfRule Delays) Global →
+      N → Vec (Registry Job Rule OfJob OfRule Delays) Global → ℕ → Type 0
+  WorkDone Door Source Sink runs words net teams net_after teams_after status = (line : WorkLine) → IsWork (vec_len teams) (texts words) line →
+      status ≢ 4 → DoneOr (WorkHindered (vec_len teams) (texts words)
+      (λ line how. Launches Door Source Sink runs net teams net_after teams_after line how)) status
+
+-- ## push
+
+-- The clock and the dice gave what the line's job is made of.
+abbrev pub MakesJob : {C D E : Type 0} → a_clock.Ghosts C → a_dice.Ghosts D → C → D → C → D → PushLine → Result PushJob E → Type 0
+MakesJob Clock Dice clock dice clock_after dice_after line made = (now_ first second : ℕ)
+    × Yields (Clock.moments clock) now_ (Clock.moments clock_after)
+    × YieldsAll (Dice.words dice) (first ∷ second ∷ []) (Dice.words dice_after) × IfOk made (IsJob line now_ first second)
+
+-- What `push` did for these words by a chain, and came to.
+abbrev pub DoPush : {N Conn Ear C D A : Type 0} → a_door.Ghosts N Conn Ear → a_source.Ghosts Conn → a_sink.Ghosts Conn → a_clock.Ghosts C → a_dice.Ghosts D →
+    List (String A) → (JobDraft → Through → Type 0) → N → C → D → N → C → D → Result Bytes Failure → Type 0
+DoPush Door Source Sink Clock Dice words Applied net clock dice net_after clock_after dice_after outcome = PushRun (texts words) (net_after ≡ net)
+    (Draws Clock Dice clock dice clock_after dice_after) Applied
+    (λ job outcome. Dials Door Source Sink net net_after (λ carried. Pushes carried job) outcome) outcome
+
+-- A job is pushed, held or stopped, unless the door fails or its request isn't answered, where the sink takes what is told.
+abbrev pub PushDone : {N Conn Ear : Type 0} → a_door.Ghosts N Conn Ear → a_source.Ghosts Conn → a_sink.Ghosts Conn → N → N → ℕ → Type 0
+PushDone Door Source Sink net net_after status = status ≢ 2 → status ≢ 4 → DoneOr (PushHindered Door Source Sink net net_after) status
+
+-- ## status
+
+-- What `status` did for these words, and came to.
+abbrev pub DoStatus : {N Conn Ear A : Type 0} → a_door.Ghosts N Conn Ear → a_source.Ghosts Conn → a_sink.Ghosts Conn → List (String A) → N → N →
+    Result Bytes Failure → Type 0
+DoStatus Door Source Sink words net net_after outcome = StatusRun (texts words) (net_after ≡ net) (Dials Door Source Sink net net_after Asks) outcome
+
+-- A line of `status` is done, unless the door fails or its request gets no page, where the sink takes the page.
+abbrev pub StatusDone : {N Conn Ear A : Type 0} → a_door.Ghosts N Conn Ear → a_source.Ghosts Conn → a_sink.Ghosts Conn → List (String A) → N → N →
+    ℕ → Type 0
+StatusDone Door Source Sink words net net_after status = (line : StatusLine) → IsStatus (texts words) line → status ≢ 4 →
+    DoneOr (StatusHindered Door Source Sink net net_after) status
