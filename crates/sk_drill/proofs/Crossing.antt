@@ -14,6 +14,7 @@ use Rattle.sk_desk.specs.contracts.entry.Entry as Entry
 use Rattle.sk_desk.specs.contracts.full_book.CutPlace as CutPlace
 use Rattle.sk_desk.specs.contracts.full_book.FullBook as FullBook
 use Rattle.sk_desk.specs.contracts.hub.Hub as Hub
+use Rattle.sk_desk.specs.contracts.ledgers.HubShare as HubShare
 use Rattle.sk_desk.specs.contracts.locked_desk.LockedDesk as LockedDesk
 use Rattle.sk_desk.specs.contracts.pass.Pass as Pass
 use Rattle.sk_lane.specs.contracts.hub_seats.HubSeats as HubSeats
@@ -33,14 +34,17 @@ book_send = search (sendable, crosses, list_send, entry_send) depth 60 fits 8000
 pub place_send : IsSend CutPlace.the_field.row
 place_send = search (sendable, crosses, list_send, entry_send) depth 60 fits 8000
 
+hub_share_send : (L : RattleType) (l : _) → IsSend L → IsSync L → IsSend (HubShare.the_field L l).row
+hub_share_send L l s y = search (sendable, crosses, share_send) depth 60 fits 5000
+
 pub hub_sync : (L B P : RattleType) (l : _) (b : _) → IsSend B → IsSync (Hub.the_field L B P l b).row
 hub_sync L B P l b sends = search (sendable, crosses, core_send, ledger_send) depth 60 fits 5000
 
 pass_send : (L : RattleType) (l : _) → IsSend L → IsSync L → IsSend (Pass.the_field L l).row
-pass_send L l s y = search (sendable, share_send) depth 60 fits 5000
+pass_send L l s y = search (sendable, hub_share_send) depth 60 fits 5000
 
 pub seats_send : (a : _) (R L B P : RattleType) (l : _) (b : _) → IsSync R → IsSend L → IsSync L → IsSend B → IsSend (HubSeats.the_field a R L B P l b).row
 seats_send a R L B P l b r s y sends = search (sendable, crosses, hub_sync, pass_send) depth 60 fits 5000
 
 pub desk_send : (a : _) (R L B P : RattleType) (l : _) (b : _) → IsSync R → IsSend L → IsSync L → IsSend B → IsSend P → IsSend (LockedDesk.the_field a R L B P l b).row
-desk_send a R L B P l b r s y sends place = search (sendable, crosses, hub_sync, share_send) depth 60 fits 5000
+desk_send a R L B P l b r s y sends place = search (sendable, crosses, hub_sync, hub_share_send) depth 60 fits 5000
