@@ -1,5 +1,5 @@
 // A drill, as a row says.
-ghost use Rattle.std.specs.Prelude.{◌≡◌, ◌≤◌, OnOk, vec_len};
+ghost use Rattle.std.specs.Prelude.{◌≤◌};
 
 use crate::job::Counted;
 use crate::number::{count, invalid, number};
@@ -52,51 +52,21 @@ impl<'a> DrillRow<'a> {
     }
 }
 
-// Adds the class, whose job counts its runs there.
-fn add(
+// The team of a worker, which has this job and rule where it has the class.
+fn team(
     alloc: Global,
-    team: &mut Registry,
-    class: &str,
-    runs: Arc<AtomicU64, Global>,
-) -> io::Result<()> {
-    let job: Box<dyn Job + Send> = Box::new(alloc, Counted { runs })?;
-    let delay: Box<dyn Fn(u32) -> u64 + Send> = Box::new(alloc, |count: u32| plain_delay(count))?;
-    let class = Text::new(String::from_str(alloc, class)?);
-    match team.add(class, job, DelayRule::new(delay)) {
-        Ok(()) => Ok(()),
+    class: Option<&str>,
+    job: Box<dyn Job + Send>,
+    delay: DelayRule,
+) -> io::Result<Registry> {
+    let mut team = Registry::new(alloc);
+    let Some(name) = class else {
+        return Ok(team);
+    };
+    match team.add(Text::new(String::from_str(alloc, name)?), job, delay) {
+        Ok(()) => Ok(team),
         Err(_) => Err(invalid()),
     }
-}
-
-// The team of a worker.
-fn team(alloc: Global, class: Option<&str>, runs: &Arc<AtomicU64, Global>) -> io::Result<Registry> {
-    let mut team = Registry::new(alloc);
-    if let Some(class) = class {
-        add(alloc, &mut team, class, Arc::try_clone(runs)?)?;
-    }
-    Ok(team)
-}
-
-// Adds a team and a plain rule for each worker.
-fn add_teams(
-    alloc: Global,
-    row: &DrillRow<'_>,
-    runs: &Arc<AtomicU64, Global>,
-    teams: &mut Vec<Registry>,
-    rules: &mut Vec<DelayRule>,
-) -> io::Result<()>
-    requires { (vec_len teams.old ≡ 0) × (vec_len rules.old ≡ 0) }
-    ensures { OnOk result ((vec_len teams.new ≡ row.now.workers) × (vec_len rules.new ≡ row.now.workers)) }
-{
-    for _worker in 0..row.workers {
-        let plain: Box<dyn Fn(u32) -> u64 + Send> = Box::new(
-            alloc,
-            |count: u32| plain_delay(count),
-        )?;
-        teams.push(team(alloc, row.class, runs)?)?;
-        rules.push(DelayRule::new(plain))?;
-    }
-    Ok(())
 }
 
 /// What comes of the row.
@@ -108,7 +78,19 @@ pub fn play<R: Threads + Wait + Sync>(
     let runs = Arc::new(alloc, AtomicU64::new(0))?;
     let mut teams = Vec::new(alloc);
     let mut rules = Vec::new(alloc);
-    add_teams(alloc, row, &runs, &mut teams, &mut rules)?;
+    for _worker in 0..row.workers {
+        let counted = Counted {
+            runs: Arc::try_clone(&runs)?,
+        };
+        let job: Box<dyn Job + Send> = Box::new(alloc, counted)?;
+        let own: Box<dyn Fn(u32) -> u64 + Send> = Box::new(alloc, |count: u32| plain_delay(count))?;
+        let plain: Box<dyn Fn(u32) -> u64 + Send> = Box::new(
+            alloc,
+            |count: u32| plain_delay(count),
+        )?;
+        teams.push(team(alloc, row.class, job, DelayRule::new(own))?)?;
+        rules.push(DelayRule::new(plain))?;
+    }
     let end = drill(
         rt,
         alloc,

@@ -8,10 +8,10 @@ use std::io;
 
 // How many entries of the journal cut a seat off.
 fn cuts(book: &FullBook) -> u64 {
-    let mut cuts = 0;
+    let mut cuts = 0u64;
     for entry in book.entries() {
         if let Deed::Cut = entry.deed {
-            cuts += 1;
+            cuts = cuts.saturating_add(1);
         }
     }
     cuts
