@@ -52,23 +52,6 @@ impl<'a> DrillRow<'a> {
     }
 }
 
-// The team of a worker, which has this job and rule where it has the class.
-fn team(
-    alloc: Global,
-    class: Option<&str>,
-    job: Box<dyn Job + Send>,
-    delay: DelayRule,
-) -> io::Result<Registry> {
-    let mut team = Registry::new(alloc);
-    let Some(name) = class else {
-        return Ok(team);
-    };
-    match team.add(Text::new(String::from_str(alloc, name)?), job, delay) {
-        Ok(()) => Ok(team),
-        Err(_) => Err(invalid()),
-    }
-}
-
 /// What comes of the row.
 pub fn play<R: Threads + Wait + Sync>(
     rt: &R,
@@ -79,16 +62,26 @@ pub fn play<R: Threads + Wait + Sync>(
     let mut teams = Vec::new(alloc);
     let mut rules = Vec::new(alloc);
     for _worker in 0..row.workers {
-        let counted = Counted {
-            runs: Arc::try_clone(&runs)?,
-        };
-        let job: Box<dyn Job + Send> = Box::new(alloc, counted)?;
-        let own: Box<dyn Fn(u32) -> u64 + Send> = Box::new(alloc, |count: u32| plain_delay(count))?;
+        let mut team = Registry::new(alloc);
+        if let Some(name) = row.class {
+            let counted = Counted {
+                runs: Arc::try_clone(&runs)?,
+            };
+            let job: Box<dyn Job + Send> = Box::new(alloc, counted)?;
+            let own: Box<dyn Fn(u32) -> u64 + Send> = Box::new(
+                alloc,
+                |count: u32| plain_delay(count),
+            )?;
+            let class = Text::new(String::from_str(alloc, name)?);
+            if team.add(class, job, DelayRule::new(own)).is_err() {
+                return Err(invalid());
+            }
+        }
         let plain: Box<dyn Fn(u32) -> u64 + Send> = Box::new(
             alloc,
             |count: u32| plain_delay(count),
         )?;
-        teams.push(team(alloc, row.class, job, DelayRule::new(own))?)?;
+        teams.push(team)?;
         rules.push(DelayRule::new(plain))?;
     }
     let end = drill(
