@@ -52,10 +52,11 @@ def show(name, events, took):
 def instructions(jobs):
     """How many instructions an event of a soak takes."""
     with tempfile.TemporaryDirectory() as folder:
-        came = subprocess.run(['valgrind', '--tool=callgrind', f'--callgrind-out-file={folder}/out', PROGRAM, 'soak', '7', str(jobs)],
-                              stdout=subprocess.PIPE, stderr=subprocess.PIPE, check=True)
+        came = subprocess.run(['valgrind', '--tool=callgrind', '--trace-children=yes', f'--callgrind-out-file={folder}/out.%p',
+                               PROGRAM, 'soak', '7', str(jobs)], stdout=subprocess.PIPE, stderr=subprocess.PIPE, check=True)
     events = int(re.search(rb'events (\d+)', came.stdout)[1])
-    each = int(re.search(rb'refs:\s+([\d,]+)', came.stderr)[1].replace(b',', b'')) / events
+    # The program's own count is the last: bin/sidekiq ends by starting it in its own place.
+    each = int(re.findall(rb'refs:\s+([\d,]+)', came.stderr)[-1].replace(b',', b'')) / events
     print('soak 7 %-25d %9d events  %6.0f instructions each' % (jobs, events, each), flush=True)
     return each
 
