@@ -1,12 +1,14 @@
-// Where the row at an end of a place stands, and where the first of a text.
+// Where the row at an end of a place stands and where the first of a text, and whether a push is fresh.
 ghost use Rattle.std.specs.Prelude.{◌≡◌, ◌+◌, ◌<◌, ◌≤◌, IfSome, MatchOption, None, length};
 ghost use Rattle.sk_cmd.specs.declared.argument.Side.TheVariants.{Left};
+ghost use Rattle.sk_payload.specs.Head.{jid_of};
 ghost use Rattle.sk_places.specs.RowLists.{start_of};
-ghost use Rattle.sk_places.specs.Rows.{row_at_end, row_of, rows_at};
+ghost use Rattle.sk_places.specs.Rows.{is_fresh, row_at_end, row_of, rows_at};
 ghost use Rattle.sk_places.specs.Segments.{StandsAt};
 
 use crate::{Place, Rows};
 use sk_cmd::Side;
+use sk_payload::Payload;
 
 /// The index at a place of the row at an end of it.
 pub fn find_end(rows: &Rows, place: &Place, side: Side) -> Option<usize>
@@ -31,4 +33,14 @@ pub fn find_text(rows: &Rows, place: &Place, text: &[u8]) -> Option<usize>
     let len = rows.len_at(place);
     let at = rows.position_of(place, text);
     if at < len { Some(at) } else { None }
+}
+
+/// Whether a push of the payload's job is fresh: no row names it, and it isn't held in a worker's hands. True where it names none.
+pub fn is_fresh(rows: &Rows, payload: &Payload, held: bool) -> bool
+    ensures { IfSome (jid_of payload.now) (λ jid. result ≡ is_fresh held rows.now.current jid) }
+{
+    match payload.head() {
+        Some(head) => rows.count_of(head.jid.text().as_bytes()) == 0 && !held,
+        None => true,
+    }
 }

@@ -12,7 +12,7 @@ ghost use Rattle.sk_places.specs.Ends.{ended_of, texts_of};
 ghost use Rattle.sk_places.specs.Entries.{as_row, shifted};
 ghost use Rattle.sk_places.specs.RowLists.{is_list, listed, rows_in, start_of};
 ghost use Rattle.sk_places.specs.Order.{bytes_of, is_ordered};
-ghost use Rattle.sk_places.specs.Rows.{is_fresh, is_private, next_ident, pair_of, put_row, rows_at, rows_of};
+ghost use Rattle.sk_places.specs.Rows.{is_private, next_ident, pair_of, put_row, rows_at, rows_of};
 ghost use Rattle.sk_places.specs.Scores.{HasRange};
 ghost use Rattle.sk_places.specs.declared.row.Place.TheVariants.{Set};
 ghost use Rattle.sk_zset.specs.Bounds.{is_below};
@@ -20,7 +20,7 @@ ghost use Rattle.sk_places.specs.Segments.{is_text};
 ghost use Rattle.sk_places.specs.RowFilter.{selects};
 ghost use Rattle.sk_resp.specs.WordOrder.{is_member};
 
-use crate::index::{JobIndex, add_job, add_job_at, drop_job, find_job, take_job};
+use crate::index::{JobIndex, add_job, drop_job, take_job};
 use crate::job_key::{JobKey, OfJob};
 use crate::row::{Place, RowKey};
 use crate::row_filter::RowFilter;
@@ -255,7 +255,7 @@ impl Rows {
         self.lists.texts(alloc, place, start, end)
     }
 
-    /// A row is pushed to an end of its place, and that counts in `jobs`: its job is fresh, where no row names it and it isn't held.
+    /// A row is pushed to an end of its place, and that counts in `jobs`: its job is fresh, or isn't.
     pub fn push(
         &mut self,
         row_key: RowKey,
@@ -263,11 +263,11 @@ impl Rows {
         end: Side,
         jobs: &mut LiveJobs,
         from: Origin,
-        held: bool,
+        fresh: bool,
     ) -> Result<(), Memory>
         requires { IsCountable from jobs.old.current.totals }
         ensures ok { OnOk result (self.new ≡ edited (put_row end (as_row (row_key, payload)) self.old.current) self.old) }
-        ensures jobs { OnOk result (jobs.new ≡ edited (pushed from (is_fresh held self.old.current) payload jobs.old.current) jobs.old) }
+        ensures jobs { OnOk result (jobs.new ≡ edited (pushed from (λ jid. fresh) payload jobs.old.current) jobs.old) }
         ensures err { OnErr result (self.new ≡ self.old) }
         ensures jobs_err { OnErr result (jobs.new ≡ jobs.old) }
     {
@@ -275,15 +275,14 @@ impl Rows {
             return Err(Memory);
         }
         let job = JobKey::of(&payload)?;
-        let seen = find_job(&self.index, &job);
         let key = key_of(&row_key, &payload)?;
         self.lists.prepare(&row_key.place, 1)?;
         self.index.reserve(1)?;
         self.text_index.reserve(1)?;
-        jobs.push(&payload, from, seen.is_fresh(held))?;
+        jobs.push(&payload, from, fresh)?;
         self.size = raised(self.size, payload.text());
         self.lists.put(row_key, payload, end);
-        add_job_at(&mut self.index, job, seen);
+        add_job(&mut self.index, job);
         add_key(&mut self.text_index, key);
         Ok(())
     }

@@ -4,7 +4,6 @@ use Rattle.std.specs.BTreeMap.{is_at}
 use Rattle.std.specs.List.{count_by, list_any}
 use Rattle.std.specs.Ordering.{is_eq, is_le, is_lt}
 use Rattle.std.specs.declared.cmp.Ordering.{Ordering}
-use Rattle.std.specs.declared.cmp.Ordering.TheVariants.{Less, Equal, Greater}
 use Rattle.std.proofs.lemmas.List.Sums.{sum_by-cons}
 use Rattle.sk_undo.specs.Partitioned.{all_pass}
 use Rattle.sk_undo.specs.Sorted.{IsQuery, is_ordered, rank, rank_past}
@@ -13,16 +12,6 @@ use Rattle.sk_undo.proofs.Sorted.{le_rest, lt_rest}
 pub none_counted : {K : Type 0} (t : K → Bool) (keys : List K) → list_any t keys ≡ false → count_by t keys ≡ 0
 none_counted t [] h = refl
 none_counted t (first ∷ keys) h = let e = sum_by-cons (λ key. cond (t key) 1 0) first keys in grind (arith, e, h, none_counted t keys)
-
--- where none matches, those that match would stand between the keys before them and those behind
-pub rank_none : {K : Type 0} (order : K → Ordering) (keys : List K) → list_any (is_at order) keys ≡ false → rank order keys ≡ rank_past order keys
-rank_none order [] h = refl
-rank_none order (first ∷ keys) h = cases (order first) refl (rank_none order keys)
-  where
-    cases : (o : Ordering) → order first ≡ o → (list_any (is_at order) keys ≡ false → rank order keys ≡ rank_past order keys) → rank order (first ∷ keys) ≡ rank_past order (first ∷ keys)
-    cases Less e more = grind (arith, e)
-    cases Equal e more = absurd (grind (arith, e, h))
-    cases Greater e more = let later = more (grind (arith, e, h)) in grind (arith, e, later)
 
 module _ {K : Type 0} {cmp : K → K → Ordering} {order : K → Ordering} (query : IsQuery cmp order) where
   none_past : (keys : List K) → all_pass (λ key. is_lt (order key)) keys ≡ true → count_by (is_at order) keys ≡ 0

@@ -1,5 +1,5 @@
 // A multiset in order, whose edits in an open step can be taken back. Memory is taken by `reserve` alone.
-ghost use Rattle.std.specs.Prelude.{◌≡◌, ◌+◌, ◌<◌, ◌≤◌, [], true, false, IsSome, None, OnOk, length, slice_index_or};
+ghost use Rattle.std.specs.Prelude.{◌≡◌, ◌+◌, ◌<◌, ◌≤◌, [], true, IsSome, None, OnOk, length, slice_index_or};
 ghost use Rattle.std.specs.BTreeMap.{is_at};
 ghost use Rattle.std.specs.List.{count_by, insert, list_any};
 ghost use Rattle.std.specs.Option.{is_some};
@@ -101,15 +101,6 @@ impl<K: Ord + Drop> UndoMultiset<K> {
         end.saturating_sub(first)
     }
 
-    /// Whether a key matches, and how many keys stand before those that do, which is where one would be put in. Logarithmic.
-    pub fn look_up<Q: Query<K>>(&self, query: &Q) -> (usize, bool)
-        ensures there { result.1 ≡ list_any (is_at (Q.order query.now)) self.now.list.current }
-        ensures place { result.1 ≡ false → result.0 ≡ rank_past (Q.order query.now) self.now.list.current }
-        ensures within { result.0 ≤ length self.now.list.current }
-    {
-        seek(&self.keys, query)
-    }
-
     /// Takes the memory for so many further edits.
     pub fn reserve(&mut self, edits: usize) -> Result<(), Memory>
         ensures list { self.new.list ≡ self.old.list }
@@ -125,17 +116,6 @@ impl<K: Ord + Drop> UndoMultiset<K> {
         ensures room { self.old.room ≤ self.new.room + 1 }
     {
         let at = rank_past(&self.keys, &key);
-        self.keys.insert(at, ((), key));
-    }
-
-    /// The same at the place that `look_up` found, where no key is equal to it. Looks at no key. Logarithmic.
-    pub fn put_at(&mut self, at: usize, key: K)
-        requires place { at ≡ rank_past (K.cmp key) self.old.list.current }
-        requires within { at ≤ length self.old.list.current }
-        requires room { 0 < self.old.room }
-        ensures list { self.new.list ≡ edited (insert self.old.list.current (rank_past (K.cmp key) self.old.list.current) key) self.old.list }
-        ensures room { self.old.room ≤ self.new.room + 1 }
-    {
         self.keys.insert(at, ((), key));
     }
 
