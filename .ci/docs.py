@@ -9,8 +9,10 @@ The checks, in order:
 - map         docs/CODE.md names every file of each crate's src/ and specs/, and no other.
 - volumes     What docs/PROVED.md says of how much there is to read, volume by volume and law by law, is what .ci/statement.py counts.
 - reading     So is its list of what to read to know that no job is lost.
-- edits       So is its list of must-fail edits.
-- named       Each must-fail edit that .ci/named_edits.txt names stands, and the names are sorted.
+- edits       So are its lists of edits: those that the gate tries, and those of edits/.
+- named       Each edit that .ci/named_edits.txt names stands in one of the two places, and the names are sorted.
+- tried       Tells of each crate whose code has changed since its edits in edits/ were last tried. It never fails.
+- libraries   crates.txt names the libraries that the crate's files name, and no others.
 - contracts   Each row `definition` | `file` of a document's table names a file that has the word.
 - links       Each relative link of a document leads somewhere.
 - toolchain   docs/PROVED.md names the sum of the logic that `rt version` prints, where there is one: kits of other names share it.
@@ -27,6 +29,8 @@ sys.dont_write_bytecode = True
 import statement                                # (beside this file)
 
 TOP = Path(__file__).resolve().parent.parent
+sys.path.insert(0, str(TOP / 'edits'))
+import try_edits
 CRATES = TOP / 'crates'
 LONGEST = 150
 DOCUMENTS = [TOP / 'README.md', *sorted((TOP / 'docs').glob('*.md'))]
@@ -143,27 +147,57 @@ def counted_reading():
     return '\n'.join([*rows, '']), '%s lines for the law of live jobs' % number(statement.lines_of(found))
 
 
-def edits_of(crate):
-    return len(list((CRATES / crate / 'must-fail').glob('*.edit')))
+def edit_folders(crate):
+    return CRATES / crate / 'must-fail', TOP / 'edits' / crate
 
 
-def counted_edits():
-    counts = {it: edits_of(it) for it in crate_names() if edits_of(it)}
-    told = ', '.join('`%s` %d' % it for it in counts.items())
+def in_lines(text):
     lines, line = [], ''
-    for word in ('%d in %d crates: %s.' % (sum(counts.values()), len(counts), told)).split(' '):
+    for word in text.split(' '):
         if len(line) + len(word) >= LONGEST - 10:
             lines, line = [*lines, line], ''
         line = (line + ' ' + word).strip()
-    return '\n'.join([*lines, line, '']), '%d edits' % sum(counts.values())
+    return [*lines, line]
+
+
+def counted_edits():
+    lines, total = [], 0
+    for place, what in enumerate(('The gate tries %d in %d crates: %s.', 'In `edits/` stand %d in %d crates: %s.')):
+        counts = {it: len(list(edit_folders(it)[place].glob('*.edit'))) for it in crate_names()}
+        counts = {it: count for it, count in counts.items() if count}
+        told = ', '.join('`%s` %d' % it for it in counts.items())
+        lines += ['', *in_lines(what % (sum(counts.values()), len(counts), told))]
+        total += sum(counts.values())
+    return '\n'.join([*lines[1:], '']), '%d edits' % total
 
 
 def check_named():
     names = text_of(TOP / '.ci' / 'named_edits.txt').split()
     wrong = ['.ci/named_edits.txt: there is no edit %s' % it for it in names
-             if not (CRATES / it).parent.joinpath('must-fail', it.split('/')[-1] + '.edit').is_file()]
+             if not any((folder / (it.split('/')[1] + '.edit')).is_file() for folder in edit_folders(it.split('/')[0]))]
     wrong += ['.ci/named_edits.txt is not sorted, or names an edit twice'] * (names != sorted(set(names)))
     return wrong, '%d names' % len(names)
+
+
+def check_tried():
+    done = try_edits.tried()
+    crates = [it for it in crate_names() if any(edit_folders(it)[1].glob('*.edit'))]
+    late = [it for it in crates if it not in done or done[it][2] != try_edits.sum_of(it)]
+    told = 'edits/try_edits.py has not tried these since they changed: ' + ', '.join(late) if late else '%d crates' % len(crates)
+    return [], told
+
+
+def check_dependencies():
+    wrong, count = [], 0
+    for line in text_of(TOP / 'crates.txt').splitlines():
+        if line.startswith('#') or ':' not in line:
+            continue
+        crate, _, names = line.partition(':')
+        texts = [text_of(CRATES / crate / it) for it in files_in(crate, 'src', 'specs', 'proofs')]
+        code = re.sub(r'//[^\n]*', '', '\n'.join(texts))
+        count += len(names.split())
+        wrong += ['crates.txt: no file of %s names %s' % (crate, it) for it in names.split() if not re.search(r'\b%s\b' % it, code)]
+    return wrong, '%d names' % count
 
 
 COUNTED = {'volumes': counted_volumes, 'reading': counted_reading, 'edits': counted_edits}
@@ -323,6 +357,8 @@ CHECKS = {
     'reading': lambda: check_counted('reading'),
     'edits': lambda: check_counted('edits'),
     'named': check_named,
+    'tried': check_tried,
+    'libraries': check_dependencies,
     'contracts': check_contracts,
     'links': check_links,
     'toolchain': check_toolchain,
