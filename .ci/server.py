@@ -35,11 +35,11 @@ def bulk(text):
 
 
 class Server:
-    """A server with this many loops, and what it printed at its end."""
+    """A server with this many loops, or as many as it takes by itself, and what it printed at its end."""
 
     def __init__(self, loops, *more):
         self.port = free_port()
-        words = [PROGRAM, 'serve', '--port', str(self.port), '--loops', str(loops), *more]
+        words = [PROGRAM, 'serve', '--port', str(self.port), *(['--loops', str(loops)] if loops else []), *more]
         self.process = subprocess.Popen(words, stdin=subprocess.DEVNULL, stdout=subprocess.PIPE, stderr=subprocess.PIPE)
         self.wait()
 
@@ -105,6 +105,13 @@ class Client:
     def ask(self, wanted, *words):
         self.send(command(*words))
         self.expect(wanted)
+
+    def length(self, key):
+        self.send(command('LLEN', key))
+        reply = self.take(1)
+        while not reply.endswith(b'\n'):
+            reply += self.take(1)
+        return int(reply[1:])
 
     def is_over(self):
         return self.socket.recv(1) == b''
@@ -257,20 +264,14 @@ def a_process_that_is_killed(server):
     words = [PROGRAM, 'work', '--port', str(server.port), '--ident', 'killed', '--queues', 'killed', '--prefetch', '16']
     process = subprocess.Popen(words, stdin=subprocess.DEVNULL, stdout=subprocess.DEVNULL, stderr=subprocess.DEVNULL)
     with server.client() as it:
-        def length(key):
-            it.send(command('LLEN', key))
-            reply = it.take(1)
-            while not reply.endswith(b'\n'):
-                reply += it.take(1)
-            return int(reply[1:])
-        while length('queue:killed') == 500:
+        while it.length('queue:killed') == 500:
             time.sleep(0.001)
         process.kill()
         process.wait()
         end = time.time() + 10
         while True:                                 # (the server may still be doing what the dead process sent)
             done = processed(server) - before
-            waiting, held = length('queue:killed'), length('sq:killed')
+            waiting, held = it.length('queue:killed'), it.length('sq:killed')
             if held <= 64 and 500 <= done + waiting + held <= 504:
                 break
             assert time.time() < end, (done, waiting, held)
@@ -278,8 +279,75 @@ def a_process_that_is_killed(server):
     return 500
 
 
+def page(server):
+    """The numbers of the page: name to count."""
+    return {name: int(count) for name, count in re.findall(r'(?m)^(\w+) (\d+)$', ran(server, 'status'))}
+
+
+def started_again(server):
+    """Two processes of one line have two names: what the first held when it was killed comes back a minute later, while the second one beats."""
+    before, jobs = page(server), 500
+    with server.client() as it:
+        for n in range(jobs):
+            it.ask(b':%d\r\n' % (n + 1), 'LPUSH', 'queue:again', JOB % ('again-%d' % n, n))
+    line = [PROGRAM, 'work', '--port', str(server.port), '--queues', 'again', '--prefetch', '16']
+    first = subprocess.Popen(line, stdin=subprocess.DEVNULL, stdout=subprocess.DEVNULL, stderr=subprocess.PIPE)
+    assert re.search(rb' working as \S+:%d:[0-9a-f]{12} for ' % first.pid, first.stderr.readline())
+    with server.client() as it:
+        while it.length('queue:again') == jobs:
+            time.sleep(0.001)
+    first.kill()
+    first.wait()
+    second = subprocess.Popen(line, stdin=subprocess.DEVNULL, stdout=subprocess.DEVNULL, stderr=subprocess.DEVNULL)
+    end = time.time() + 100
+    while True:
+        now = page(server)
+        if now['busy'] == 0 and now['processed'] - before['processed'] >= jobs:
+            break
+        assert time.time() < end, (before, now)
+        time.sleep(0.5)
+    second.kill()
+    second.wait()
+    assert now['processed'] - before['processed'] <= jobs + 4, (before, now)    # (a job that was done, and not released, runs again)
+    return jobs
+
+
+def defaults(_):
+    """The two programs fit together without an option: the server takes the five connections of `work`, and others beside them."""
+    server = Server(None)
+    worker = subprocess.Popen([PROGRAM, 'work', '--port', str(server.port)], stdin=subprocess.DEVNULL, stdout=subprocess.DEVNULL, stderr=subprocess.DEVNULL)
+    try:
+        assert re.fullmatch(r'[0-9a-f]{24}\n', ran(server, 'push', 'Note', '[1]'))
+        end = time.time() + SECONDS
+        while page(server)['processed'] < 1:
+            assert time.time() < end, page(server)
+            time.sleep(0.1)
+        clients = [server.client() for _ in range(50)]
+        for it in clients:
+            it.ask(b'+PONG\r\n', 'PING')
+        for it in clients:
+            it.socket.close()
+    finally:
+        worker.kill()
+        worker.wait()
+        status, _, _ = server.end()
+    assert status == 0, status
+
+
+def full_log(_):
+    """A server whose notices can't be written serves, and ends well."""
+    with open('/dev/full', 'w') as full:
+        port = free_port()
+        process = subprocess.Popen([PROGRAM, 'serve', '--port', str(port)], stdin=subprocess.DEVNULL, stdout=subprocess.PIPE, stderr=full)
+    server = Server.__new__(Server)
+    server.port, server.process = port, process
+    server.wait()
+    status, _, _ = server.end()
+    assert status == 0, status
+
+
 TESTS = [pipeline, large_reply, single_bytes, one_that_leaves, one_that_never_reads, ends, own_words_of_a_pipe, a_worker_that_dies, many_at_once, taken_port,
-         processes, a_process_that_is_killed]
+         processes, started_again, a_process_that_is_killed, defaults, full_log]
 
 
 def main():

@@ -41,6 +41,12 @@ expect 'a port of 0' 2 $?
 expect 'more loops than there may be' 2 $?
 "$program" push Note '{}' </dev/null 2>/dev/null
 expect 'arguments that are no array' 2 $?
+"$program" push Note "$(printf '\377')" </dev/null 2>/dev/null
+expect 'a word that is no UTF-8' 2 $?
+if [ -w /dev/full ]; then
+    "$program" status --port 1 </dev/null 2>/dev/full
+    expect 'no server, and a log that is full' 6 $?
+fi
 first=$("$program" soak 1 1)
 expect 'a run of one job' 0 $?
 [ "$first" = "$("$program" soak 1 1)" ]

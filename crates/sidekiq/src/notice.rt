@@ -87,6 +87,11 @@ fn refused(rt: &HostRuntime, words: &[String]) -> io::Result<()> {
     }
 }
 
+/// Tells that a word of the command line is no text.
+pub fn unreadable_word(rt: &HostRuntime) -> io::Result<()> {
+    eprintln!(rt; "sidekiq: bad command line: a word isn't UTF-8\n{USAGE}")
+}
+
 impl Notice {
     /// What the words ask for, where `work` has so many teams.
     pub fn of(alloc: Global, words: &[String], teams: u32) -> Notice {

@@ -30,12 +30,12 @@ pub const CRASHES_HELP: &str = "How many crashes they may have together, 0 to 10
 
 pub const SERVE_PORT_HELP: &str = "The port that it listens at, 1 to 65535";
 
-pub const LOOPS_HELP: &str = "How many connections it serves at a time; further ones wait";
+pub const LOOPS_HELP: &str = "How many connections it serves at a time, 1 to 64; further ones wait";
 
 pub const SESSIONS_HELP: &str =
     "How many connections each loop serves before it ends; 0: all that come";
 
-pub const IDENT_HELP: &str = "The process, another name for each that runs at a time";
+pub const IDENT_HELP: &str = "The process, by a name that never comes back; left out, a new one";
 
 pub const QUEUES_HELP: &str = "The queues to serve: names, or NAME:WEIGHT (1 to 100), with commas";
 
