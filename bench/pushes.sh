@@ -6,8 +6,8 @@
 set -e
 cd "$(dirname "$0")/.."
 jobs=${1:-100000}
-(cd crates/sk_transcripts && rt run -- 1 >/dev/null)
-client=crates/sk_transcripts/out/sk_transcripts
+(cd crates/sk_rows && rt run -- pushes 1 >/dev/null)
+client=crates/sk_rows/out/sk_rows
 folder=$(mktemp -d)
 trap 'rm -rf "$folder"' EXIT
 cat > "$folder/pushes.rs" <<'RUST'
@@ -39,7 +39,7 @@ measure() {
     tail -n 1 "$folder/out"
 }
 printf 'client, %s jobs: ' "$jobs"
-measure "$client" "$jobs"
+measure "$client" pushes "$jobs"
 if command -v rustc >/dev/null; then
     rustc -O -o "$folder/pushes" "$folder/pushes.rs"
     printf 'rust, %s jobs: ' "$jobs"

@@ -1,75 +1,70 @@
-//! Runs the worked rows: files of input and of what must be answered. Contracts leave want of memory free as an answer, so that only a run with
-//! memory at hand refuses a body that always gives it.
+//! Runs all rows: what is given, and what must come of it. Contracts leave want of memory free as an answer, and none can say what a call through the
+//! store's lock did; rows show both.
 #![tactic(auto)]
 
-mod crons;
-mod desk;
-mod heads;
-mod outcome;
-mod repeats;
-mod replies;
-mod row;
-mod steps;
+mod command;
+mod difference;
+mod doors;
+mod drills;
+mod faults;
+mod job;
+mod lanes;
+mod limits;
+mod report;
 mod text;
-mod wire;
+mod transcripts;
+mod worked;
 
-use outcome::Outcome;
-use row::{Form, Row};
-use std::alloc::Global;
+use difference::difference;
+use report::Report;
+use std::io::{self, ErrorKind};
 use std::process::ExitCode;
-use std::{fs, io};
+use std::{env, fs};
 
-/// The bytes of a row's file: what it is given (`in`) or what it must answer (`out`).
-fn file(rt: &HostRuntime, row: &Row<'_>, kind: &str) -> io::Result<Vec<u8>> {
-    let path = format!(in rt.alloc(); "{}.{kind}", row.name)?;
-    let bytes = fs::read(rt, path.as_str())?;
-    match row.form {
-        Form::Repeats => repeats::expand(rt.alloc(), &bytes),
-        _ => Ok(bytes),
-    }
+// Compares what came of a file of rows with what must, `NAME.out`.
+fn compare(rt: &HostRuntime, name: &str, came: &str, report: &mut Report) -> io::Result<()> {
+    let path = format!(in rt.alloc(); "{name}.out")?;
+    let wanted = fs::read(rt, path.as_str())?;
+    let wrong = difference(rt.alloc(), came.as_bytes(), &wanted)?;
+    report.add(rt, name, wrong)
 }
 
-/// What the row's input comes to, once in each cutting.
-fn outcomes(alloc: Global, row: &Row<'_>, input: &[u8]) -> io::Result<Vec<Outcome>> {
-    match row.form {
-        Form::Wire => wire::in_all_pieces(alloc, &row.words, input),
-        Form::Repeats => wire::in_one_piece(alloc, &row.words, input),
-        Form::Heads => Outcome::alone(heads::heads(alloc, input)?),
-        Form::Crons => Outcome::alone(crons::slots(alloc, input)?),
-        Form::Replies => Outcome::alone(replies::written_again(alloc, input)?),
-        Form::Steps => Outcome::alone(steps::answers(alloc, &row.words, input)?),
-        Form::Desk => Outcome::alone(desk::answers(alloc, &row.words, input)?),
-    }
+// Compares what clients asked and were told.
+fn compare_transcripts(rt: &HostRuntime, report: &mut Report) -> io::Result<()> {
+    let mut told = String::new(rt.alloc());
+    transcripts::add_transcripts(&mut told)?;
+    compare(rt, "transcripts", told.as_str(), report)
 }
 
-/// Runs a row, and prints how it went. Answers whether it gave what it must.
-fn is_met(rt: &HostRuntime, row: &Row<'_>) -> io::Result<bool> {
-    let input = file(rt, row, "in")?;
-    let wanted = Outcome {
-        status: row.status,
-        text: file(rt, row, "out")?,
-    };
-    for outcome in &outcomes(rt.alloc(), row, &input)? {
-        if let Some(difference) = outcome.difference(rt.alloc(), &wanted)? {
-            println!(rt; "{}: {difference}", row.name)?;
-            return Ok(false);
-        }
-    }
-    println!(rt; "ok {}", row.name)?;
-    Ok(true)
+// Prints how many bytes so many pushes are, for a measurement of time.
+fn measure(rt: &HostRuntime, pushes: u64) -> io::Result<()> {
+    let mut text = String::new(rt.alloc());
+    transcripts::add_bytes_of(&mut text, pushes)?;
+    print!(rt; "{text}")
 }
 
+/// With no words all rows. With the words `pushes` and a number so many jobs are pushed, for a measurement of time.
 fn main(rt: HostRuntime) -> io::Result<ExitCode> {
-    let index = fs::read_to_string(&rt, "rows.txt")?;
-    let mut rows: u64 = 0;
-    let mut differ: u64 = 0;
-    for line in index.lines() {
-        let row = Row::read(rt.alloc(), line)?;
-        rows = rows.saturating_add(1);
-        if !is_met(&rt, &row)? {
-            differ = differ.saturating_add(1);
-        }
+    let mut words = env::args(&rt)?;
+    if let Some(word) = words.nth(1) {
+        return match words.next() {
+            Some(count) if word.as_str() == "pushes" => {
+                measure(&rt, text::number(count.as_str())?)?;
+                Ok(ExitCode::SUCCESS)
+            }
+            _ => Err(io::Error::from(ErrorKind::InvalidInput)),
+        };
     }
-    println!(rt; "{rows} rows, {differ} differ")?;
-    Ok(ExitCode::from(u8::from(differ > 0)))
+    let mut report = Report::new();
+    worked::run(&rt, &mut report)?;
+    let doors = fs::read_to_string(&rt, "doors.txt")?;
+    doors::run(&rt, rt.alloc(), doors.as_str(), &mut report)?;
+    let lanes = fs::read_to_string(&rt, "lanes.txt")?;
+    let told = lanes::told(rt.alloc(), lanes.as_str())?;
+    compare(&rt, "lanes", told.as_str(), &mut report)?;
+    let drills = fs::read_to_string(&rt, "drills.txt")?;
+    let told = drills::told(&rt, rt.alloc(), drills.as_str())?;
+    compare(&rt, "drills", told.as_str(), &mut report)?;
+    compare_transcripts(&rt, &mut report)?;
+    report.end(&rt)
 }

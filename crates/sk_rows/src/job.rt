@@ -1,0 +1,30 @@
+// The job of lanes and of drills, and the text of one that is pushed.
+ghost use Rattle.std.specs.Prelude.{None};
+
+use sk_payload::Head;
+use sk_worker::{Job, Memory, Outcome};
+use std::alloc::{AllocError, Global};
+use std::sync::Arc;
+use std::sync::atomic::{AtomicU64, Ordering};
+
+/// A job that returns, and counts its runs. It tells contracts none of them.
+#[derive(Drop)]
+pub struct Counted {
+    pub runs: Arc<AtomicU64, Global>,
+}
+
+impl Job for Counted {
+    ghost runs = { λ _. None };
+
+    fn run(&mut self, _alloc: Global, _head: &Head) -> Result<Outcome, Memory> {
+        self.runs.fetch_add(1, Ordering::SeqCst);
+        Ok(Outcome::Returned)
+    }
+}
+
+/// The text of job `k` of this class: 118 bytes, where the class has four letters.
+pub fn job_text(alloc: Global, k: u32, class: &str) -> Result<String, AllocError> {
+    format!(in alloc;
+        "{{\"args\":[1],\"class\":\"{class}\",\"created_at\":1700000000000,\"jid\":\"{k:024}\",\"queue\":\"default\",\"retry\":true}}"
+    )
+}
