@@ -289,7 +289,7 @@ def started_again(server):
     before, jobs = page(server), 500
     with server.client() as it:
         for n in range(jobs):
-            it.ask(b':%d\r\n' % (n + 1), 'LPUSH', 'queue:again', JOB % ('again-%d' % n, n))
+            it.ask(b':%d\r\n' % (n + 1), 'LPUSH', 'queue:again', (JOB % ('again-%d' % n, n)).replace('default', 'again'))
     line = [PROGRAM, 'work', '--port', str(server.port), '--queues', 'again', '--prefetch', '16']
     first = subprocess.Popen(line, stdin=subprocess.DEVNULL, stdout=subprocess.DEVNULL, stderr=subprocess.PIPE)
     assert re.search(rb' working as \S+:%d:[0-9a-f]{12} for ' % first.pid, first.stderr.readline())
@@ -300,14 +300,16 @@ def started_again(server):
     first.wait()
     second = subprocess.Popen(line, stdin=subprocess.DEVNULL, stdout=subprocess.DEVNULL, stderr=subprocess.DEVNULL)
     end = time.time() + 100
-    while True:
-        now = page(server)
-        if now['busy'] == 0 and now['processed'] - before['processed'] >= jobs:
-            break
-        assert time.time() < end, (before, now)
-        time.sleep(0.5)
-    second.kill()
-    second.wait()
+    try:
+        while True:
+            now = page(server)
+            if now['busy'] <= before['busy'] and now['processed'] - before['processed'] >= jobs:
+                break
+            assert time.time() < end, (before, now)
+            time.sleep(0.5)
+    finally:
+        second.kill()
+        second.wait()
     assert now['processed'] - before['processed'] <= jobs + 4, (before, now)    # (a job that was done, and not released, runs again)
     return jobs
 
