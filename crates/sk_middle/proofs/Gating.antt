@@ -1,18 +1,11 @@
 -- How the runs that a wrapped job tells grow with each run.
-use Rattle.std.proofs.Common.{◌≡◌, List, [], ◌∷◌, ◌++◌, filter, refl, sym, subst, ap, ◌∙◌, Option, Some, None, Result, Ok, Err, IfOk, OnErr, unwrap_or, append-nil}
+use Rattle.std.proofs.Common.{◌≡◌, List, [], ◌∷◌, ◌++◌, filter, refl, sym, ap, ◌∙◌, Option, Some, None, Result, Ok, Err, OnErr, unwrap_or, append-nil}
 use Rattle.std.proofs.lemmas.List.{append_assoc, map-append}
 use Rattle.std.proofs.lemmas.List.Elements.{filter-append}
 use Rattle.std.proofs.Math.Logic.{∥∥₁_map}
 use Rattle.sk_base.specs.Outside.{Takes}
 use Rattle.sk_worker.specs.Run.{Run}
 use Rattle.sk_middle.specs.GatedRun.{GatedRun, is_inner, runs_of, inner_runs, told_first, TellsInner, wrapped_runs}
-use Rattle.sk_middle.specs.Running.{Wrapped, Comes}
-use Rattle.std.specs.declared.alloc.AllocError.{AllocError}
-use Rattle.sk_payload.specs.declared.head.Head.{Head}
-use Rattle.sk_worker.specs.declared.job.Outcome.{Outcome}
-use Rattle.sk_worker.specs.declared.job.Outcome.TheVariants.{Raised}
-use Rattle.sk_middle.specs.declared.gate.Verdict.{Verdict}
-use Rattle.sk_middle.specs.declared.gate.Verdict.TheVariants.{Go, Raise}
 use Rattle.sk_middle.specs.declared.runner.Runner.TheVariants.{Inner, Gate}
 
 -- ## One more run
@@ -61,36 +54,6 @@ pub TellsInner-more : (first : Option (List Run)) (old new : List GatedRun) (bef
     Takes before more after → inner_runs new ≡ inner_runs old ++ more → ∥ TellsInner first old before ∥₁ → ∥ TellsInner first new after ∥₁
 TellsInner-more first old new before after more takes e tells = ∥∥₁_map tells (tells-more first old new before after more takes e)
 
--- ## What a run comes to
-
-module _ {J : Type 0} (tells : J → Option (List Run)) (first : Option (List Run)) (old new : Wrapped J) (h : Head) where
-  -- what is told before and after it
-  abbrev before : Option (List Run)
-  before = wrapped_runs first old.gated (tells old.inner)
-
-  abbrev after : Option (List Run)
-  after = wrapped_runs first new.gated (tells new.inner)
-
-  pub Comes-ok : (verdict : Result Verdict AllocError) (result : Result Outcome AllocError) → Comes tells old h verdict result new →
-      IfOk result (λ outcome. Takes before (record { head = h; outcome = outcome } ∷ []) after)
-  Comes-ok (Ok Go) (Ok outcome) p =
-      let run : Run = record { head = h; outcome = outcome } in
-      Takes-wrapped first old.gated new.gated (tells old.inner) (tells new.inner) (run ∷ []) (run ∷ []) p.0
-      (ap runs_of p.1 ∙ runs_of-append_one old.gated (record { run = run; by = Inner }))
-  Comes-ok (Ok Go) (Err e) p = tt
-  Comes-ok (Ok (Raise raised)) result p =
-      let run : Run = record { head = h; outcome = Raised raised } in
-      subst (λ r. IfOk r (λ outcome. Takes before (record { head = h; outcome = outcome } ∷ []) after)) (sym p.0)
-      (Takes-wrapped first old.gated new.gated (tells old.inner) (tells new.inner) [] (run ∷ [])
-      (subst (λ i. Takes (tells old.inner) [] (tells i)) (sym p.1) (Takes-none (tells old.inner)))
-      (ap runs_of p.2 ∙ runs_of-append_one old.gated (record { run = run; by = Gate })))
-  Comes-ok (Err e) result p = subst (λ r. IfOk r (λ outcome. Takes before (record { head = h; outcome = outcome } ∷ []) after)) (sym p.0) tt
-
-  pub Comes-err : (verdict : Result Verdict AllocError) (result : Result Outcome AllocError) → Comes tells old h verdict result new → OnErr result (Takes before [] after)
-  Comes-err (Ok Go) (Ok outcome) p = tt
-  Comes-err (Ok Go) (Err e) p =
-      Takes-wrapped first old.gated new.gated (tells old.inner) (tells new.inner) [] [] p.0 (ap runs_of p.1 ∙ sym (append-nil (runs_of old.gated)))
-  Comes-err (Ok (Raise raised)) result p = subst (λ r. OnErr r (Takes before [] after)) (sym p.0) tt
-  Comes-err (Err e) result p =
-      subst (λ r. OnErr r (Takes before [] after)) (sym p.0)
-      (subst (λ (w : Wrapped J). Takes before [] (wrapped_runs first w.gated (tells w.inner))) (sym p.1) (Takes-none before))
+pub on_err : {T E : Type 0} (P : Type 0) (r : Result T E) → P → OnErr r P
+on_err P (Ok x) p = tt
+on_err P (Err e) p = p

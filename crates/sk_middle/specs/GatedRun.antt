@@ -1,6 +1,7 @@
 -- The runs that a wrapped job tells: those of the inner job, and those that the gate raised an error in the place of.
-use Rattle.std.specs.Prelude.{◌≡◌, ◌++◌, Bool, true, false, List, Option, Some, filter, map, option_map, unwrap_or, [], refl}
+use Rattle.std.specs.Prelude.{◌≡◌, ◌++◌, Bool, true, false, List, ◌∷◌, Option, Some, filter, map, option_map, unwrap_or, [], refl}
 use Rattle.std.specs.Coded.{Coded, code_by, coded×, coded_list}
+use Rattle.sk_base.specs.Outside.{Takes}
 use Rattle.sk_payload.specs.declared.head.Head.{Head}
 use Rattle.sk_payload.specs.contracts.head.Head as head
 use Rattle.sk_worker.specs.Run.{Run}
@@ -31,6 +32,10 @@ runs_of gated = map (λ r. r.run) gated
 -- those of the inner job
 abbrev pub inner_runs : List GatedRun → List Run
 inner_runs gated = runs_of (filter (λ r. is_inner r.by) gated)
+
+-- A job tells one run more than before.
+abbrev pub TellsOne : Option (List Run) → Head → Outcome → Option (List Run) → Type 0
+TellsOne before h outcome after = Takes before (record { head = h; outcome = outcome } ∷ []) after
 
 -- what a job told when it was wrapped
 abbrev pub told_first : Option (List Run) → List Run

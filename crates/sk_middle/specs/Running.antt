@@ -23,6 +23,11 @@ InnerRuns tells old h (Ok outcome) new =
     × (new.gated ≡ old.gated ++ record { run = record { head = h; outcome = outcome }; by = by.Inner } ∷ [])
 InnerRuns tells old h (Err e) new = Takes (tells old.inner) [] (tells new.inner) × (new.gated ≡ old.gated)
 
+-- The same of a job and the runs that are told of it.
+abbrev pub RunsInner : {J : Type 0} → (J → Option (List Run)) → J → List GatedRun → Head → Result Outcome AllocError → J → List GatedRun → Type 0
+RunsInner tells inner gated h result inner' gated' =
+    InnerRuns tells (record { inner = inner; gated = gated }) h result (record { inner = inner'; gated = gated' })
+
 -- What a run comes to where the gate answers this. Go: what the inner job's run comes to. Raise: that error, in a run of its own, and the inner job is as
 -- it was. No memory: the same, and nothing has changed.
 abbrev pub Comes : {J : Type 0} → (J → Option (List Run)) → Wrapped J → Head → Result Verdict AllocError → Result Outcome AllocError

@@ -7,6 +7,7 @@ mod gate;
 mod run_log;
 mod runner;
 mod sent;
+mod told_job;
 mod wrapped_job;
 
 pub use chain::{ChainFault, ChainStep, ClientChain, Through};
@@ -15,4 +16,5 @@ pub use run_log::RunLog;
 pub use runner::Runner;
 pub use sent::{Sent, push_through};
 pub use std::alloc::AllocError as Memory;
+pub use told_job::{ToldJob, told};
 pub use wrapped_job::{WrappedJob, wrap};

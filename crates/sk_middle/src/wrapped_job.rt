@@ -40,16 +40,23 @@ pub fn wrap<J: Job, G: Gate>(inner: J, gate: G) -> WrappedJob<J, G>
     }
 }
 
-impl<J: Job, G: Gate> WrappedJob<J, G> {
+impl<J: Job, G: Gate> Job for WrappedJob<J, G> {
+    ghost use Rattle.std.specs.Prelude.{[], IfOk, OnErr};
+    ghost use Rattle.sk_base.specs.Outside.{Takes};
+    ghost use Rattle.sk_middle.specs.GatedRun.{TellsOne};
     ghost use Rattle.sk_middle.specs.Running.{RunsGated};
+
+    ghost runs = { λ w. wrapped_runs (J.runs w.first.value) w.log.gated (J.runs w.inner) };
 
     /// Asks the gate, and runs the inner job where that answers [`Verdict::Go`]. Where it raises an error, or has no memory, that is the answer, and the
     /// inner job doesn't run.
-    pub fn run_gated(&mut self, alloc: Global, head: &Head) -> Result<Outcome, Memory>
+    fn run(&mut self, alloc: Global, head: &Head) -> Result<Outcome, Memory>
+        ensures ran { IfOk result (λ o. TellsOne (⟦<WrappedJob<J, G> as Job>⟧.runs self.old) head.now o (⟦<WrappedJob<J, G> as Job>⟧.runs self.new)) }
+        ensures err { OnErr result (Takes (⟦<WrappedJob<J, G> as Job>⟧.runs self.old) [] (⟦<WrappedJob<J, G> as Job>⟧.runs self.new)) }
+        ensures gated { RunsGated (G.answers self.old.gate head.now) J.runs self.old.inner self.old.log.gated head.now result
+            self.new.inner self.new.log.gated }
         ensures gate { self.new.gate ≡ self.old.gate }
         ensures first { self.new.first ≡ self.old.first }
-        ensures ran { RunsGated (G.answers self.old.gate head.now) J.runs self.old.inner self.old.log.gated head.now result
-            self.new.inner self.new.log.gated }
     {
         match self.gate.ask(head)? {
             Verdict::Go => {
@@ -63,13 +70,5 @@ impl<J: Job, G: Gate> WrappedJob<J, G> {
                 Ok(outcome)
             }
         }
-    }
-}
-
-impl<J: Job, G: Gate> Job for WrappedJob<J, G> {
-    ghost runs = { λ w. wrapped_runs (J.runs w.first.value) w.log.gated (J.runs w.inner) };
-
-    fn run(&mut self, alloc: Global, head: &Head) -> Result<Outcome, Memory> {
-        self.run_gated(alloc, head)
     }
 }

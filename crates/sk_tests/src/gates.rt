@@ -1,10 +1,10 @@
-// Jobs behind a gate.
+// Jobs behind a gate, and jobs that tell their runs.
 ghost use Rattle.std.specs.Prelude.{None, Result};
 ghost use Rattle.std.specs.declared.alloc.AllocError.{AllocError};
 ghost use Rattle.sk_payload.specs.declared.head.Head.{Head};
 ghost use Rattle.sk_middle.specs.declared.gate.Verdict.{Verdict};
 
-use sk_middle::{Gate, Memory, Verdict, wrap};
+use sk_middle::{Gate, Memory, Verdict, told, wrap};
 use sk_payload::{Args, Head, JobDraft, Retry};
 use sk_policy::{DelayRule, plain_delay};
 use sk_resp::Text;
@@ -64,23 +64,34 @@ impl Gate for Barrier {
     }
 }
 
-// The outcome of a run behind such a gate.
-fn outcome(alloc: Global, shut: bool) -> Result<Option<Outcome>, Memory> {
+// The outcome of a run of the job.
+fn outcome<J: Job>(alloc: Global, mut job: J) -> Result<Option<Outcome>, Memory> {
     let Ok(payload) = note(alloc)?.build(alloc) else {
         return Ok(None);
     };
     let Some(head) = payload.head() else {
         return Ok(None);
     };
-    let mut job = wrap(Quick, Barrier { alloc, shut });
     Ok(Some(job.run(alloc, head)?))
 }
 
 #[test]
 fn a_gate_lets_a_run_begin_or_raises(rt: HostRuntime) -> Result<(), Fail> {
     let alloc = rt.alloc();
-    assert!(rt; matches!(outcome(alloc, false)?, Some(Outcome::Returned)));
-    assert!(rt; matches!(outcome(alloc, true)?, Some(Outcome::Raised(_))));
+    let open = wrap(Quick, Barrier { alloc, shut: false });
+    assert!(rt; matches!(outcome(alloc, open)?, Some(Outcome::Returned)));
+    let shut = wrap(Quick, Barrier { alloc, shut: true });
+    assert!(rt; matches!(outcome(alloc, shut)?, Some(Outcome::Raised(_))));
+    Ok(())
+}
+
+#[test]
+fn a_job_that_tells_its_runs_runs_as_the_job_in_it(rt: HostRuntime) -> Result<(), Fail> {
+    let alloc = rt.alloc();
+    let open = told(Quick);
+    assert!(rt; matches!(outcome(alloc, open)?, Some(Outcome::Returned)));
+    let shut = told(wrap(Quick, Barrier { alloc, shut: true }));
+    assert!(rt; matches!(outcome(alloc, shut)?, Some(Outcome::Raised(_))));
     Ok(())
 }
 
@@ -90,6 +101,17 @@ fn a_wrapped_job_is_added_to_a_registry(rt: HostRuntime) -> Result<(), Fail> {
     let mut registry = Registry::new(alloc);
     let gate = Barrier { alloc, shut: true };
     let job: Box<dyn Job + Send> = Box::new(alloc, wrap(Quick, gate))?;
+    let delay: Box<dyn Fn(u32) -> u64 + Send> = Box::new(alloc, |count: u32| plain_delay(count))?;
+    let added = registry.add(text(alloc, "Quick")?, job, DelayRule::new(delay));
+    assert!(rt; added.is_ok());
+    Ok(())
+}
+
+#[test]
+fn a_job_that_tells_its_runs_is_added_to_a_registry(rt: HostRuntime) -> Result<(), Fail> {
+    let alloc = rt.alloc();
+    let mut registry = Registry::new(alloc);
+    let job: Box<dyn Job + Send> = Box::new(alloc, told(Quick))?;
     let delay: Box<dyn Fn(u32) -> u64 + Send> = Box::new(alloc, |count: u32| plain_delay(count))?;
     let added = registry.add(text(alloc, "Quick")?, job, DelayRule::new(delay));
     assert!(rt; added.is_ok());
