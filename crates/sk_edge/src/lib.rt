@@ -3,10 +3,12 @@
 
 mod collector;
 mod door;
+mod first_line;
 mod mem_door;
 mod mem_ear;
 mod pcg_dice;
 mod real_clock;
+mod request_line;
 mod tcp_conn;
 mod tcp_door;
 mod tcp_ear;
