@@ -5,3 +5,4 @@ pub mod Draw
 pub mod Faults
 pub mod RequestLine
 pub mod FirstLine
+pub mod Discipline
