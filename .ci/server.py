@@ -3,8 +3,8 @@
 
     server.py PROGRAM
 
-What no row can show: pipelines, large replies, cut commands, clients that leave or never read, 64 connections at a time, a port that is taken,
-processes of push, work and status beside them, one of which is killed, and the summary, whose acknowledgements must be what the clients counted.
+What no row can show: pipelines, large replies, cut commands, clients that leave or never read, pages of a browser, 64 connections at a time, a port
+that is taken, processes of push, work and status beside them, one of which is killed, and the summary, whose acknowledgements must be what the clients counted.
 Plain sockets and Python alone. Status 1 where anything differs.
 """
 import re
@@ -185,6 +185,64 @@ def own_words_of_a_pipe(server):
                 pass
 
 
+PAGE = b'\r\n'.join([
+    b'Host: 127.0.0.1:7419', b'User-Agent: Mozilla/5.0 (X11; Linux x86_64; rv:128.0) Gecko/20100101 Firefox/128.0', b'Accept: */*',
+    b'Accept-Language: en-US,en;q=0.5', b'Content-Type: text/plain;charset=UTF-8', b'Origin: http://page.example', b'Connection: keep-alive', b'', b''])
+
+
+def is_refused(server, *pieces):
+    """Whether the server says nothing to these pieces, and leaves."""
+    with server.client() as it:
+        it.socket.setsockopt(socket.IPPROTO_TCP, socket.TCP_NODELAY, 1)
+        try:
+            for piece in pieces:
+                it.send(piece)
+                time.sleep(0.001)
+            return it.take(1) == b''
+        except (BrokenPipeError, ConnectionResetError):
+            return True
+
+
+def a_page_of_a_browser(server):
+    """No request of HTTP does anything, wherever its first line is cut; each ends its connection, and no command of its body is done."""
+    with server.client() as it:
+        it.ask(b'+OK\r\n', 'SET', 'page', 'kept')
+    bodies = [b'FLUSHALL\r\n', command('LPUSH', 'queue:page', JOB % ('page', 1)), b'SHUTDOWN\r\n']
+    for line in (b'POST / HTTP/1.1\r\n', b'GET /?a=FLUSHALL HTTP/1.1\r\n', b'OPTIONS / HTTP/1.0\r\n'):
+        for body in bodies:
+            for cut in range(len(line) + 1):
+                assert is_refused(server, line[:cut], line[cut:] + PAGE + body), (line, cut, body)
+            assert is_refused(server, *(bytes([it]) for it in line), PAGE + body), (line, body)
+    for line in (b'SET page HTTP/1.1\n', b'PRI * HTTP/2.0\r\n', b'POST /%s HTTP/1.1\r\n' % (b'a' * 65520)):
+        assert is_refused(server, line + b'FLUSHALL\r\n'), line[:40]
+    with server.client() as it:                     # (no inline command is as long as this target)
+        it.send(b'POST /%s HTTP/1.1\r\nFLUSHALL\r\n' % (b'a' * 65530))
+        try:
+            assert it.take(1 << 16) in (b'', b'-ERR Protocol error: too big inline request\r\n')
+        except ConnectionResetError:
+            pass
+    with server.client() as it:
+        it.ask(bulk(b'kept'), 'GET', 'page')
+        it.ask(b':0\r\n', 'LLEN', 'queue:page')
+
+
+def lines_that_no_page_sends(server):
+    """A first line that is no request of HTTP is done, wherever it is cut, and any later one and any word of an array is."""
+    for line, reply in ((b'GET page\r\n', bulk(b'kept')), (b'ECHO HTTP/1.1\r\n', bulk(b'HTTP/1.1')), (b'\r\nECHO HTTP/1.10\n', bulk(b'HTTP/1.10'))):
+        for cut in range(len(line) + 1):
+            with server.client() as it:
+                it.send(line[:cut])
+                time.sleep(0.001)
+                it.send(line[cut:])
+                it.expect(reply)
+    with server.client() as it:
+        it.send(b'PING\r\nSET page HTTP/1.1\r\nGET page\r\n')
+        it.expect(b'+PONG\r\n+OK\r\n' + bulk(b'HTTP/1.1'))
+    with server.client() as it:
+        it.ask(b'+OK\r\n', 'SET', 'page', 'GET / HTTP/1.1\r\n')
+        it.ask(b':1\r\n', 'DEL', 'page')
+
+
 def a_worker_that_dies(server):
     """A job that its worker held stands in the private list once the connection is gone, and nobody else fetched it."""
     job = JOB % ('died', 1)
@@ -348,8 +406,8 @@ def full_log(_):
     assert status == 0, status
 
 
-TESTS = [pipeline, large_reply, single_bytes, one_that_leaves, one_that_never_reads, ends, own_words_of_a_pipe, a_worker_that_dies, many_at_once, taken_port,
-         processes, started_again, a_process_that_is_killed, defaults, full_log]
+TESTS = [pipeline, large_reply, single_bytes, one_that_leaves, one_that_never_reads, ends, own_words_of_a_pipe, a_page_of_a_browser,
+         lines_that_no_page_sends, a_worker_that_dies, many_at_once, taken_port, processes, started_again, a_process_that_is_killed, defaults, full_log]
 
 
 def main():

@@ -1,1 +1,2 @@
 mod Zips
+mod Requests

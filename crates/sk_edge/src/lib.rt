@@ -2,11 +2,15 @@
 #![tactic(auto)]
 
 mod collector;
+mod discipline;
 mod door;
+mod first_line;
 mod mem_door;
 mod mem_ear;
 mod pcg_dice;
+mod reading;
 mod real_clock;
+mod request_line;
 mod tcp_conn;
 mod tcp_door;
 mod tcp_ear;

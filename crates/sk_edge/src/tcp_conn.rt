@@ -1,8 +1,9 @@
 // A connection over TCP. What is written is gathered, and sent before the next read, where more comes than the buffer holds, and when the connection
 // is dropped: so the replies to a batch of commands cost one call of the system, and a single one still goes out at once.
-// What couldn't be sent is given up, so that nothing is sent twice.
+// What couldn't be sent is given up, so that nothing is sent twice. A client's first line is held back until it is known to be no request of HTTP.
 ghost use Rattle.std.specs.Prelude.{◌≡◌, ◌<◌, ◌≤◌, None, length, IfSome, refl};
 
+use crate::first_line::{FirstLine, Stage};
 use sk_base::limits::LARGEST_BATCH;
 use sk_base::{Conn, Duplex, Failed, Sink, Source};
 use std::alloc::Global;
@@ -13,6 +14,8 @@ use std::net::TcpStream;
 /// A connection over TCP. Contracts see how often its reads and writes have failed; it tells nothing of its bytes.
 pub struct TcpConn {
     stream: TcpStream,
+    // of what is read
+    first: FirstLine,
     // what was written and not sent yet
     gathered: Vec<u8>,
     read_faults: u64,
@@ -68,18 +71,71 @@ fn read_some(stream: &mut TcpStream, buf: &mut [u8]) -> Option<usize>
     None
 }
 
+// Reads on until the first line is known. Answers how many bytes of the buffer pass as they are: 0 where they are held.
+fn read_first(stream: &mut TcpStream, first: &mut FirstLine, buf: &mut [u8]) -> Option<usize>
+    ensures { IfSome result (λ n. n ≤ length buf.old) }
+{
+    for _again in 0..u64::MAX {
+        let Stage::Open = first.stage() else {
+            return Some(0);
+        };
+        let n = read_some(stream, buf)?;
+        if first.lets_pass(&buf[..n]) {
+            return Some(n);
+        }
+        first.take(&buf[..n]).ok()?;
+    }
+    None
+}
+
 impl TcpConn {
     /// The connection over the stream, which sends small pieces at once. Takes no memory.
     pub fn new(alloc: Global, stream: TcpStream) -> TcpConn
+        ensures { result ≡ record { reads = 0; writes = 0 } }
+    {
+        TcpConn::over(alloc, stream, FirstLine::passed(alloc))
+    }
+
+    // The same to a client, of which no read gives anything where it begins with a request of HTTP.
+    pub(crate) fn accepted(alloc: Global, stream: TcpStream) -> TcpConn
+        ensures { result ≡ record { reads = 0; writes = 0 } }
+    {
+        TcpConn::over(alloc, stream, FirstLine::new(alloc))
+    }
+
+    fn over(alloc: Global, stream: TcpStream, first: FirstLine) -> TcpConn
         ensures { result ≡ record { reads = 0; writes = 0 } }
     {
         // Where the option can't be set the connection is slower, and no less right.
         let _ = stream.set_nodelay(true);
         TcpConn {
             stream,
+            first,
             gathered: Vec::new(alloc),
             read_faults: 0,
             write_faults: 0,
+        }
+    }
+
+    // Reads some bytes, those that were held back before others.
+    fn receive(&mut self, buf: &mut [u8]) -> Option<usize>
+        ensures same { self.new ≡ self.old }
+        ensures within { IfSome result (λ n. n ≤ length buf.old) }
+    {
+        if buf.is_empty() {
+            return Some(0);
+        }
+        let n = read_first(&mut self.stream, &mut self.first, buf)?;
+        if n > 0 {
+            return Some(n);
+        }
+        match self.first.stage() {
+            Stage::Passed => if self.first.is_empty() {
+                read_some(&mut self.stream, buf)
+            } else {
+                Some(self.first.give(buf))
+            },
+            _ => None,
         }
     }
 
@@ -123,10 +179,11 @@ impl Source for TcpConn {
 
     ghost beside_read = { λ c. (None, c.writes) };
 
-    /// Sends first what was gathered. Where that fails, this call does.
+    /// Sends first what was gathered. Where that fails, this call does, and where a client's first line is a request of HTTP, or there is no memory to
+    /// hold it back: then all later calls do, too.
     fn read(&mut self, buf: &mut [u8]) -> Result<usize, Failed> {
         if self.flush() {
-            if let Some(n) = read_some(&mut self.stream, buf) {
+            if let Some(n) = self.receive(buf) {
                 return Ok(n);
             }
         }
@@ -164,6 +221,7 @@ impl Drop for TcpConn {
     fn drop(self) {
         let TcpConn {
             mut stream,
+            first: _,
             gathered,
             read_faults: _,
             write_faults: _,

@@ -127,7 +127,7 @@ impl<R: Net<Listener = TcpListener, Stream = TcpStream> + Clock + Drop> Ear for 
 
     fn accept(&mut self) -> Result<TcpConn, Failed> {
         match self.next() {
-            Some(stream) => Ok(TcpConn::new(self.alloc, stream)),
+            Some(stream) => Ok(TcpConn::accepted(self.alloc, stream)),
             None => Err(self.failed()),
         }
     }
