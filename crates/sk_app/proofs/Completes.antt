@@ -1,5 +1,5 @@
 -- That a program whose words are a line of it is done to its end, where nothing hinders it.
-use Rattle.std.proofs.Common.{◌≡◌, ◌≢◌, ◌⊎◌, inl, inr, ◌-◌, ◌/◌, ◌^◌, ℕ, true, false, List, Option, Result, Ok, Err, refl, sym, subst, ◌∙◌}
+use Rattle.std.proofs.Common.{◌≡◌, ◌≢◌, ◌⊎◌, inl, inr, ◌-◌, ℕ, true, false, List, Option, Result, Ok, Err, refl, sym, subst, ◌∙◌}
 use Rattle.std.proofs.lemmas.Bool.{true≢false}
 use Rattle.clap.specs.Words.{Text}
 use Rattle.sk_client.specs.declared.client_fault.ClientFault.{ClientFault}
@@ -24,7 +24,6 @@ use Rattle.sk_payload.specs.declared.draft_fault.DraftFault.TheVariants as draft
 use Rattle.sk_resp.specs.Spelling.{Bytes}
 use Rattle.sk_resp.specs.declared.reply.Reply.{Reply}
 use Rattle.sk_resp.specs.declared.reply.Reply.TheVariants as reply
-use Rattle.sk_serve.specs.Server.{IsUsedUp}
 use Rattle.sk_serve.specs.declared.serve_end.ServeEnd.{ServeEnd}
 use Rattle.sk_serve.specs.declared.serve_end.ServeEnd.TheVariants as end
 use Rattle.sk_app.specs.Completing.{DoneOr, IsBroken, IsSpoilt, ServeHindered, WorkHindered, closed, refused as got_another, spoilt, unanswered}
@@ -117,28 +116,28 @@ soak_completes words asked outcome status before after is came told whole =
 
 -- ## serve
 
-serve_ended : (words : List Text) (Fails : ℕ → Type 0) (asked : ServeLine) (outcome : Result Bytes Failure) (how : ServeEnd) → (how ≡ end.Failed → Fails asked.loops) →
-    (how ≡ end.Spent → IsUsedUp ((2 ^ 32 - 2) / asked.loops)) → outcome ≡ serving.outcome_of how → IsHindered outcome → IsServe words asked → ServeHindered words Fails
-serve_ended words Fails asked outcome (end.Served s) failed spent is hindered line = absurd (subst IsHindered is hindered)
-serve_ended words Fails asked outcome end.Failed failed spent is hindered line = (asked, line, inl (failed refl))
-serve_ended words Fails asked outcome end.Spent failed spent is hindered line = (asked, line, inr (spent refl))
-serve_ended words Fails asked outcome end.Memory failed spent is hindered line = absurd (subst IsHindered is hindered)
+serve_ended : (words : List Text) (Ended : ServeLine → ServeEnd → Type 0) (asked : ServeLine) (outcome : Result Bytes Failure) (how : ServeEnd) → Ended asked how
+    → outcome ≡ serving.outcome_of how → IsHindered outcome → IsServe words asked → ServeHindered words Ended
+serve_ended words Ended asked outcome (end.Served s) ended is hindered line = absurd (subst IsHindered is hindered)
+serve_ended words Ended asked outcome end.Failed ended is hindered line = (asked, line, inl ended)
+serve_ended words Ended asked outcome end.Spent ended is hindered line = (asked, line, inr ended)
+serve_ended words Ended asked outcome end.Memory ended is hindered line = absurd (subst IsHindered is hindered)
 
-served : (words : List Text) (Fails : ℕ → Type 0) (asked : ServeLine) (outcome : Result Bytes Failure) → IsServe words asked → (s : Serves asked Fails outcome) →
-    IsOutcome s.how outcome → IsHindered outcome → ServeHindered words Fails
-served words Fails asked outcome line s (inl is) hindered = serve_ended words Fails asked outcome s.how s.failed s.spent is hindered line
-served words Fails asked outcome line s (inr starved) hindered = absurd (subst IsHindered starved hindered)
+served : (words : List Text) (Ended : ServeLine → ServeEnd → Type 0) (asked : ServeLine) (outcome : Result Bytes Failure) → IsServe words asked → (s : Serves asked Ended outcome) →
+    IsOutcome s.how outcome → IsHindered outcome → ServeHindered words Ended
+served words Ended asked outcome line s (inl is) hindered = serve_ended words Ended asked outcome s.how s.ended is hindered line
+served words Ended asked outcome line s (inr starved) hindered = absurd (subst IsHindered starved hindered)
 
-serve_ran : (words : List Text) (Untouched : Type 0) (Fails : ℕ → Type 0) (asked : ServeLine) (outcome : Result Bytes Failure) → IsServe words asked →
-    ServeRun words Untouched Fails outcome → IsHindered outcome → ServeHindered words Fails
-serve_ran words Untouched Fails asked outcome is (serving.refused none untouched) hindered = absurd (none asked is)
-serve_ran words Untouched Fails asked outcome is serving.starved hindered = absurd hindered
-serve_ran words Untouched Fails asked outcome is (serving.served asked0 outcome0 is0 serves) hindered = served words Fails asked0 outcome is0 serves serves.is hindered
+serve_ran : (words : List Text) (Untouched : Type 0) (Ended : ServeLine → ServeEnd → Type 0) (asked : ServeLine) (outcome : Result Bytes Failure) → IsServe words asked →
+    ServeRun words Untouched Ended outcome → IsHindered outcome → ServeHindered words Ended
+serve_ran words Untouched Ended asked outcome is (serving.refused none untouched) hindered = absurd (none asked is)
+serve_ran words Untouched Ended asked outcome is serving.starved hindered = absurd hindered
+serve_ran words Untouched Ended asked outcome is (serving.served asked0 outcome0 is0 serves) hindered = served words Ended asked0 outcome is0 serves serves.is hindered
 
-pub serve_completes : (words : List Text) (Untouched : Type 0) (Fails : ℕ → Type 0) (asked : ServeLine) (outcome : Result Bytes Failure) (status : ℕ) (before after : Option Bytes) →
-    IsServe words asked → ServeRun words Untouched Fails outcome → Concludes outcome status before after → status ≢ 4 → DoneOr (ServeHindered words Fails) status
-serve_completes words Untouched Fails asked outcome status before after is came told whole =
-    or_else (IsHindered outcome) (ServeHindered words Fails) status (concluded outcome status before after told whole) (serve_ran words Untouched Fails asked outcome is came)
+pub serve_completes : (words : List Text) (Untouched : Type 0) (Ended : ServeLine → ServeEnd → Type 0) (asked : ServeLine) (outcome : Result Bytes Failure) (status : ℕ) (before after : Option Bytes) →
+    IsServe words asked → ServeRun words Untouched Ended outcome → Concludes outcome status before after → status ≢ 4 → DoneOr (ServeHindered words Ended) status
+serve_completes words Untouched Ended asked outcome status before after is came told whole =
+    or_else (IsHindered outcome) (ServeHindered words Ended) status (concluded outcome status before after told whole) (serve_ran words Untouched Ended asked outcome is came)
 
 -- ## status
 

@@ -1,5 +1,5 @@
 -- What alone may keep a program whose words are a line of it from status 0, besides its sink and want of memory.
-use Rattle.std.specs.Prelude.{◌≡◌, ◌≢◌, ◌⊎◌, ◌-◌, ◌/◌, ◌^◌, ℕ, true, List, [], ◌∷◌, Result, Ok, Err}
+use Rattle.std.specs.Prelude.{◌≡◌, ◌≢◌, ◌⊎◌, ℕ, true, List, [], ◌∷◌, Result, Ok, Err}
 use Rattle.clap.specs.Words.{Text}
 use Rattle.sk_base.specs.Outside.{Rose}
 use Rattle.sk_base.specs.declared.sink.Sink as a_sink
@@ -19,7 +19,8 @@ use Rattle.sk_link.specs.declared.link.LinkFault.{LinkFault}
 use Rattle.sk_link.specs.declared.link.LinkFault.TheVariants as link
 use Rattle.sk_resp.specs.Spelling.{Bytes}
 use Rattle.sk_resp.specs.declared.reply.Reply.{Reply}
-use Rattle.sk_serve.specs.Server.{IsUsedUp}
+use Rattle.sk_serve.specs.declared.serve_end.ServeEnd.{ServeEnd}
+use Rattle.sk_serve.specs.declared.serve_end.ServeEnd.TheVariants as serve_end
 use Rattle.sk_app.specs.Dialogue.{DoorTells, door_tells, fresh}
 use Rattle.sk_app.specs.Paging.{page_of, status_words}
 use Rattle.sk_app.specs.Pushing.{request}
@@ -29,9 +30,9 @@ use Rattle.sk_app.specs.declared.job.PushJob.{PushJob}
 abbrev pub DoneOr : Type 0 → ℕ → Type 0
 DoneOr Hindered status = (status ≡ 0) ⊎ (status ≡ 5) ⊎ Hindered
 
--- The door or an ear failed, or a loop had used up its numbers of seats.
-abbrev pub ServeHindered : List Text → (ℕ → Type 0) → Type 0
-ServeHindered words Fails = (line : ServeLine) × IsServe words line × (Fails line.loops ⊎ IsUsedUp ((2 ^ 32 - 2) / line.loops))
+-- A server by the line failed, or a loop of it had used up its numbers of seats.
+abbrev pub ServeHindered : List Text → (ServeLine → ServeEnd → Type 0) → Type 0
+ServeHindered words Ended = (line : ServeLine) × IsServe words line × (Ended line serve_end.Failed ⊎ Ended line serve_end.Spent)
 
 -- A request was lost for another cause than want of memory, or got another reply than it wants.
 pub data IsSpoilt (Carried : List Call → Type 0) (words : List Bytes) (Wanted : Reply → Type 0) : Type 0 where

@@ -11,10 +11,13 @@ use Rattle.sk_base.specs.declared.dice.Dice as a_dice
 use Rattle.sk_base.specs.declared.sink.Sink as a_sink
 use Rattle.sk_base.specs.declared.source.Source as a_source
 use Rattle.sk_edge.specs.declared.door.Door as a_door
+use Rattle.sk_edge.specs.declared.door.Ear as an_ear
 use Rattle.sk_resp.specs.Spelling.{Bytes}
 use Rattle.sk_launcher.specs.Promises.{Launches}
+use Rattle.sk_line.specs.Drill.{IsDrill}
 use Rattle.sk_line.specs.Lines.{IsServe, IsStatus}
 use Rattle.sk_line.specs.Work.{IsWork}
+use Rattle.sk_line.specs.declared.drill_line.DrillLine.{DrillLine}
 use Rattle.sk_line.specs.declared.push_line.PushLine.{PushLine}
 use Rattle.sk_line.specs.declared.serve_line.ServeLine.{ServeLine}
 use Rattle.sk_line.specs.declared.status_line.StatusLine.{StatusLine}
@@ -23,7 +26,8 @@ use Rattle.sk_middle.specs.declared.chain.Through.{Through}
 use Rattle.sk_payload.specs.declared.draft.JobDraft.{JobDraft}
 use Rattle.sk_pipe.specs.Run.{Completes, IsPiped, shipped, status_of}
 use Rattle.sk_pipe.specs.declared.pipe_end.PipeEnd.{PipeEnd}
-use Rattle.sk_serve.specs.Server.{HasFailed}
+use Rattle.sk_serve.specs.Server.{HasEnded}
+use Rattle.sk_serve.specs.declared.serve_end.ServeEnd.{ServeEnd}
 use Rattle.sk_worker.specs.Run.{Run}
 use Rattle.sk_worker.specs.declared.registry.Registry.{Registry}
 use Rattle.sk_app.specs.Completing.{DoneOr, PushHindered, ServeHindered, StatusHindered, WorkHindered}
@@ -61,18 +65,20 @@ PipeDone Source Sink source sink source_after sink_after status = Completes (Sou
 
 -- ## serve
 
--- The door, or an ear of so many loops, failed. (What an ear tells of its faults is given as a function.)
-abbrev pub ServerFails : {N Conn Ear : Type 0} → a_door.Ghosts N Conn Ear → (Ear → ℕ) → N → N → ℕ → Type 0
-ServerFails Door ear_faults net net_after loops = HasFailed Door.door_faults Door.gathered ear_faults loops net net_after
+module _ {N Conn Ear C : Type 0} (Door : a_door.Ghosts N Conn Ear) (OfEar : an_ear.Ghosts Ear Conn) (Source : a_source.Ghosts Conn) (Sink : a_sink.Ghosts Conn)
+    (Clock : a_clock.Ghosts C) where
+  -- A server by the line ended so.
+  abbrev pub ServerEnds : N → N → ServeLine → ServeEnd → Type 0
+  ServerEnds net net_after line how = HasEnded Door OfEar Source Sink Clock line.sessions line.loops net net_after how
 
--- What `serve` did for these words, and came to.
-abbrev pub DoServe : {N Conn Ear A : Type 0} → a_door.Ghosts N Conn Ear → (Ear → ℕ) → List (String A) → N → N → Result Bytes Failure → Type 0
-DoServe Door ear_faults words net net_after outcome = ServeRun (texts words) (net_after ≡ net) (λ loops. ServerFails Door ear_faults net net_after loops) outcome
+  -- What `serve` did for these words, and came to.
+  abbrev pub DoServe : {A : Type 0} → List (String A) → N → N → Result Bytes Failure → Type 0
+  DoServe words net net_after outcome = ServeRun (texts words) (net_after ≡ net) (ServerEnds net net_after) outcome
 
--- A line of `serve` is done, unless the door or an ear fails or seats are used up, where the sink takes the summary.
-abbrev pub ServeDone : {N Conn Ear A : Type 0} → a_door.Ghosts N Conn Ear → (Ear → ℕ) → List (String A) → N → N → ℕ → Type 0
-ServeDone Door ear_faults words net net_after status = (line : ServeLine) → IsServe (texts words) line → status ≢ 4 →
-    DoneOr (ServeHindered (texts words) (λ loops. ServerFails Door ear_faults net net_after loops)) status
+  -- A line of `serve` is done, unless the door or an ear fails or seats are used up, where the sink takes the summary.
+  abbrev pub ServeDone : {A : Type 0} → List (String A) → N → N → ℕ → Type 0
+  ServeDone words net net_after status = (line : ServeLine) → IsServe (texts words) line → status ≢ 4 →
+      DoneOr (ServeHindered (texts words) (ServerEnds net net_after)) status
 
 -- ## work
 
@@ -124,3 +130,9 @@ abbrev pub StatusDone : {N Conn Ear A : Type 0} → a_door.Ghosts N Conn Ear →
     ℕ → Type 0
 StatusDone Door Source Sink words net net_after status = (line : StatusLine) → IsStatus (texts words) line → status ≢ 4 →
     DoneOr (StatusHindered Door Source Sink net net_after) status
+
+-- ## drill
+
+-- A line of `drill` is done, where the sink takes the summary, or its threads' stories and the journal differ.
+abbrev pub DrillDone : {A : Type 0} → ℕ → List (String A) → ℕ → Type 0
+DrillDone teams words status = (line : DrillLine) → IsDrill teams (texts words) line → status ≢ 4 → DoneOr (status ≡ 8) status

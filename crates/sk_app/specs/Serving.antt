@@ -1,12 +1,10 @@
 -- The program `serve`.
-use Rattle.std.specs.Prelude.{◌≡◌, ◌⊎◌, ◌-◌, ◌/◌, ◌^◌, ◌++◌, ℕ, List, [], ◌∷◌, Result, Ok, Err, codes}
+use Rattle.std.specs.Prelude.{◌≡◌, ◌⊎◌, ◌++◌, List, [], ◌∷◌, Result, Ok, Err, codes}
 use Rattle.std.specs.Fmt.{decimal}
 use Rattle.clap.specs.Words.{Text}
 use Rattle.sk_resp.specs.Spelling.{Bytes, lf}
 use Rattle.sk_line.specs.Lines.{IsServe}
 use Rattle.sk_line.specs.declared.serve_line.ServeLine.{ServeLine}
-use Rattle.sk_serve.specs.Ending.{IfServed}
-use Rattle.sk_serve.specs.Server.{IsServed, IsUsedUp}
 use Rattle.sk_serve.specs.declared.serve_end.ServeEnd.{ServeEnd}
 use Rattle.sk_serve.specs.declared.serve_end.ServeEnd.TheVariants as end
 use Rattle.sk_serve.specs.declared.serve_end.Served.{Served}
@@ -32,16 +30,14 @@ outcome_of end.Memory = Err failure.Memory
 abbrev pub IsOutcome : ServeEnd → Result Bytes Failure → Type 0
 IsOutcome e outcome = (outcome ≡ outcome_of e) ⊎ (outcome ≡ Err failure.Memory)
 
--- A server ran as the line says, and came to the outcome. `Fails` tells of how many loops the door or an ear failed.
-pub record Serves (line : ServeLine) (Fails : ℕ → Type 0) (outcome : Result Bytes Failure) : Type 0 where
+-- A server ran as the line says, and came to the outcome. `Ended` tells what holds of a server by a line that ended so.
+pub record Serves (line : ServeLine) (Ended : ServeLine → ServeEnd → Type 0) (outcome : Result Bytes Failure) : Type 0 where
   pub how : ServeEnd
-  pub served : IfServed how (IsServed line.sessions line.loops)
-  pub failed : how ≡ end.Failed → Fails line.loops
-  pub spent : how ≡ end.Spent → IsUsedUp ((2 ^ 32 - 2) / line.loops)
+  pub ended : Ended line how
   pub is : IsOutcome how outcome
 
 -- The words are no line of `serve`; then nothing was done. Or there was no memory to read them. Or a server ran.
-pub data ServeRun (words : List Text) (Untouched : Type 0) (Fails : ℕ → Type 0) : Result Bytes Failure → Type 0 where
-  refused : ((line : ServeLine) → IsServe words line → ⊥) → Untouched → ServeRun words Untouched Fails (Err failure.Line)
-  starved : ServeRun words Untouched Fails (Err failure.Memory)
-  served : (line : ServeLine) (outcome : Result Bytes Failure) → IsServe words line → Serves line Fails outcome → ServeRun words Untouched Fails outcome
+pub data ServeRun (words : List Text) (Untouched : Type 0) (Ended : ServeLine → ServeEnd → Type 0) : Result Bytes Failure → Type 0 where
+  refused : ((line : ServeLine) → IsServe words line → ⊥) → Untouched → ServeRun words Untouched Ended (Err failure.Line)
+  starved : ServeRun words Untouched Ended (Err failure.Memory)
+  served : (line : ServeLine) (outcome : Result Bytes Failure) → IsServe words line → Serves line Ended outcome → ServeRun words Untouched Ended outcome

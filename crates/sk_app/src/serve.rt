@@ -5,7 +5,7 @@ ghost use Rattle.sk_base.specs.declared.limits.TheConstants.{MOST_LOOPS_SERVED};
 ghost use Rattle.sk_app.specs.Ending.{Ends};
 ghost use Rattle.sk_app.specs.Serving.{IsOutcome, Serves, first_line, summary_text};
 ghost use Rattle.sk_app.specs.declared.failure.Failure.TheVariants.{Line};
-ghost use Rattle.sk_app.specs.Promises.{DoServe, ServeDone, ServerFails};
+ghost use Rattle.sk_app.specs.Promises.{DoServe, ServeDone, ServerEnds};
 
 use crate::Failure;
 use crate::ending::conclude;
@@ -64,7 +64,7 @@ fn serve_by<R: Threads + Wait + Sync, N: Door, C: Clock + Send>(
 where
     N::Ear: Send,
     requires loops { (0 < line.loops) × (line.loops ≤ MOST_LOOPS_SERVED) }
-    ensures told { Serves line (λ loops. ServerFails N.Door N.Ear.ear_faults net.old net.new loops) result }
+    ensures told { Serves line (ServerEnds N.Door N.Ear.Ear N.Conn.Source N.Conn.Sink C.Clock net.old net.new) result }
     ensures never { result ≡ Err Line → ⊥ }
     ensures later { N.door_faults net.old ≤ N.door_faults net.new }
 {
@@ -94,7 +94,7 @@ fn outcome_by<R: Threads + Wait + Sync, N: Door, C: Clock + Send>(
 ) -> Result<Word, Failure>
 where
     N::Ear: Send,
-    ensures told { DoServe N.Door N.Ear.ear_faults words.now net.old net.new result }
+    ensures told { DoServe N.Door N.Ear.Ear N.Conn.Source N.Conn.Sink C.Clock words.now net.old net.new result }
     ensures untouched { result ≡ Err Line → net.new ≡ net.old }
     ensures later { N.door_faults net.old ≤ N.door_faults net.new }
 {
@@ -114,10 +114,10 @@ pub fn run_serve<R: Threads + Wait + Sync, K: Sink, N: Door, C: Clock + Send>(
 ) -> u8
 where
     N::Ear: Send,
-    ensures told { Ends K.Sink sink.old sink.new result (DoServe N.Door N.Ear.ear_faults words.now net.old net.new) }
+    ensures told { Ends K.Sink sink.old sink.new result (DoServe N.Door N.Ear.Ear N.Conn.Source N.Conn.Sink C.Clock words.now net.old net.new) }
 
     // A line of `serve` is done, unless the door or an ear fails or seats are used up, where the sink takes the summary.
-    ensures completes { ServeDone N.Door N.Ear.ear_faults words.now net.old net.new result }
+    ensures completes { ServeDone N.Door N.Ear.Ear N.Conn.Source N.Conn.Sink C.Clock words.now net.old net.new result }
 
     // With status 4 the sink's count of faults rose.
     ensures sink_cause { result ≡ 4 → Rose (K.write_faults sink.old) (K.write_faults sink.new) }

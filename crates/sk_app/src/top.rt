@@ -5,17 +5,14 @@ ghost use Rattle.sk_pipe.specs.Run.{IsPipeLine};
 ghost use Rattle.sk_base.specs.declared.limits.TheConstants.{MOST_WORKERS};
 ghost use Rattle.sk_launcher.specs.Connections.{classes_of};
 ghost use Rattle.sk_middle.specs.Applied.{applied};
-ghost use Rattle.sk_line.specs.Drill.{IsDrill};
-ghost use Rattle.sk_line.specs.declared.drill_line.DrillLine.{DrillLine};
 ghost use Rattle.sk_line.specs.Soak.{IsSoak};
 ghost use Rattle.sk_line.specs.declared.soak_line.SoakLine.{SoakLine};
-ghost use Rattle.sk_app.specs.Completing.{DoneOr};
 ghost use Rattle.sk_app.specs.Drilling.{RunsDrill};
 ghost use Rattle.sk_app.specs.Ending.{Ends};
 ghost use Rattle.sk_app.specs.Programs.{program_of};
 ghost use Rattle.sk_app.specs.Soaking.{SoakRun};
 ghost use Rattle.sk_app.specs.declared.program.Program.TheVariants.{Drill, Push, Serve, Soak, Status, Work};
-ghost use Rattle.sk_app.specs.Promises.{DoPush, DoServe, DoStatus, DoWork, Names, PipeDone, Pipes, PushDone, ServeDone, StatusDone, WorkDone, texts};
+ghost use Rattle.sk_app.specs.Promises.{DoPush, DoServe, DoStatus, DoWork, DrillDone, Names, PipeDone, Pipes, PushDone, ServeDone, StatusDone, WorkDone, texts};
 
 use crate::program::{Program, program_of};
 use crate::{run_drill, run_push, run_serve, run_soak, run_status, run_work};
@@ -70,7 +67,7 @@ where
     ensures completes { IsPipeLine (texts words.now) → PipeDone S.Source K.Sink source.old sink.old source.new sink.new result }
 
     // A server.
-    ensures served { Names words.now Serve → Ends K.Sink sink.old sink.new result (DoServe N.Door N.Ear.ear_faults words.now net.old net.new) }
+    ensures served { Names words.now Serve → Ends K.Sink sink.old sink.new result (DoServe N.Door N.Ear.Ear N.Conn.Source N.Conn.Sink C.Clock words.now net.old net.new) }
 
     // Workers.
     ensures worked { Names words.now Work → Ends K.Sink sink.old sink.new result
@@ -90,13 +87,12 @@ where
     ensures drilled { Names words.now Drill → Ends K.Sink sink.old sink.new result (RunsDrill runs rules.items teams.old teams.new (texts words.now)) }
 
     // A line of a program is done, where the sink takes what is told and nothing hinders it. Where something does, it is this.
-    ensures serve_completes { Names words.now Serve → ServeDone N.Door N.Ear.ear_faults words.now net.old net.new result }
+    ensures serve_completes { Names words.now Serve → ServeDone N.Door N.Ear.Ear N.Conn.Source N.Conn.Sink C.Clock words.now net.old net.new result }
     ensures work_completes { Names words.now Work → WorkDone N.Door N.Conn.Source N.Conn.Sink runs words.now net.old teams.old net.new teams.new result }
     ensures push_completes { Names words.now Push → PushDone N.Door N.Conn.Source N.Conn.Sink net.old net.new result }
     ensures status_completes { Names words.now Status → StatusDone N.Door N.Conn.Source N.Conn.Sink words.now net.old net.new result }
     ensures soak_completes { Names words.now Soak → (line : SoakLine) → IsSoak (texts words.now) line → result ≢ 4 → (result ≡ 0) ⊎ (result ≡ 5) }
-    ensures drill_completes { Names words.now Drill → (line : DrillLine) → IsDrill (vec_len teams.old) (texts words.now) line
-        → result ≢ 4 → DoneOr (result ≡ 8) result }
+    ensures drill_completes { Names words.now Drill → DrillDone (vec_len teams.old) words.now result }
 
     // Words that name no program are refused.
     ensures unknown { (IsPipeLine (texts words.now) → ⊥) → program_of (texts words.now) ≡ None → result ≡ 2 }

@@ -1,21 +1,14 @@
 -- Lists from whose end one is taken, and lists of pairs at each place.
-use Rattle.std.proofs.Common.{◌≡◌, ℕ, ◌+◌, ◌*◌, ◌<◌, List, [], ◌∷◌, ◌++◌, Bool, true, false, ◌||◌, length, refl, sym, ap, ◌∙◌, subst, arith, mul-add, mul-one, slice_index_or, suc, ◌≤◌, ◌/◌, append_assoc, append-nil, map}
-use Rattle.std.specs.Prelude.{All, reverse}
-use Rattle.std.specs.List.{AllZip}
-use Rattle.std.proofs.lemmas.List.Elements.{All-push}
+use Rattle.std.proofs.Common.{◌≡◌, ℕ, ◌+◌, ◌*◌, ◌<◌, List, [], ◌∷◌, ◌++◌, length, refl, sym, ap, ◌∙◌, arith, mul-add, mul-one, slice_index_or, suc, ◌≤◌, ◌/◌, append_assoc, append-nil, map}
+use Rattle.std.specs.Prelude.{reverse}
+use Rattle.std.specs.List.{AllZip, sum_by}
+use Rattle.std.proofs.lemmas.List.Sums.{sum_by_push}
 use Rattle.std.proofs.lemmas.List.{map_push, reverse-append}
 use Rattle.std.proofs.lemmas.Nat.{le-div}
 
 -- one more
 pub more : (n a b : ℕ) → a ≡ b + 1 → n * a ≡ n * b + n
 more n a b is = ap (λ k. n * k) is ∙ mul-add n b 1 ∙ ap (λ z. n * b + z) (mul-one n)
-
-pub put_back : {X : Type 0} (P : X → Type 0) (xs ys : List X) (x : X) → xs ≡ ys ++ x ∷ [] → All P ys → P x → All P xs
-put_back P xs ys x is all p = subst (All P) (sym is) (All-push P ys x all p)
-
-pub neither : (a b : Bool) → (a || b) ≡ false → (a ≡ false) × (b ≡ false)
-neither true b is = absurd (cc is)
-neither false b is = (refl, is)
 
 -- what holds at each place holds of the lists
 pub zipped : {X : Type 0} (R : X → X → Type 0) (xs ys : List X) → length ys ≡ length xs → ((i : ℕ) (d : X) → i < length xs → R (slice_index_or xs i d) (slice_index_or ys i d)) → AllZip R xs ys
@@ -34,18 +27,40 @@ all_back new mid old total n a b back gave same all = omega (arith, back, gave, 
 
 -- ## A list that is moved from its end to another
 
+pub popped : {X : Type 0} (xs xs' : List X) (x : X) → xs ≡ xs' ++ x ∷ [] → reverse xs ≡ x ∷ reverse xs'
+popped xs xs' x gone = ap reverse gone ∙ reverse-append xs' (x ∷ [])
+
+pub popped_by : {X T : Type 0} (f : X → T) (xs xs' : List X) (x : X) → xs ≡ xs' ++ x ∷ [] → reverse (map f xs) ≡ f x ∷ reverse (map f xs')
+popped_by f xs xs' x gone = ap (λ z. reverse (map f z)) gone ∙ ap reverse (map_push f xs' x) ∙ reverse-append (map f xs') (f x ∷ [])
+
+pub pushed_by : {Y T : Type 0} (g : Y → T) (ys ys' : List Y) (y : Y) (t : T) → ys' ≡ ys ++ y ∷ [] → g y ≡ t → map g ys' ≡ map g ys ++ t ∷ []
+pushed_by g ys ys' y t come same = ap (map g) come ∙ map_push g ys y ∙ ap (λ n. map g ys ++ n ∷ []) same
+
 -- one more
-pub moved : {X Y T : Type 0} (f : X → T) (g : Y → T) (xs xs' : List X) (x : X) (ys ys' : List Y) (y : Y) (all : List T) → xs ≡ xs' ++ x ∷ [] → ys' ≡ ys ++ y ∷ [] → g y ≡ f x
-    → map g ys ++ reverse (map f xs) ≡ all → map g ys' ++ reverse (map f xs') ≡ all
-moved f g xs xs' x ys ys' y all gone come same was =
-    let back : reverse (map f xs) ≡ f x ∷ reverse (map f xs') = ap (λ z. reverse (map f z)) gone ∙ ap reverse (map_push f xs' x) ∙ reverse-append (map f xs') (f x ∷ []) in
-    let front : map g ys' ≡ map g ys ++ f x ∷ [] = ap (map g) come ∙ map_push g ys y ∙ ap (λ n. map g ys ++ n ∷ []) same in
-    ap (λ z. z ++ reverse (map f xs')) front ∙ append_assoc (map g ys) (f x ∷ []) (reverse (map f xs')) ∙ sym (ap (λ z. map g ys ++ z) back) ∙ was
+pub moved : {T : Type 0} (front front' back back' : List T) (x : T) (all : List T) → back ≡ x ∷ back' → front' ≡ front ++ x ∷ [] → front ++ back ≡ all → front' ++ back' ≡ all
+moved front front' back back' x all gone come was = ap (λ z. z ++ back') come ∙ append_assoc front (x ∷ []) back' ∙ sym (ap (λ z. front ++ z) gone) ∙ was
 
-pub none_yet : {Y T : Type 0} (g : Y → T) (ys : List Y) (all : List T) → length ys ≡ 0 → map g ys ++ all ≡ all
-none_yet g [] all none = refl
-none_yet g (y ∷ ys) all none = absurd (omega (arith, none))
+pub none_yet : {T : Type 0} (front all : List T) → length front ≡ 0 → front ++ all ≡ all
+none_yet [] all none = refl
+none_yet (t ∷ front) all none = absurd (omega (arith, none))
 
-pub all_moved : {X Y T : Type 0} (f : X → T) (g : Y → T) (xs : List X) (ys : List Y) (all : List T) → length xs ≡ 0 → map g ys ++ reverse (map f xs) ≡ all → map g ys ≡ all
-all_moved f g [] ys all none is = sym (append-nil (map g ys)) ∙ is
-all_moved f g (x ∷ xs) ys all none is = absurd (omega (arith, none))
+pub none_mapped : {Y T : Type 0} (g : Y → T) (ys : List Y) (all : List T) → length ys ≡ 0 → map g ys ++ all ≡ all
+none_mapped g [] all none = refl
+none_mapped g (y ∷ ys) all none = absurd (omega (arith, none))
+
+pub all_moved : {T : Type 0} (front back all : List T) → length back ≡ 0 → front ++ reverse back ≡ all → front ≡ all
+all_moved front [] all none is = sym (append-nil front) ∙ is
+all_moved front (t ∷ back) all none is = absurd (omega (arith, none))
+
+pub all_moved_by : {X T : Type 0} (f : X → T) (xs : List X) (front all : List T) → length xs ≡ 0 → front ++ reverse (map f xs) ≡ all → front ≡ all
+all_moved_by f [] front all none is = sym (append-nil front) ∙ is
+all_moved_by f (x ∷ xs) front all none is = absurd (omega (arith, none))
+
+-- ## A sum over it
+
+pub sum_popped : {X : Type 0} (f : X → ℕ) (xs xs' : List X) (x : X) → xs ≡ xs' ++ x ∷ [] → sum_by f xs ≡ sum_by f xs' + f x
+sum_popped f xs xs' x gone = ap (sum_by f) gone ∙ sum_by_push f xs' x
+
+pub sum_none : {X : Type 0} (f : X → ℕ) (xs : List X) → length xs ≡ 0 → sum_by f xs ≡ 0
+sum_none f [] none = refl
+sum_none f (x ∷ xs) none = absurd (omega (arith, none))

@@ -1,5 +1,4 @@
 -- How a server ends.
-use Rattle.sk_serve.specs.declared.serve_end.Served.{Served}
 use Rattle.sk_serve.specs.declared.serve_end.ServeEnd.{ServeEnd}
 use Rattle.sk_serve.specs.declared.serve_end.ServeEnd.TheVariants as serve_end
 use Rattle.sk_serve.specs.declared.serve_end.ServeFault.{ServeFault}
@@ -10,8 +9,3 @@ abbrev pub end_of : ServeFault → ServeEnd
 end_of fault.Failed = serve_end.Failed
 end_of fault.Spent = serve_end.Spent
 end_of fault.Memory = serve_end.Memory
-
--- where the server answers so, this holds of what it did
-abbrev pub IfServed : ServeEnd → (Served → Type 0) → Type 0
-IfServed (serve_end.Served s) P = P s
-IfServed other P = Unit {0}

@@ -1,3 +1,4 @@
 pub mod Session
 pub mod Ending
+pub mod Visits
 pub mod Server

@@ -1,163 +1,178 @@
--- What the sessions of a server did, loop by loop and in all.
-use Rattle.std.specs.Prelude.{◌≡◌, ◌≢◌, ◌⊎◌, ℕ, ◌+◌, ◌-◌, ◌*◌, ◌<◌, ◌≤◌, All, List, [], ◌∷◌, length, map, Option, None, Bool, true, false}
-use Rattle.std.specs.List.{Any}
+-- What the accept loops of a server did, and what came of all its connections.
+use Rattle.std.specs.Prelude.{◌≡◌, ◌≢◌, ◌⊎◌, ℕ, ◌+◌, ◌-◌, ◌*◌, ◌/◌, ◌^◌, ◌<◌, ◌≤◌, All, List, [], length, map, Option, Result, Ok, Err, Bool, true, false}
+use Rattle.std.specs.List.{Any, sum_by}
 use Rattle.sk_base.specs.Outside.{Rose}
-use Rattle.sk_resp.specs.Spelling.{Bytes}
+use Rattle.sk_base.specs.declared.clock.Clock as a_clock
+use Rattle.sk_base.specs.declared.sink.Sink as a_sink
+use Rattle.sk_base.specs.declared.source.Source as a_source
 use Rattle.sk_desk.specs.Pass.{PassView}
-use Rattle.sk_edge.specs.Collected.{Collected, Keeps, MakesRoom}
-use Rattle.sk_edge.specs.Doors.{IsNudged}
 use Rattle.sk_desk.specs.State.{IsBalanced}
-use Rattle.sk_talk.specs.Talk.{DoesAll, Ends}
+use Rattle.sk_edge.specs.Collected.{Collected, Keeps, MakesRoom}
+use Rattle.sk_edge.specs.Doors.{IsNudged, Listens}
+use Rattle.sk_edge.specs.declared.door.Door as a_door
+use Rattle.sk_edge.specs.declared.door.Ear as an_ear
 use Rattle.sk_talk.specs.declared.talk_end.TalkEnd.{TalkEnd}
-use Rattle.sk_talk.specs.declared.talk_end.TalkEnd.TheVariants as end
-use Rattle.sk_serve.specs.Session.{Does, Seen}
+use Rattle.sk_serve.specs.Visits.{Among, AreVisits, EndsUnserved, HasShutdown, IsSummary, Standing, Visit, acknowledged_in, served_in, standing}
 use Rattle.sk_serve.specs.declared.accept_loop.LoopEnd.{LoopEnd}
 use Rattle.sk_serve.specs.declared.accept_loop.LoopEnd.TheVariants as loop_end
+use Rattle.sk_serve.specs.declared.serve_end.ServeEnd.{ServeEnd}
+use Rattle.sk_serve.specs.declared.serve_end.ServeEnd.TheVariants as serve_end
+use Rattle.sk_serve.specs.declared.serve_end.ServeFault.{ServeFault}
+use Rattle.sk_serve.specs.declared.serve_end.ServeFault.TheVariants as fault
 use Rattle.sk_serve.specs.declared.serve_end.Served.{Served}
 
--- ## Sessions
-
--- how many rows a session's replies acknowledged, and how it ended
-pub record Summary : Type 0 where
-  pub acknowledged : ℕ
-  pub end : TalkEnd
-
--- what is seen of a desk that tells no calls and whose replies acknowledged so many rows
-abbrev pub at_desk : ℕ → Option (ℕ → ℕ) → Seen
-at_desk acked moments = record { calls = None; acked = acked; moments = moments }
-
--- A session on a new seat, whose desk wants no words, came to this by the bytes that it read and wrote.
-pub record IsSummary (s : Summary) : Type 0 where
-  pub bytes : Bytes
-  pub left : Option Bytes
-  pub written : Bytes
-  pub before : Option (ℕ → ℕ)
-  pub after : Option (ℕ → ℕ)
-  pub ends : Ends (DoesAll (Does false)) (at_desk 0 before) s.end bytes left (at_desk s.acknowledged after) written
-
-abbrev pub AreSummaries : List Summary → Type 0
-AreSummaries [] = Unit {0}
-AreSummaries (s ∷ sessions) = IsSummary s × AreSummaries sessions
-
-abbrev pub acknowledged_in : List Summary → ℕ
-acknowledged_in [] = 0
-acknowledged_in (s ∷ sessions) = s.acknowledged + acknowledged_in sessions
-
--- one of them ended by SHUTDOWN
-abbrev pub HasShutdown : List Summary → Type 0
-HasShutdown [] = ⊥
-HasShutdown (s ∷ sessions) = (s.end ≡ end.Shutdown) ⊎ HasShutdown sessions
-
--- So many sessions acknowledged so many rows; where `shut` holds, one of them ended by SHUTDOWN.
-pub record SumsUp (count amount : ℕ) (shut : Bool) : Type 0 where
-  pub sessions : List Summary
-  pub count_is : length sessions ≡ count
-  pub amount_is : amount ≡ acknowledged_in sessions
-  pub each : AreSummaries sessions
-  pub cause : shut ≡ true → HasShutdown sessions
-
--- The same, where the amount was another before.
-pub record AddsUp (count before after : ℕ) (shut : Bool) : Type 0 where
-  pub amount : ℕ
-  pub after_is : after ≡ before + amount
-  pub sums : SumsUp count amount shut
-
--- A loop had served as many connections as it had numbers of seats.
-pub record IsUsedUp (numbers : ℕ) : Type 0 where
-  pub sessions : List Summary
-  pub count_is : length sessions ≡ numbers
-  pub each : AreSummaries sessions
-
--- A number of the pass was given, and a session on its seat came to this; its amount is the pass's now.
-abbrev pub ServesOne : PassView → PassView → TalkEnd → Type 0
-ServesOne old new how = (new.count + 1 ≡ old.count) × ((added : ℕ) × IsSummary (record { acknowledged = added; end = how }) × (new.amount ≡ old.amount + added))
+-- A number of the pass was given, and the connection's session on its seat came to this; its amount is the pass's now.
+abbrev pub ServesOne : {C K : Type 0} → a_source.Ghosts C → a_sink.Ghosts C → a_clock.Ghosts K → PassView → K → C → TalkEnd → PassView → K → C → Type 0
+ServesOne Source Sink Clock old clock conn how new clock' conn' = (new.count + 1 ≡ old.count)
+    × ((added : ℕ) × IsSummary Source Sink Clock (record { acknowledged = added; end = how }) clock conn clock' conn' × (new.amount ≡ old.amount + added))
 
 -- ## Loops
 
--- the pass, how many numbers it had at first, how many connections were served, whether a session ended by SHUTDOWN, how the loop ended, and how often
--- its ear has failed and was nudged
-pub record LoopView : Type 0 where
+-- the ear, the clock and the pass, how many numbers that had at first, how many connections were served, whether a session ended by SHUTDOWN, and how the
+-- loop ended
+pub record LoopView (E K : Type 0) : Type 0 where
+  pub ear : E
+  pub clock : K
   pub pass : PassView
   pub numbers : ℕ
   pub served : ℕ
   pub shut : Bool
   pub end : LoopEnd
-  pub faults : ℕ
-  pub nudged : Option ℕ
 
-pub record IsLoop (pass : PassView) (numbers served : ℕ) (shut : Bool) (how : LoopEnd) : Type 0 where
+pub record IsLoop (pass : PassView) (numbers served : ℕ) (how : LoopEnd) : Type 0 where
   -- each desk gave its part back
   pub parts : pass.parts ≡ 2 * numbers
   -- a connection served is a number used
   pub left : pass.count + served ≡ numbers
-  pub sums : SumsUp served pass.amount shut
   pub spent : how ≡ loop_end.Spent → pass.count ≡ 0
+
+-- a loop that hasn't run
+pub record IsFresh {E K : Type 0} (numbers : ℕ) (l : LoopView E K) : Type 0 where
+  pub numbers_are : l.numbers ≡ numbers
+  pub served_are : l.served ≡ 0
+  pub amount_is : l.pass.amount ≡ 0
+  pub end_is : l.end ≡ loop_end.Done
+  pub shut_is : l.shut ≡ false
 
 -- how often the ear of a loop is nudged that ended so, beside so many others: once for each of them, where the loop ended by a cause of its own
 abbrev pub nudges_at : LoopEnd → ℕ → ℕ
 nudges_at loop_end.Done others = 0
 nudges_at other others = others
 
--- A loop ran, beside so many others. It ended as one whose ear failed only where the ear's count rose. Where it ended by a cause of its own, as SHUTDOWN
--- is one, it woke each other loop once, and else none; and it doesn't run again.
-pub record Runs (others : ℕ) (old new : LoopView) : Type 0 where
-  pub numbers_same : new.numbers ≡ old.numbers
-  pub later : old.faults ≤ new.faults
-  pub failed : new.end ≡ loop_end.Failed → (old.end ≡ loop_end.Failed) ⊎ Rose old.faults new.faults
-  pub woke : old.end ≡ loop_end.Done → IsNudged old.nudged (nudges_at new.end others) new.nudged
-  pub over : old.end ≢ loop_end.Done → new ≡ old
-  pub quit : new.shut ≡ true → (old.shut ≡ true) ⊎ (new.end ≢ loop_end.Done)
+abbrev pub stands : {E C K : Type 0} → an_ear.Ghosts E C → LoopView E K → Standing C K
+stands Ear l = standing Ear l.ear l.clock
 
--- a loop that hasn't run
-pub record IsFresh (numbers : ℕ) (l : LoopView) : Type 0 where
-  pub numbers_are : l.numbers ≡ numbers
-  pub end_is : l.end ≡ loop_end.Done
-  pub shut_is : l.shut ≡ false
+module _ {E C K : Type 0} (Ear : an_ear.Ghosts E C) (Source : a_source.Ghosts C) (Sink : a_sink.Ghosts C) (Clock : a_clock.Ghosts K) where
+  -- A loop ran, beside so many others: these connections came, and it counts those that it served and what they acknowledged. It ended as one whose ear
+  -- failed only where the ear's count rose; and as one whose numbers were used up only where one more connection had come. Where it ended by a cause of
+  -- its own, as SHUTDOWN is one, it woke each other loop once, and else none; and it doesn't run again.
+  pub record Runs (others : ℕ) (old new : LoopView E K) : Type 0 where
+    pub visits : List (Visit C)
+    pub came : AreVisits Source Sink Clock (stands Ear old) visits (stands Ear new)
+    pub served : new.served ≡ old.served + served_in visits
+    pub amount : new.pass.amount ≡ old.pass.amount + acknowledged_in visits
+    pub numbers_same : new.numbers ≡ old.numbers
+    pub later : Ear.ear_faults old.ear ≤ Ear.ear_faults new.ear
+    pub failed : new.end ≡ loop_end.Failed → (old.end ≡ loop_end.Failed) ⊎ Rose (Ear.ear_faults old.ear) (Ear.ear_faults new.ear)
+    pub spent : new.end ≡ loop_end.Spent → (old.end ≡ loop_end.Spent) ⊎ EndsUnserved visits
+    pub woke : old.end ≡ loop_end.Done → IsNudged (Ear.nudged old.ear) (nudges_at new.end others) (Ear.nudged new.ear)
+    pub over : old.end ≢ loop_end.Done → (new ≡ old) × (visits ≡ [])
+    pub quit : new.shut ≡ true → (old.shut ≡ true) ⊎ (HasShutdown visits × (new.end ≢ loop_end.Done))
 
 -- There is a bound, and each loop served as many connections; or a session of one of them ended by SHUTDOWN.
-abbrev pub IsSettled : ℕ → List LoopView → Type 0
+abbrev pub IsSettled : {E K : Type 0} → ℕ → List (LoopView E K) → Type 0
 IsSettled sessions loops = ((0 < sessions) × All (λ it. it.served ≡ sessions) loops) ⊎ Any (λ it. it.shut ≡ true) loops
+
+-- The loop's numbers were used up.
+abbrev pub IsUsed : {E K : Type 0} → LoopView E K → Type 0
+IsUsed l = (l.end ≡ loop_end.Spent) × (l.served ≡ l.numbers)
+
+-- ## Ears
+
+-- an ear and the clock beside it, at first and at the end, and the connections that came in between
+pub record Account (E C K : Type 0) : Type 0 where
+  pub ear : E
+  pub ear' : E
+  pub clock : K
+  pub clock' : K
+  pub visits : List (Visit C)
+
+module _ {E C K : Type 0} (Ear : an_ear.Ghosts E C) (Source : a_source.Ghosts C) (Sink : a_sink.Ghosts C) (Clock : a_clock.Ghosts K) where
+  -- The ear gave these connections, in order, and each was left to it: as its session left it, or as it came where it had none.
+  abbrev pub IsAccount : Account E C K → Type 0
+  IsAccount a = AreVisits Source Sink Clock (standing Ear a.ear a.clock) a.visits (standing Ear a.ear' a.clock')
+
+  -- This came of these ears, in order, and of that this holds.
+  pub record Became (ears ears' : List E) (P : List (Account E C K) → Type 0) : Type 0 where
+    pub accounts : List (Account E C K)
+    pub at_first : map (λ a. a.ear) accounts ≡ ears
+    pub at_last : map (λ a. a.ear') accounts ≡ ears'
+    pub each : All IsAccount accounts
+    pub holds : P accounts
+
+-- As many connections were served as there were numbers of seats, and one more came.
+abbrev pub IsUsedUp : {E C K : Type 0} → ℕ → Account E C K → Type 0
+IsUsedUp numbers a = (served_in a.visits ≡ numbers) × EndsUnserved a.visits
+
+-- There is a bound, and each ear had as many served.
+abbrev pub IsFull : {E C K : Type 0} → ℕ → List (Account E C K) → Type 0
+IsFull bound accounts = (0 < bound) × All (λ a. served_in a.visits ≡ bound) accounts
+
+module _ {E C K : Type 0} (Ear : an_ear.Ghosts E C) where
+  -- The ear failed: its count rose.
+  abbrev pub EarFailed : Account E C K → Type 0
+  EarFailed a = Rose (Ear.ear_faults a.ear) (Ear.ear_faults a.ear')
+
+  -- A session ended by SHUTDOWN, and each of so many other loops was woken once.
+  abbrev pub IsShut : ℕ → Account E C K → Type 0
+  IsShut others a = HasShutdown a.visits × IsNudged (Ear.nudged a.ear) others (Ear.nudged a.ear')
+
+  -- What a server did: its sessions are those of the connections, and what they acknowledged adds up to what the store counts from outside. Each ear had as
+  -- many connections served as it was to, or a session ended by SHUTDOWN.
+  pub record IsServed (bound loops : ℕ) (s : Served) (accounts : List (Account E C K)) : Type 0 where
+    pub sessions : s.sessions ≡ sum_by (λ a. served_in a.visits) accounts
+    pub acknowledged : s.acknowledged ≡ sum_by (λ a. acknowledged_in a.visits) accounts
+    pub done : IsFull bound accounts ⊎ Among (IsShut (loops - 1)) accounts
+    pub outside : s.acknowledged ≡ s.tally.outside
+    pub balanced : IsBalanced s.tally
+
+module _ {E C K : Type 0} (Ear : an_ear.Ghosts E C) (Source : a_source.Ghosts C) (Sink : a_sink.Ghosts C) (Clock : a_clock.Ghosts K) where
+  -- The loops over these ears ended so. Nothing says when there is no memory.
+  abbrev pub HaveEnded : (bound loops : ℕ) → List E → List E → Result Served ServeFault → Type 0
+  HaveEnded bound loops ears ears' (Ok s) = Became Ear Source Sink Clock ears ears' (IsServed Ear bound loops s)
+  HaveEnded bound loops ears ears' (Err fault.Failed) = Became Ear Source Sink Clock ears ears' (Among (EarFailed Ear))
+  HaveEnded bound loops ears ears' (Err fault.Spent) = Became Ear Source Sink Clock ears ears' (Among (IsUsedUp ((2 ^ 32 - 2) / loops)))
+  HaveEnded bound loops ears ears' (Err fault.Memory) = Unit {0}
 
 -- ## A server
 
--- There is a bound, and so many loops served as many connections each.
-abbrev pub IsFull : (bound loops sessions : ℕ) → Type 0
-IsFull bound loops sessions = (0 < bound) × (sessions ≡ bound * loops)
+module _ {N E C K : Type 0} (Door : a_door.Ghosts N C E) (Ear : an_ear.Ghosts E C) (Source : a_source.Ghosts C) (Sink : a_sink.Ghosts C) (Clock : a_clock.Ghosts K) where
+  -- The door gave so many ears, which hear what it told, and gathered them again; and this holds of what came of them.
+  pub record Serves (loops : ℕ) (old new : N) (P : List (Account E C K) → Type 0) : Type 0 where
+    pub ears : List E
+    pub ears' : List E
+    pub room : Option (Collected E)
+    pub many : length ears ≡ loops
+    pub hears : Listens Ear.heard Ear.kept Ear.nudged (Door.heard old) ears (Door.heard new)
+    pub made : MakesRoom (Door.gathered old) loops room
+    pub gathers : Keeps room ears' (Door.gathered new)
+    pub became : Became Ear Source Sink Clock ears ears' P
 
--- That, or a session ended by SHUTDOWN.
-abbrev pub IsDone : (bound loops sessions : ℕ) → Bool → Type 0
-IsDone bound loops sessions shut = IsFull bound loops sessions ⊎ (shut ≡ true)
+  -- The door's own count rose, or that of one of its ears.
+  abbrev pub HasFailed : ℕ → N → N → Type 0
+  HasFailed loops old new = Rose (Door.door_faults old) (Door.door_faults new) ⊎ Serves loops old new (Among (EarFailed Ear))
 
--- What a server did: its sessions are counted, and what they acknowledged adds up to what the store counts from outside.
-pub record IsServed (bound loops : ℕ) (s : Served) : Type 0 where
-  pub shut : Bool
-  pub sums : SumsUp s.sessions s.acknowledged shut
-  pub done : IsDone bound loops s.sessions shut
-  pub outside : s.acknowledged ≡ s.tally.outside
-  pub balanced : IsBalanced s.tally
+  -- An ear gave a connection for which there was no number left.
+  abbrev pub HasSpent : ℕ → ℕ → N → N → Type 0
+  HasSpent numbers loops old new = Serves loops old new (Among (IsUsedUp numbers))
 
--- ## Its ears
+  -- The server came to this.
+  abbrev pub HasServed : ℕ → ℕ → N → N → Served → Type 0
+  HasServed bound loops old new s = Serves loops old new (IsServed Ear bound loops s)
 
--- this holds of one of these and of what it was before
-abbrev pub SomeZip : {T : Type 0} → (T → T → Type 0) → List T → List T → Type 0
-SomeZip R [] after = ⊥
-SomeZip R (a ∷ before) [] = ⊥
-SomeZip R (a ∷ before) (b ∷ after) = R a b ⊎ SomeZip R before after
-
--- The door gave ears and gathered them again; of what is seen of one of them, before and after, this holds.
-pub record SomeEar {E T : Type 0} (seen : E → T) (R : T → T → Type 0) (loops : ℕ) (gathered gathered' : Option (Collected E)) : Type 0 where
-  pub ears : List E
-  pub ears' : List E
-  pub room : Option (Collected E)
-  pub made : MakesRoom gathered loops room
-  pub gathers : Keeps room ears' gathered'
-  pub some : SomeZip R (map seen ears) (map seen ears')
-
--- The door's own count rose, or that of one of its ears.
-abbrev pub HasFailed : {D E : Type 0} → (D → ℕ) → (D → Option (Collected E)) → (E → ℕ) → ℕ → D → D → Type 0
-HasFailed door_faults gathered ear_faults loops old new = Rose (door_faults old) (door_faults new) ⊎ SomeEar ear_faults Rose loops (gathered old) (gathered new)
-
--- Each loop served its number; or a loop woke the others: its ear was nudged once for each.
-abbrev pub WokeOthers : {E : Type 0} → (E → Option ℕ) → (bound loops : ℕ) → Option (Collected E) → Option (Collected E) → Served → Type 0
-WokeOthers nudged bound loops gathered gathered' s =
-    IsFull bound loops s.sessions ⊎ SomeEar nudged (λ before after. IsNudged before (loops - 1) after) loops gathered gathered'
+  -- The server ended so. Nothing says when there is no memory.
+  abbrev pub HasEnded : ℕ → ℕ → N → N → ServeEnd → Type 0
+  HasEnded bound loops old new (serve_end.Served s) = HasServed bound loops old new s
+  HasEnded bound loops old new serve_end.Failed = HasFailed loops old new
+  HasEnded bound loops old new serve_end.Spent = HasSpent ((2 ^ 32 - 2) / loops) loops old new
+  HasEnded bound loops old new serve_end.Memory = Unit {0}

@@ -1,8 +1,8 @@
 // One accept loop: it serves one connection after another, each on a seat of its own, and leaves each to its ear.
-ghost use Rattle.std.specs.Prelude.{◌≡◌, ◌≢◌, ◌≤◌, ◌*◌, ◌↔◌, IfOk, IfErr, IsTrue, Err, false, true};
+ghost use Rattle.std.specs.Prelude.{◌≡◌, ◌≢◌, ◌⊎◌, ◌≤◌, ◌*◌, ◌↔◌, IfOk, IfErr, IsTrue, Err, false};
 ghost use Rattle.sk_base.specs.Outside.{Rose};
 ghost use Rattle.sk_edge.specs.Doors.{IsNudged};
-ghost use Rattle.sk_serve.specs.Server.{IsUsedUp, Runs, ServesOne, SumsUp};
+ghost use Rattle.sk_serve.specs.Server.{Runs, ServesOne, stands};
 ghost use Rattle.sk_desk.specs.declared.hub.HubFault.TheVariants as hub_fault;
 
 use crate::gate::{Gate, GatedDesk};
@@ -29,9 +29,8 @@ pub enum LoopEnd {
     Memory,
 }
 
-/// An ear, a clock, and a pass with two parts for each of its numbers. Contracts see the pass, how many numbers it had at first, how many connections
-/// were served, whether a session ended by SHUTDOWN, how the loop ended, and how often its ear has failed and was nudged. What its sessions acknowledged
-/// adds up to the pass's amount.
+/// An ear, a clock, and a pass with two parts for each of its numbers. Contracts see these, how many numbers there were at first, how many connections
+/// were served, whether a session ended by SHUTDOWN, and how the loop ended.
 #[derive(Drop)]
 pub struct AcceptLoop<E: Ear, K: Clock, I: HubId> {
     ear: E,
@@ -46,11 +45,11 @@ pub struct AcceptLoop<E: Ear, K: Clock, I: HubId> {
 impl<E: Ear, K: Clock, I: HubId> Model for AcceptLoop<E, K, I> {
     ghost use Rattle.sk_serve.specs.Server.{LoopView, IsLoop};
 
-    ghost Value = { LoopView };
+    ghost Value = { LoopView E K };
 
-    ghost view = { λ l. record { pass = l.pass; numbers = l.numbers; served = l.served; shut = l.shut; end = l.end; faults = E.ear_faults l.ear; nudged = E.nudged l.ear } };
+    ghost view = { λ l. record { ear = l.ear; clock = l.clock; pass = l.pass; numbers = l.numbers; served = l.served; shut = l.shut; end = l.end } };
 
-    ghost invariant = { λ l. IsLoop l.pass l.numbers l.served l.shut l.end };
+    ghost invariant = { λ l. IsLoop l.pass l.numbers l.served l.end };
 }
 
 // Serves one connection on a new seat.
@@ -61,8 +60,8 @@ fn serve_one<R: Wait + Sync, C: Duplex, K: Clock, I: HubId, G: Gate>(
     clock: &mut K,
 ) -> Result<SessionEnd, HubFault>
     ensures parts { pass.new.parts ≡ pass.old.parts }
-    ensures served { IfOk result (ServesOne pass.old pass.new) }
-    ensures fault { IfErr result (λ fault. pass.new ≡ pass.old) }
+    ensures served { IfOk result (λ end. ServesOne C.Source C.Sink K.Clock pass.old clock.old conn.old end pass.new clock.new conn.new) }
+    ensures fault { IfErr result (λ fault. (pass.new ≡ pass.old) × (clock.new ≡ clock.old) × (conn.new ≡ conn.old)) }
     ensures spent { result ≡ Err hub_fault.Spent → pass.old.count ≡ 0 }
 {
     let desk = shared.hub.seat(shared.rt, pass)?;
@@ -79,6 +78,7 @@ fn wake<E: Ear>(ear: &mut E, others: usize) -> Result<(), Failed>
     ensures later { E.ear_faults ear.old ≤ E.ear_faults ear.new }
     ensures failed { IfErr result (λ e. Rose (E.ear_faults ear.old) (E.ear_faults ear.new)) }
     ensures count { IsNudged (E.nudged ear.old) others (E.nudged ear.new) }
+    ensures beside { (E.heard ear.new ≡ E.heard ear.old) × (E.kept ear.new ≡ E.kept ear.old) }
 {
     let mut woken = Ok(());
     for _other in 0..others {
@@ -104,10 +104,7 @@ fn end_at(fault: HubFault) -> LoopEnd
 impl<E: Ear, K: Clock, I: HubId> AcceptLoop<E, K, I> {
     pub fn new(ear: E, clock: K, pass: Pass<I>, numbers: u32) -> AcceptLoop<E, K, I>
         requires { (pass.parts ≡ 2 * numbers) × (pass.count ≡ numbers) × (pass.amount ≡ 0) }
-        ensures numbers { result.numbers ≡ numbers }
-        ensures end { (result.end ≡ LoopEnd.Done) × (result.shut ≡ false) }
-        ensures faults { result.faults ≡ E.ear_faults ear }
-        ensures nudged { result.nudged ≡ E.nudged ear }
+        ensures { result ≡ record { ear = ear; clock = clock; pass = pass; numbers = numbers; served = 0; shut = false; end = LoopEnd.Done } }
     {
         AcceptLoop {
             ear,
@@ -125,10 +122,12 @@ impl<E: Ear, K: Clock, I: HubId> AcceptLoop<E, K, I> {
         requires cause { end ≢ LoopEnd.Done }
         requires spent { end ≡ LoopEnd.Spent → self.old.pass.count ≡ 0 }
         ensures same { (self.new.numbers ≡ self.old.numbers) × (self.new.shut ≡ self.old.shut) }
-        ensures later { self.old.faults ≤ self.new.faults }
-        ensures failed { self.new.end ≡ LoopEnd.Failed → end ≢ LoopEnd.Failed → Rose self.old.faults self.new.faults }
-        ensures ended { self.new.end ≢ LoopEnd.Done }
-        ensures woke { IsNudged self.old.nudged shared.now.others self.new.nudged }
+        ensures counts { (self.new.served ≡ self.old.served) × (self.new.pass ≡ self.old.pass) }
+        ensures stands { stands E.Ear self.new ≡ stands E.Ear self.old }
+        ensures later { E.ear_faults self.old.ear ≤ E.ear_faults self.new.ear }
+        ensures failed { self.new.end ≡ LoopEnd.Failed → end ≢ LoopEnd.Failed → Rose (E.ear_faults self.old.ear) (E.ear_faults self.new.ear) }
+        ensures ended { (self.new.end ≡ end) ⊎ (self.new.end ≡ LoopEnd.Failed) }
+        ensures woke { IsNudged (E.nudged self.old.ear) shared.now.others (E.nudged self.new.ear) }
     {
         self.end = end;
         shared.stop();
@@ -140,7 +139,7 @@ impl<E: Ear, K: Clock, I: HubId> AcceptLoop<E, K, I> {
     // Waits for the next connection and serves it. False where the loop has ended.
     fn step<R: Wait + Sync, G: Gate>(&mut self, shared: &Shared<'_, R, I, G>) -> bool
         requires { self.old.end ≡ LoopEnd.Done }
-        ensures { Runs shared.now.others self.old self.new }
+        ensures { Runs E.Ear E.Conn.Source E.Conn.Sink K.Clock shared.now.others self.old self.new }
     {
         let Ok(mut conn) = self.ear.accept() else {
             self.stop(shared, LoopEnd::Failed);
@@ -179,7 +178,7 @@ impl<E: Ear, K: Clock, I: HubId> AcceptLoop<E, K, I> {
 
     /// Serves connections until the loop ends. One that ended by a cause of its own serves no more.
     pub fn run<R: Wait + Sync, G: Gate>(&mut self, shared: &Shared<'_, R, I, G>)
-        ensures { Runs shared.now.others self.old self.new }
+        ensures { Runs E.Ear E.Conn.Source E.Conn.Sink K.Clock shared.now.others self.old self.new }
     {
         for _ in shared.rt.forever() {
             if self.is_over(shared.sessions) || !self.step(shared) {
@@ -195,9 +194,10 @@ impl<E: Ear, K: Clock, I: HubId> AcceptLoop<E, K, I> {
     }
 
     // Its pass was used up.
-    #[tactic(auto, using(crate::proofs::Loops::used_up))]
+    #[tactic(auto, using(crate::proofs::Loops::all_used))]
     pub fn is_spent(&self) -> bool
-        ensures { IsTrue result → IsUsedUp self.now.numbers }
+        ensures end { IsTrue result → self.now.end ≡ LoopEnd.Spent }
+        ensures all { IsTrue result → self.now.served ≡ self.now.numbers }
     {
         self.end == LoopEnd::Spent
     }
@@ -215,13 +215,10 @@ impl<E: Ear, K: Clock, I: HubId> AcceptLoop<E, K, I> {
         self.shut
     }
 
-    /// The ear, the pass, how many connections were served, and whether a session ended by SHUTDOWN.
-    pub fn into_parts(self) -> (E, Pass<I>, u32, bool)
+    /// The ear, the pass, and how many connections were served.
+    pub fn into_parts(self) -> (E, Pass<I>, u32)
         ensures parts { result.1.parts ≡ 2 * self.numbers }
-        ensures sums { SumsUp result.2 result.1.amount result.3 }
-        ensures counts { (result.2 ≡ self.served) × (result.3 ≡ self.shut) }
-        ensures faults { E.ear_faults result.0 ≡ self.faults }
-        ensures nudged { E.nudged result.0 ≡ self.nudged }
+        ensures same { (result.0 ≡ self.ear) × (result.1 ≡ self.pass) × (result.2 ≡ self.served) }
     {
         let AcceptLoop {
             ear,
@@ -229,9 +226,9 @@ impl<E: Ear, K: Clock, I: HubId> AcceptLoop<E, K, I> {
             pass,
             numbers: _,
             served,
-            shut,
+            shut: _,
             end: _,
         } = self;
-        (ear, pass, served, shut)
+        (ear, pass, served)
     }
 }

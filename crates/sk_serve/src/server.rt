@@ -1,11 +1,8 @@
 // A server: accept loops in threads over one store, each with an ear, a clock and a pass of its own. Once they have ended their passes are joined, the
 // ears go back to the door, and the store is closed.
-ghost use Rattle.std.specs.Prelude.{◌≡◌, ◌⊎◌, ◌+◌, ◌-◌, ◌*◌, ◌/◌, ◌<◌, ◌≤◌, ◌^◌, ◌||◌, ℕ, IfOk, OnOk, Some, Err, true, false, length, map, reverse, vec_len, vec_capacity, All};
-ghost use Rattle.std.specs.List.{AllZip, Any};
-ghost use Rattle.sk_base.specs.Outside.{Rose};
-ghost use Rattle.sk_edge.specs.Doors.{IsNudged};
-ghost use Rattle.sk_serve.specs.Ending.{IfServed};
-ghost use Rattle.sk_serve.specs.Server.{AddsUp, HasFailed, IsFresh, IsFull, IsServed, IsSettled, IsUsedUp, Runs, SomeZip, WokeOthers};
+ghost use Rattle.std.specs.Prelude.{◌≡◌, ◌+◌, ◌-◌, ◌*◌, ◌/◌, ◌<◌, ◌≤◌, ℕ, OnOk, Some, Err, true, map, reverse, vec_len, vec_capacity, All};
+ghost use Rattle.std.specs.List.{AllZip, Any, sum_by};
+ghost use Rattle.sk_serve.specs.Server.{HasEnded, HaveEnded, IsFresh, IsSettled, IsUsed, Runs};
 
 use crate::accept_loop::{AcceptLoop, LoopEnd};
 use crate::gate::Gate;
@@ -37,9 +34,8 @@ fn loops_for<E: Ear, K: Clock, I: HubId>(
     ensures fresh { All (IsFresh numbers) loops.new.items }
     ensures amount { pass.new.amount ≡ pass.old.amount }
     ensures parts { pass.new.parts + 2 * (numbers * vec_len ears.old) ≡ pass.old.parts }
-    ensures faults { map (λ it. it.faults) loops.new.items ≡ reverse (map E.ear_faults ears.old.items) }
-    ensures nudged { map (λ it. it.nudged) loops.new.items ≡ reverse (map E.nudged ears.old.items) }
-    ensures ears { (vec_len ears.new ≡ 0) × (vec_capacity ears.new ≡ vec_capacity ears.old) }
+    ensures ears { map (λ it. it.ear) loops.new.items ≡ reverse ears.old.items }
+    ensures emptied { (vec_len ears.new ≡ 0) × (vec_capacity ears.new ≡ vec_capacity ears.old) }
 {
     while let Some(ear) = ears.pop() {
         let own = pass.split(numbers);
@@ -47,37 +43,27 @@ fn loops_for<E: Ear, K: Clock, I: HubId>(
     }
 }
 
-fn either(a: bool, b: bool) -> bool
-    ensures { result ≡ (a || b) }
-{
-    a || b
-}
-
 // Takes the ears and the passes back, and counts the sessions. The ears stand as they stood at first.
 fn gather<E: Ear, K: Clock, I: HubId>(
     mut loops: Vec<AcceptLoop<E, K, I>>,
     ears: &mut Vec<E>,
     pass: &mut Pass<I>,
-) -> (u64, bool)
+) -> u64
     requires few { vec_len loops ≤ MOST_LOOPS_SERVED }
     requires room { (vec_len ears.old ≡ 0) × (vec_len loops ≤ vec_capacity ears.old) }
     ensures parts { (n : ℕ) → All (λ it. it.numbers ≡ n) loops.items → pass.new.parts ≡ pass.old.parts + 2 * (n * vec_len loops) }
-    ensures sums { AddsUp result.0 pass.old.amount pass.new.amount result.1 }
-    ensures full { (n : ℕ) → All (λ it. it.served ≡ n) loops.items → result.0 ≡ n * vec_len loops }
-    ensures faults { map E.ear_faults ears.new.items ≡ reverse (map (λ it. it.faults) loops.items) }
-    ensures nudged { map E.nudged ears.new.items ≡ reverse (map (λ it. it.nudged) loops.items) }
-    ensures quiet { result.1 ≡ false → All (λ it. it.shut ≡ false) loops.items }
+    ensures sessions { result ≡ sum_by (λ it. it.served) loops.items }
+    ensures amount { pass.new.amount ≡ pass.old.amount + sum_by (λ it. it.pass.amount) loops.items }
+    ensures ears { ears.new.items ≡ reverse (map (λ it. it.ear) loops.items) }
 {
     let mut sessions: u64 = 0;
-    let mut shut = false;
     while let Some(it) = loops.pop() {
-        let (ear, own, served, ended) = it.into_parts();
+        let (ear, own, served) = it.into_parts();
         ears.push_reserved(ear);
         sessions += u64::from(served);
-        shut = either(shut, ended);
         pass.join(own);
     }
-    (sessions, shut)
+    sessions
 }
 
 // The loops in so many threads. In one thread they run one after another, and no further thread is started.
@@ -89,7 +75,7 @@ fn run_all<
     G: Gate + Sync,
 >(shared: &Shared<'_, R, I, G>, threads: usize, loops: &mut [AcceptLoop<E, K, I>])
     requires { 0 < threads }
-    ensures { AllZip (Runs shared.now.others) loops.old loops.new }
+    ensures { AllZip (Runs E.Ear E.Conn.Source E.Conn.Sink K.Clock shared.now.others) loops.old loops.new }
 {
     shared.resume();
     thread::for_each_mut(
@@ -97,7 +83,7 @@ fn run_all<
         loops,
         threads,
         &|_: usize, it: &mut AcceptLoop<E, K, I>|
-            ensures { Runs shared.entry.now.others it.old it.new }
+            ensures { Runs E.Ear E.Conn.Source E.Conn.Sink K.Clock shared.entry.now.others it.old it.new }
         { it.run(shared) },
     );
 }
@@ -109,7 +95,7 @@ fn some_failed<E: Ear, K: Clock, I: HubId>(loops: &[AcceptLoop<E, K, I>]) -> boo
 }
 
 fn some_spent<E: Ear, K: Clock, I: HubId>(loops: &[AcceptLoop<E, K, I>]) -> bool
-    ensures { result ≡ true → Any (λ it. IsUsedUp it.numbers) loops.now }
+    ensures { result ≡ true → Any (λ it. IsUsed it) loops.now }
 {
     loops.iter().any(|it| it.is_spent())
 }
@@ -117,7 +103,7 @@ fn some_spent<E: Ear, K: Clock, I: HubId>(loops: &[AcceptLoop<E, K, I>]) -> bool
 // The loops' gravest fault.
 fn fault_of<E: Ear, K: Clock, I: HubId>(loops: &[AcceptLoop<E, K, I>]) -> Option<ServeFault>
     ensures failed { result ≡ Some ServeFault.Failed → Any (λ it. it.end ≡ LoopEnd.Failed) loops.now }
-    ensures spent { result ≡ Some ServeFault.Spent → Any (λ it. IsUsedUp it.numbers) loops.now }
+    ensures spent { result ≡ Some ServeFault.Spent → Any (λ it. IsUsed it) loops.now }
 {
     if some_failed(loops) {
         return Some(ServeFault::Failed);
@@ -166,10 +152,10 @@ fn run_on<
     loops: &mut [AcceptLoop<E, K, I>],
 ) -> Result<(), ServeFault>
     requires { 0 < threads }
-    ensures ran { AllZip (Runs shared.now.others) loops.old loops.new }
+    ensures ran { AllZip (Runs E.Ear E.Conn.Source E.Conn.Sink K.Clock shared.now.others) loops.old loops.new }
     ensures settled { OnOk result (IsSettled shared.now.sessions loops.new) }
     ensures failed { result ≡ Err ServeFault.Failed → Any (λ it. it.end ≡ LoopEnd.Failed) loops.new }
-    ensures spent { result ≡ Err ServeFault.Spent → Any (λ it. IsUsedUp it.numbers) loops.new }
+    ensures spent { result ≡ Err ServeFault.Spent → Any (λ it. IsUsed it) loops.new }
 {
     run_all(shared, threads, loops);
     for _ in shared.rt.forever() {
@@ -204,11 +190,7 @@ fn serve_on<
     requires blank { blank ≡ record { acks = I.acks; asks = I.asks; cuts = I.cuts } }
     requires limits { limits ≡ I.limits }
     requires ears { (0 < vec_len ears.old) × (vec_len ears.old ≤ MOST_LOOPS_SERVED) }
-    ensures served { IfOk result (IsServed sessions (vec_len ears.old)) }
-    ensures woke { IfOk result (λ s. IsFull sessions (vec_len ears.old) s.sessions
-        ⊎ SomeZip (λ before after. IsNudged before (vec_len ears.old - 1) after) (map E.nudged ears.old.items) (map E.nudged ears.new.items)) }
-    ensures failed { result ≡ Err ServeFault.Failed → SomeZip Rose (map E.ear_faults ears.old.items) (map E.ear_faults ears.new.items) }
-    ensures spent { result ≡ Err ServeFault.Spent → IsUsedUp ((2 ^ 32 - 2) / vec_len ears.old) }
+    ensures { HaveEnded E.Ear E.Conn.Source E.Conn.Sink K.Clock sessions (vec_len ears.old) ears.old.items ears.new.items result }
 {
     let count = ears.len();
     let Ok(mut loops) = Vec::with_capacity(alloc, count) else {
@@ -222,7 +204,7 @@ fn serve_on<
         count,
         loops.as_mut_slice(),
     );
-    let (served, _) = gather(loops, ears, &mut pass);
+    let served = gather(loops, ears, &mut pass);
     if let Err(fault) = ended {
         hub.abandon();
         return Err(fault);
@@ -252,10 +234,8 @@ pub fn serve<R: Threads + Wait + Sync, N: Door, K: Clock + Send, G: Gate + Sync>
 where
     N::Ear: Send,
     requires { (0 < loops) × (loops ≤ MOST_LOOPS_SERVED) }
-    ensures served { IfServed result (IsServed sessions loops) }
-    ensures woke { IfServed result (WokeOthers N.Ear.nudged sessions loops (N.gathered door.old) (N.gathered door.new)) }
-    ensures failed { result ≡ ServeEnd.Failed → HasFailed N.door_faults N.gathered N.Ear.ear_faults loops door.old door.new }
-    ensures spent { result ≡ ServeEnd.Spent → IsUsedUp ((2 ^ 32 - 2) / loops) }
+    // The door gave an ear to each loop, which gave its connections in order. Each of them took what its session calls for, and was left to its ear.
+    ensures ended { HasEnded N.Door N.Ear.Ear N.Conn.Source N.Conn.Sink K.Clock sessions loops door.old door.new result }
     ensures later { N.door_faults door.old ≤ N.door_faults door.new }
 {
     let mut ears = match door.listen(port, loops) {

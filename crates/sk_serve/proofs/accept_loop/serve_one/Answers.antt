@@ -1,6 +1,6 @@
 use Rattle.std.proofs.Common.{◌∙◌, ap, arith}
 use Rattle.sk_desk.specs.Pass.{DeskView, PassView}
-use Rattle.sk_serve.proofs.Loops.{some_left, summary_of}
+use Rattle.sk_serve.proofs.Seated.{some_left, summary_of}
 use Rattle.sk_serve.proofs.accept_loop.serve_one.Goals as goal
 
 pub returns-clause-served : goal.returns-clause-served
@@ -12,7 +12,11 @@ returns-clause-served g c =
       omega (arith, some, seated, ap (λ (p : PassView). p.count) ended),
       (
         c.session-end.new.desk.desk.amount,
-        summary_of (λ d. d.desk.amount) g.K.Clock.moments g.C.Source.left g.C.Sink.taken c.new-gated.result c.session-end.new.desk c.args.clock.now c.session-end.new.clock c.args.conn.now c.session-end.new.conn c.session-end.result c.session-end.ensures.ends new,
+        record {
+          session = summary_of (λ d. d.desk.amount) g.K.Clock.moments g.C.Source.left g.C.Sink.taken c.new-gated.result c.session-end.new.desk c.args.clock.now c.session-end.new.clock c.args.conn.now c.session-end.new.conn c.session-end.result c.session-end.ensures.ends new;
+          read_fault = c.session-end.ensures.read_fault;
+          write_fault = c.session-end.ensures.write_fault;
+        },
         omega (arith, ap (λ (p : PassView). p.amount) ended, ap (λ (p : PassView). p.amount) c.in_ok-desk.ensures.pass, ap (λ (d : DeskView). d.amount) c.into_desk.ensures),
       ),
     )

@@ -1,19 +1,16 @@
-use Rattle.std.proofs.Common.{◌≡◌, ◌+◌, ◌*◌, ap, ◌∙◌, arith, rules, sym, refl, false}
+use Rattle.std.proofs.Common.{◌≡◌, ◌+◌, ◌*◌, ◌++◌, ◌∷◌, [], ap, ◌∙◌, arith, rules, refl}
 use Rattle.std.specs.Prelude.{Some, map, reverse, vec_len}
 use Rattle.std.proofs.lemmas.List.Elements.{All-pop}
-use Rattle.sk_serve.proofs.Counting.{all_moved, more, moved, none_yet, neither, put_back}
-use Rattle.sk_serve.proofs.Loops.{adds_more, adds_nothing}
+use Rattle.sk_serve.proofs.Counting.{all_moved_by, more, moved, none_yet, popped_by, sum_none, sum_popped}
 use Rattle.sk_serve.proofs.server.gather.Goals as goal
 
 pub loop-it-init : goal.loop-it-init
 loop-it-init g c = record {
   parts = λ n all. (all, refl);
   few = omega (arith, c.requires.few);
-  sums = adds_nothing c.args.pass.now.amount;
-  full = λ n all. (all, omega arith);
-  quiet = λ is all. all;
-  faults = none_yet g.E.Ear.ear_faults c.args.ears.now.items (reverse (map (λ it. it.faults) c.args.loops.items)) (omega (arith, c.requires.room));
-  nudged = none_yet g.E.Ear.nudged c.args.ears.now.items (reverse (map (λ it. it.nudged) c.args.loops.items)) (omega (arith, c.requires.room));
+  sessions = omega arith;
+  amount = refl;
+  ears = none_yet c.args.ears.now.items (reverse (map (λ it. it.ear) c.args.loops.items)) (omega (arith, c.requires.room));
   room = omega (arith, c.requires.room);
 }
 
@@ -29,16 +26,11 @@ loop-it-preserved g c =
           let now = All-pop (λ it. it.numbers ≡ n) c.loop-it.loops.items c.pop.new.self.items (Some c.in-Some.it) items was.0 in
           (now.0, omega (arith, more n (vec_len c.loop-it.loops) (vec_len c.pop.new.self) (omega (arith, fewer)), was.1, ap (λ p. p.parts) c.join.ensures, own.parts, now.1));
       few = search rules;
-      sums = adds_more c.loop-it.sessions c.into_parts-ear.result.2 (c.loop-it.sessions + c.from-sessions.result) c.args.pass.now.amount c.loop-it.pass.amount c.join.new.self.amount c.into_parts-ear.result.1.amount c.loop-it.shut c.into_parts-ear.result.3 c.either-shut.result (omega (arith, c.from-sessions.ensures)) i.sums own.sums (ap (λ p. p.amount) c.join.ensures) c.either-shut.ensures;
-      full = λ n all.
-          let was = i.full n all in
-          let now = All-pop (λ it. it.served ≡ n) c.loop-it.loops.items c.pop.new.self.items (Some c.in-Some.it) items was.0 in
-          (now.0, omega (arith, more n (vec_len c.loop-it.loops) (vec_len c.pop.new.self) (omega (arith, fewer)), was.1, now.1, own.counts.0, c.from-sessions.ensures));
-      quiet = λ is all.
-          let both = neither c.loop-it.shut c.into_parts-ear.result.3 (sym c.either-shut.ensures ∙ is) in
-          i.quiet both.0 (put_back (λ it. it.shut ≡ false) c.loop-it.loops.items c.pop.new.self.items c.in-Some.it items all (sym own.counts.1 ∙ both.1));
-      faults = moved (λ it. it.faults) g.E.Ear.ear_faults c.loop-it.loops.items c.pop.new.self.items c.in-Some.it c.loop-it.ears.items c.push_reserved.new.self.items c.into_parts-ear.result.0 _ items c.push_reserved.ensures.items own.faults i.faults;
-      nudged = moved (λ it. it.nudged) g.E.Ear.nudged c.loop-it.loops.items c.pop.new.self.items c.in-Some.it c.loop-it.ears.items c.push_reserved.new.self.items c.into_parts-ear.result.0 _ items c.push_reserved.ensures.items own.nudged i.nudged;
+      sessions = omega (arith, i.sessions, sum_popped (λ it. it.served) c.loop-it.loops.items c.pop.new.self.items c.in-Some.it items, own.same.2, c.from-sessions.ensures);
+      amount = omega (arith, i.amount, sum_popped (λ it. it.pass.amount) c.loop-it.loops.items c.pop.new.self.items c.in-Some.it items, ap (λ p. p.amount) own.same.1, ap (λ p. p.amount) c.join.ensures);
+      ears = moved c.loop-it.ears.items c.push_reserved.new.self.items (reverse (map (λ it. it.ear) c.loop-it.loops.items)) (reverse (map (λ it. it.ear) c.pop.new.self.items)) c.in-Some.it.ear _
+          (popped_by (λ it. it.ear) c.loop-it.loops.items c.pop.new.self.items c.in-Some.it items)
+          (c.push_reserved.ensures.items ∙ ap (λ ear. c.loop-it.ears.items ++ ear ∷ []) own.same.0) i.ears;
       room = omega (arith, i.room, fewer, c.push_reserved.ensures.len, c.push_reserved.ensures.capacity);
     }
 
@@ -48,8 +40,11 @@ returns-clause-parts g c n all =
     let none = c.in_default.ensures.cases.0 in
     omega (arith, was.1, ap (λ k. n * k) none)
 
-pub returns-clause-faults : goal.returns-clause-faults
-returns-clause-faults g c = all_moved (λ it. it.faults) g.E.Ear.ear_faults c.loop-it.loops.items c.loop-it.ears.items _ (omega (arith, c.in_default.ensures.cases.0)) c.loop-it.invariant.faults
+pub returns-clause-sessions : goal.returns-clause-sessions
+returns-clause-sessions g c = omega (arith, c.loop-it.invariant.sessions, sum_none (λ it. it.served) c.loop-it.loops.items (omega (arith, c.in_default.ensures.cases.0)))
 
-pub returns-clause-nudged : goal.returns-clause-nudged
-returns-clause-nudged g c = all_moved (λ it. it.nudged) g.E.Ear.nudged c.loop-it.loops.items c.loop-it.ears.items _ (omega (arith, c.in_default.ensures.cases.0)) c.loop-it.invariant.nudged
+pub returns-clause-amount : goal.returns-clause-amount
+returns-clause-amount g c = omega (arith, c.loop-it.invariant.amount, sum_none (λ it. it.pass.amount) c.loop-it.loops.items (omega (arith, c.in_default.ensures.cases.0)))
+
+pub returns-clause-ears : goal.returns-clause-ears
+returns-clause-ears g c = all_moved_by (λ it. it.ear) c.loop-it.loops.items c.loop-it.ears.items _ (omega (arith, c.in_default.ensures.cases.0)) c.loop-it.invariant.ears

@@ -10,10 +10,9 @@ invariant-loop-ear g l = record {
   amount : l.pass.amount ≡ l.fn.pass.amount;
   fresh : All (IsFresh l.numbers) l.loops.items;
   len : vec_len l.loops + vec_len l.ears ≡ vec_len l.fn.ears;
-  faults : map (λ it. it.faults) l.loops.items ++ reverse (map g.E.Ear.ear_faults l.ears.items) ≡ reverse (map g.E.Ear.ear_faults l.fn.ears.items);
-  nudged : map (λ it. it.nudged) l.loops.items ++ reverse (map g.E.Ear.nudged l.ears.items) ≡ reverse (map g.E.Ear.nudged l.fn.ears.items);
+  ears : map (λ it. it.ear) l.loops.items ++ reverse l.ears.items ≡ reverse l.fn.ears.items;
   room : vec_capacity l.loops ≡ vec_capacity l.fn.loops;
-  ears : vec_capacity l.ears ≡ vec_capacity l.fn.ears;
+  emptied : vec_capacity l.ears ≡ vec_capacity l.fn.ears;
 }
 
 abbrev pub decreases-loop-ear : goal.decreases-loop-ear

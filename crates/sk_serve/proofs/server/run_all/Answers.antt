@@ -14,7 +14,7 @@ for_each_mut-requires-clause-accepts g c κs within i p less is = (search sendab
 pub returns : goal.returns
 returns g c =
     let same : length c.for_each_mut.new.s ≡ length c.args.loops.now = c.for_each_mut.auto.s in
-    zipped (Runs c.args.shared.now.others) c.args.loops.now c.for_each_mut.new.s same (λ i d less.
+    zipped (Runs g.E.Ear g.E.Conn.Source g.E.Conn.Sink g.K.Clock c.args.shared.now.others) c.args.loops.now c.for_each_mut.new.s same (λ i d less.
     let k = (c.for_each_mut.ensures i d less).1 in
-    let ran : Runs c.args.shared.now.others k.argument.now k.after_call.now = k.call in
-    subst (λ x. Runs c.args.shared.now.others x (slice_index_or c.for_each_mut.new.s i d)) k.argument_is (subst (λ y. Runs c.args.shared.now.others k.argument.now y) k.left ran))
+    let ran : Runs g.E.Ear g.E.Conn.Source g.E.Conn.Sink g.K.Clock c.args.shared.now.others k.argument.now k.after_call.now = k.call in
+    subst (λ x. Runs g.E.Ear g.E.Conn.Source g.E.Conn.Sink g.K.Clock c.args.shared.now.others x (slice_index_or c.for_each_mut.new.s i d)) k.argument_is (subst (λ y. Runs g.E.Ear g.E.Conn.Source g.E.Conn.Sink g.K.Clock c.args.shared.now.others k.argument.now y) k.left ran))

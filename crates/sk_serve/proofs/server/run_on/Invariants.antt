@@ -3,4 +3,5 @@ use Rattle.sk_serve.specs.Server.{Runs}
 use Rattle.sk_serve.proofs.server.run_on.Given as goal
 
 abbrev pub invariant-loop : goal.invariant-loop
-invariant-loop g l = (goal.iterator-loop g).can_next l.iterator' × (goal.iterator-loop g).is_finite l.iterator' × AllZip (Runs l.shared.others) l.fn.loops l.loops
+invariant-loop g l =
+    (goal.iterator-loop g).can_next l.iterator' × (goal.iterator-loop g).is_finite l.iterator' × AllZip (Runs g.E.Ear g.E.Conn.Source g.E.Conn.Sink g.K.Clock l.shared.others) l.fn.loops l.loops

@@ -2,4 +2,5 @@ use Rattle.sk_serve.specs.Server.{Runs}
 use Rattle.sk_serve.proofs.accept_loop.AcceptLoop.run.Given as goal
 
 abbrev pub invariant-loop : goal.invariant-loop
-invariant-loop g l = (goal.iterator-loop g).can_next l.iterator' × (goal.iterator-loop g).is_finite l.iterator' × Runs l.shared.others l.fn.self l.self
+invariant-loop g l =
+    (goal.iterator-loop g).can_next l.iterator' × (goal.iterator-loop g).is_finite l.iterator' × Runs g.E.Ear g.E.Conn.Source g.E.Conn.Sink g.K.Clock l.shared.others l.fn.self l.self
