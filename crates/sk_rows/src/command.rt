@@ -1,4 +1,7 @@
 // Commands in rows, and who answers them.
+ghost use Rattle.std.specs.Prelude.{IfOk, Ok};
+ghost use Rattle.sk_cmd.specs.Table.{IsRead};
+
 use crate::text::{bytes_of, invalid};
 use sk_base::{Clock, StepClock};
 use sk_cmd::{Command, read_command};
@@ -18,7 +21,9 @@ pub fn words_of(alloc: Global, text: &str) -> Result<Words, AllocError> {
 }
 
 /// The command whose words these are. Words that are no command are invalid data.
-pub fn command_of(alloc: Global, words: Words) -> io::Result<Command> {
+pub fn command_of(alloc: Global, words: Words) -> io::Result<Command>
+    ensures { IfOk result (λ command. IsRead words (Ok command)) }
+{
     if words.list().is_empty() {
         return Err(invalid());
     }
