@@ -47,6 +47,14 @@ if [ -w /dev/full ]; then
     "$program" status --port 1 </dev/null 2>/dev/full
     expect 'no server, and a log that is full' 6 $?
 fi
+case $program in
+*bin/sidekiq)
+    "$program" work --help 2>/dev/null | grep -q '^Usage: sidekiq work '
+    expect 'the help of a command' 0 $?
+    "$program" --help 2>/dev/null | grep -q '^usage: sidekiq pipe '
+    expect 'the help of the program' 0 $?
+    ;;
+esac
 first=$("$program" soak 1 1)
 expect 'a run of one job' 0 $?
 [ "$first" = "$("$program" soak 1 1)" ]
