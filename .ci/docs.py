@@ -119,8 +119,8 @@ def counted_volumes():
     rows = ['%d definitions with %s lines, some %d pages of 60 lines:'
             % (sum(len(it) for _, it in volumes), number(sum(lines)), -(-sum(lines) // 60)), '',
             '| Volume | What | Definitions | Lines |', '|---|---|---|---|']
-    rows += ['| %s | %s | %d | %s |' % ('I' * at, title, len(found), number(count))
-             for at, ((title, found), count) in enumerate(zip(volumes, lines), 1)]
+    rows += ['| %s | %s | %d | %s |' % (numeral, title, len(found), number(count))
+             for numeral, (title, found), count in zip(('I', 'II', 'III', 'IV'), volumes, lines)]
     laws = list(statement.laws())
     shared = set.intersection(*(found for _, _, found in laws))
     rows += ['', 'Of the first volume all laws need the world and its changes, %s lines; and each law its own:' % number(statement.lines_of(shared)), '',

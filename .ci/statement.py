@@ -14,7 +14,8 @@ from pathlib import Path
 
 CRATES = Path(__file__).resolve().parent.parent / 'crates'
 
-HEADLINE = ('sk_pipe', 'src/command_line.rt')        # the top call
+HEADLINE = ('sk_app', 'src/top.rt')                  # the top call
+PIPE = ('sk_pipe', 'src/command_line.rt')            # what it does for `pipe`
 RELIABLE = ('sk_model', 'Reliable', 'IsReliable')    # what holds of every run
 STEP = ('sk_model', 'Step', 'MayComeTo')             # what each command comes to
 CUT = ('sk_model', 'Step', 'cut')                    # what a cut comes to
@@ -129,18 +130,19 @@ def by_file(found):
     return count
 
 
-def headline():
-    """The definitions that the clauses of the top call name."""
-    text = (CRATES / HEADLINE[0] / HEADLINE[1]).read_text(encoding='utf-8')
+def named_by(crate, file):
+    """The definitions that the clauses of a file's functions name."""
+    text = (CRATES / crate / file).read_text(encoding='utf-8')
     return [follow(*it) for it in imports(text).values()]
 
 
 def volumes():
     """(title, definitions) of each volume."""
-    whole = needed(headline())
     runs = needed([RELIABLE], {STEP, CUT, WORDS})
     steps = needed([STEP, CUT], {WORDS}) - runs
-    return [('What holds of every run', runs), ('What each command comes to', steps), ('The wire, the words, and the pipe', whole - runs - steps)]
+    pipe = needed(named_by(*PIPE)) - runs - steps
+    programs = needed(named_by(*HEADLINE)) - runs - steps - pipe
+    return [('What holds of every run', runs), ('What each command comes to', steps), ('The wire, the words, and the pipe', pipe), ('The programs', programs)]
 
 
 def laws():
