@@ -8,7 +8,9 @@ that is taken, processes of push, work and status beside them, one of which is k
 Plain sockets and Python alone. Status 1 where anything differs.
 """
 import re
+import resource
 import socket
+import struct
 import subprocess
 import sys
 import threading
@@ -37,10 +39,11 @@ def bulk(text):
 class Server:
     """A server with this many loops, or as many as it takes by itself, and what it printed at its end."""
 
-    def __init__(self, loops, *more):
+    def __init__(self, loops, *more, descriptors=None):
         self.port = free_port()
         words = [PROGRAM, 'serve', '--port', str(self.port), *(['--loops', str(loops)] if loops else []), *more]
-        self.process = subprocess.Popen(words, stdin=subprocess.DEVNULL, stdout=subprocess.PIPE, stderr=subprocess.PIPE)
+        limit = (lambda: resource.setrlimit(resource.RLIMIT_NOFILE, (descriptors, descriptors))) if descriptors else None
+        self.process = subprocess.Popen(words, stdin=subprocess.DEVNULL, stdout=subprocess.PIPE, stderr=subprocess.PIPE, preexec_fn=limit)
         self.wait()
 
     def wait(self):
@@ -337,6 +340,34 @@ def a_process_that_is_killed(server):
     return 500
 
 
+def elsewhere(server):
+    """The server listens at 127.0.0.1 alone, and the programs go to the host that they are told."""
+    try:
+        socket.create_connection(('127.0.0.2', server.port), 5).close()
+        raise AssertionError('it listens at 127.0.0.2')
+    except ConnectionRefusedError:
+        pass
+    for name, *words in (['push', 'Note', '[]'], ['status'], ['work', '--turns', '1']):
+        line = [PROGRAM, name, '--host', '127.0.0.2', '--port', str(server.port), *words]
+        done = subprocess.run(line, stdin=subprocess.DEVNULL, capture_output=True, timeout=SECONDS)
+        assert (done.returncode, done.stdout) == (6, b''), (line, done)
+
+
+def ids_and_moments(server):
+    """Each push has an id of its own, and the moment at which it was made."""
+    ids = {ran(server, 'push', '--queue', 'ids', 'Note', '[1]').strip() for _ in range(16)}
+    assert len(ids) == 16, ids
+    with server.client() as it:
+        it.send(command('LRANGE', 'queue:ids', '0', '-1'))
+        found = it.take(5)
+        while found.count(b'"jid"') < 16 or not found.endswith(b'\r\n'):
+            found += it.take(1)
+    moments = [int(moment) for moment in re.findall(rb'"created_at":(\d+)', found)]
+    assert len(moments) == 16 and all(abs(moment - 1000 * time.time()) < 60_000 for moment in moments), moments
+    assert all(it.encode() in found for it in ids)
+    return 16
+
+
 def page(server):
     """The numbers of the page: name to count."""
     return {name: int(count) for name, count in re.findall(r'(?m)^(\w+) (\d+)$', ran(server, 'status'))}
@@ -394,6 +425,30 @@ def defaults(_):
     assert status == 0, status
 
 
+def a_reset_behind_the_loops(_):
+    """A client that resets its connection while it waits for a loop is passed over."""
+    server = Server(1)
+    with server.client() as first:
+        first.ask(b'+PONG\r\n', 'PING')
+        with server.client() as waiting:
+            waiting.socket.setsockopt(socket.SOL_SOCKET, socket.SO_LINGER, struct.pack('ii', 1, 0))
+    with server.client() as it:
+        it.ask(b'+PONG\r\n', 'PING')
+    assert server.end()[0] == 0
+
+
+def few_descriptors(_):
+    """A server that runs short of descriptors serves as many as it can, and goes on when some are free again."""
+    server = Server(12, descriptors=16)
+    clients = [server.client() for _ in range(32)]
+    clients[0].ask(b'+PONG\r\n', 'PING')
+    for it in clients:
+        it.socket.close()
+    with server.client() as it:
+        it.ask(b'+PONG\r\n', 'PING')
+    assert server.end()[0] == 0
+
+
 def full_log(_):
     """A server whose notices can't be written serves, and ends well."""
     with open('/dev/full', 'w') as full:
@@ -407,7 +462,8 @@ def full_log(_):
 
 
 TESTS = [pipeline, large_reply, single_bytes, one_that_leaves, one_that_never_reads, ends, own_words_of_a_pipe, a_page_of_a_browser,
-         lines_that_no_page_sends, a_worker_that_dies, many_at_once, taken_port, processes, started_again, a_process_that_is_killed, defaults, full_log]
+         lines_that_no_page_sends, a_worker_that_dies, many_at_once, taken_port, elsewhere, ids_and_moments, processes, started_again,
+         a_process_that_is_killed, defaults, a_reset_behind_the_loops, few_descriptors, full_log]
 
 
 def main():
