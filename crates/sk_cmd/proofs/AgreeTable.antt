@@ -36,6 +36,7 @@ reads_agree name.KindOf words = then_agrees (one_agrees name.KindOf words) (λ w
 reads_agree name.Incrby words = then_agrees (key_whole_agrees name.Incrby words) (λ w. is_agrees _)
 reads_agree name.Pexpire words = then_agrees (key_whole_agrees name.Pexpire words) (λ w. is_agrees _)
 reads_agree name.Pttl words = then_agrees (one_agrees name.Pttl words) (λ w. is_agrees _)
+reads_agree name.Give words = then_agrees (two_agrees name.Give words) (λ w. is_agrees _)
 reads_agree name.Lpush words = then_agrees (one_and_agrees name.Lpush _ words) (λ w. is_agrees _)
 reads_agree name.Rpush words = then_agrees (one_and_agrees name.Rpush _ words) (λ w. is_agrees _)
 reads_agree name.Lrange words = then_agrees (key_range_agrees name.Lrange words) (λ w. is_agrees _)

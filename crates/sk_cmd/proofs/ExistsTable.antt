@@ -40,6 +40,7 @@ reads_exist name.KindOf words = then_exists (one_exists name.KindOf words) (λ w
 reads_exist name.Incrby words = then_exists (key_whole_exists name.Incrby words) (λ w. ok_exists _)
 reads_exist name.Pexpire words = then_exists (key_whole_exists name.Pexpire words) (λ w. ok_exists _)
 reads_exist name.Pttl words = then_exists (one_exists name.Pttl words) (λ w. ok_exists _)
+reads_exist name.Give words = then_exists (two_exists name.Give words) (λ w. ok_exists _)
 reads_exist name.Lpush words = then_exists (one_and_exists name.Lpush _ words) (λ w. ok_exists _)
 reads_exist name.Rpush words = then_exists (one_and_exists name.Rpush _ words) (λ w. ok_exists _)
 reads_exist name.Lrange words = then_exists (key_range_exists name.Lrange words) (λ w. ok_exists _)

@@ -10,7 +10,7 @@ use Rattle.sk_resp.specs.declared.name.Name.TheVariants as name
 use Rattle.sk_cmd.specs.Table.{Names}
 
 every : List Name
-every = name.Lpush ∷ name.Rpush ∷ name.Lmove ∷ name.Lrange ∷ name.Llen ∷ name.Lrem ∷ name.Ping ∷ name.Echo ∷ name.Quit ∷ name.Shutdown ∷ name.Flushall ∷ name.Get ∷ name.Set ∷ name.Del ∷ name.Exists ∷ name.KindOf ∷ name.Incrby ∷ name.Pexpire ∷ name.Pttl ∷ name.Sadd ∷ name.Srem ∷ name.Smembers ∷ name.Scard ∷ name.Sismember ∷ name.Hset ∷ name.Hget ∷ name.Hlen ∷ name.Hdel ∷ name.Hgetall ∷ name.Zadd ∷ name.Zrem ∷ name.Zcard ∷ name.Zscore ∷ name.Zrange ∷ name.Zrangebyscore ∷ name.Zremrangebyrank ∷ name.Zremrangebyscore ∷ name.Beat ∷ name.Join ∷ name.Start ∷ name.Ok ∷ name.Fail ∷ name.Drop ∷ name.Bury ∷ name.Back ∷ name.Due ∷ name.Rescue ∷ name.Upush ∷ name.Bpush ∷ name.Badd ∷ name.Bstat ∷ name.Lead ∷ name.Cron ∷ name.Revive ∷ name.Kill ∷ name.Where ∷ name.Status ∷ name.As ∷ name.Now ∷ name.Cut ∷ []
+every = name.Lpush ∷ name.Rpush ∷ name.Lmove ∷ name.Lrange ∷ name.Llen ∷ name.Lrem ∷ name.Ping ∷ name.Echo ∷ name.Quit ∷ name.Shutdown ∷ name.Flushall ∷ name.Get ∷ name.Set ∷ name.Del ∷ name.Exists ∷ name.KindOf ∷ name.Incrby ∷ name.Pexpire ∷ name.Pttl ∷ name.Sadd ∷ name.Srem ∷ name.Smembers ∷ name.Scard ∷ name.Sismember ∷ name.Hset ∷ name.Hget ∷ name.Hlen ∷ name.Hdel ∷ name.Hgetall ∷ name.Zadd ∷ name.Zrem ∷ name.Zcard ∷ name.Zscore ∷ name.Zrange ∷ name.Zrangebyscore ∷ name.Zremrangebyrank ∷ name.Zremrangebyscore ∷ name.Beat ∷ name.Join ∷ name.Start ∷ name.Ok ∷ name.Fail ∷ name.Drop ∷ name.Bury ∷ name.Back ∷ name.Due ∷ name.Rescue ∷ name.Upush ∷ name.Bpush ∷ name.Badd ∷ name.Bstat ∷ name.Lead ∷ name.Cron ∷ name.Revive ∷ name.Kill ∷ name.Where ∷ name.Status ∷ name.Give ∷ name.As ∷ name.Now ∷ name.Cut ∷ []
 
 lower : Name → Bytes
 lower name = str_to_ascii_lowercase (spelling name)
@@ -79,6 +79,7 @@ found name.Revive = refl
 found name.Kill = refl
 found name.Where = refl
 found name.Status = refl
+found name.Give = refl
 found name.As = refl
 found name.Now = refl
 found name.Cut = refl

@@ -19,6 +19,7 @@ only_reads (plain.KindOf a) = true
 only_reads (plain.Incrby a b) = false
 only_reads (plain.Pexpire a b) = false
 only_reads (plain.Pttl a) = true
+only_reads (plain.Give a b) = false
 only_reads (plain.Lpush a b) = false
 only_reads (plain.Rpush a b) = false
 only_reads (plain.Lrange a b c) = true

@@ -61,6 +61,7 @@ Reads name.KindOf words out = Then (IsOne name.KindOf words) out (λ w. IsPlain 
 Reads name.Incrby words out = Then (IsKeyWhole name.Incrby words) out (λ w. IsPlain (plain.Incrby w.0 w.1) out)
 Reads name.Pexpire words out = Then (IsKeyWhole name.Pexpire words) out (λ w. IsPlain (plain.Pexpire w.0 w.1) out)
 Reads name.Pttl words out = Then (IsOne name.Pttl words) out (λ w. IsPlain (plain.Pttl w) out)
+Reads name.Give words out = Then (IsTwo name.Give words) out (λ w. IsPlain (plain.Give w.0 w.1) out)
 -- Lists
 Reads name.Lpush words out = Then (IsKeyTexts name.Lpush words) out (λ w. IsPlain (plain.Lpush w.0 w.1) out)
 Reads name.Rpush words out = Then (IsKeyTexts name.Rpush words) out (λ w. IsPlain (plain.Rpush w.0 w.1) out)

@@ -9,13 +9,13 @@ use sk_resp::{Word, Words};
 /// A command of the store, with its arguments read.
 #[derive(Drop)]
 pub enum Command {
-    /// A command that Redis has too.
+    /// A command that Redis has too, or `SK.GIVE`.
     Plain(PlainCommand),
-    /// A command of the store's own.
+    /// A command of the store's own on jobs, batches, workers and leases.
     Script(ScriptCommand),
 }
 
-/// The commands of Redis that the store knows.
+/// The commands of Redis that the store knows, and `SK.GIVE`, which is on a plain key as they are.
 #[derive(Drop)]
 pub enum PlainCommand {
     /// `PING [text]`
@@ -44,6 +44,8 @@ pub enum PlainCommand {
     Pexpire(Word, i64),
     /// `PTTL key`
     Pttl(Word),
+    /// `SK.GIVE key text`
+    Give(Word, Word),
     /// `LPUSH key element ..`
     Lpush(Word, Words),
     /// `RPUSH key element ..`
@@ -94,7 +96,7 @@ pub enum PlainCommand {
     Zremrangebyscore(Word, Bound, Bound),
 }
 
-/// The store's own commands. A payload is a job as JSON text.
+/// The store's other commands. A payload is a job as JSON text.
 #[derive(Drop)]
 pub enum ScriptCommand {
     /// `SK.BEAT ident`

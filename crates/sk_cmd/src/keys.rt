@@ -3,7 +3,7 @@ ghost use Rattle.std.specs.Prelude.{◌≡◌};
 ghost use Rattle.sk_resp.specs.declared.name.Name.TheVariants as Name;
 ghost use Rattle.sk_cmd.specs.Table.{Reads};
 
-use crate::counts::{is_from, one, some, two_and, zero};
+use crate::counts::{is_from, one, some, two, two_and, zero};
 use crate::forms::{key_whole, plain};
 use crate::options::set_options;
 use crate::{CmdFault, Command, PlainCommand};
@@ -109,4 +109,12 @@ pub fn pttl(words: Vec<Word>) -> Result<Command, CmdFault>
     ensures { Reads Name.Pttl words.items result }
 {
     plain(PlainCommand::Pttl(one(Name::Pttl, words)?))
+}
+
+/// `SK.GIVE key text`
+pub fn give(words: Vec<Word>) -> Result<Command, CmdFault>
+    ensures { Reads Name.Give words.items result }
+{
+    let (key, text) = two(Name::Give, words)?;
+    plain(PlainCommand::Give(key, text))
 }

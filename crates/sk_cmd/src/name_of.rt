@@ -188,6 +188,9 @@ pub fn name_of(word: &[u8]) -> Option<Name>
     if is(word, Name::Status) {
         return Some(Name::Status);
     }
+    if is(word, Name::Give) {
+        return Some(Name::Give);
+    }
     if is(word, Name::As) {
         return Some(Name::As);
     }

@@ -26,6 +26,7 @@ fn read_as(alloc: Global, name: Name, words: Vec<Word>) -> Result<Command, CmdFa
         Name::Incrby => keys::incrby(words),
         Name::Pexpire => keys::pexpire(words),
         Name::Pttl => keys::pttl(words),
+        Name::Give => keys::give(words),
         Name::Lpush => lists::lpush(words),
         Name::Rpush => lists::rpush(words),
         Name::Lrange => lists::lrange(words),

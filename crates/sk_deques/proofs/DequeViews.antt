@@ -1,5 +1,5 @@
 -- UndoDeques as lists: what an edit of a deque is to its list.
-use Rattle.std.proofs.Common.{◌≡◌, ap₂, Bool, true, false, cond, ℕ, zero, suc, List, [], ◌∷◌, Option, Some, None, length, refl, arith, ap, slice_get, ◌∙◌}
+use Rattle.std.proofs.Common.{◌≡◌, ap₂, Bool, true, false, cond, ℕ, zero, suc, List, [], ◌∷◌, Option, Some, None, length, ◌<◌, refl, sym, arith, ap, slice_get, slice_set, ◌∙◌}
 use Rattle.sk_deques.specs.Deque.{Deque, cut_at, put_at}
 use Rattle.sk_deques.specs.DequeMoves.{changed_at, list_at, with_item, without_item, with_moved, moved, IsMove, lists_of, spaces_of, items_at, put_down, carried, IsCarry}
 use Rattle.sk_deques.specs.DequeEdits.{before}
@@ -42,6 +42,12 @@ module _ {T : Type 0} where
         place = omega (arith, same, m.place);
         room = omega (arith, same, m.room);
       }
+
+  -- another deque without items in the place of one
+  pub lists_same : (xs : List (Deque T)) (n : ℕ) (w : Deque T) → n < length xs → items_at n xs ≡ [] → w.items ≡ [] → lists_of (slice_set xs n w) ≡ lists_of xs
+  lists_same [] n w h e i = absurd (omega (arith, h))
+  lists_same (l ∷ xs) zero w h e i = ap (λ its. its ∷ lists_of xs) (i ∙ sym e)
+  lists_same (l ∷ xs) (suc n) w h e i = ap (λ ls. l.items ∷ ls) (lists_same xs n w (omega (arith, h)) e i)
 
 module _ {K T : Type 0} where
   lists_put_down : (o : Option (K × T)) (to j : ℕ) (tag : K) (xs : List (Deque (K × T))) → lists_of (put_down o to j tag xs) ≡ with_moved o to j tag (lists_of xs)

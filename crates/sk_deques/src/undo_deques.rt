@@ -215,6 +215,16 @@ impl<K: Drop, T: Drop> UndoDeques<K, T> {
         cut(&mut self.deques, list, at)
     }
 
+    /// Gives the memory of a list without items back, where no step is open.
+    pub fn give_back(&mut self, list: usize)
+        requires list { list < length self.old.lists.current }
+        requires empty { list_at list self.old.lists.current ≡ [] }
+        requires closed { self.old.lists.saved ≡ None }
+        ensures { self.new.lists ≡ self.old.lists }
+    {
+        self.deques[list] = Deque::new(*self.deques.allocator());
+    }
+
     /// Opens a step. Takes no memory.
     pub fn begin(&mut self)
         requires { self.old.lists.saved ≡ None }

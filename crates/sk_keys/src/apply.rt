@@ -4,7 +4,7 @@ ghost use Rattle.sk_value.specs.Answer.{AnswersWith};
 ghost use Rattle.sk_value.specs.Apply.{applied};
 ghost use Rattle.sk_keys.specs.Index.{IsIndexed};
 
-use crate::delete::{clear, delete, exists};
+use crate::delete::{clear, delete, exists, give};
 use crate::edit::edit;
 use crate::expire::expire;
 use crate::expiries::Expiries;
@@ -38,6 +38,7 @@ pub fn act(
         Action::WriteOp(name, command) => edit(alloc, entries, expiries, name, command),
         Action::Set(name, text, options) => set(entries, expiries, now, name, text, options),
         Action::Expire(name, millis) => expire(entries, expiries, now, name, millis),
+        Action::Give(name, text) => Ok(give(entries, expiries, &name, &text)),
         Action::Exists(names) => Ok(exists(entries, &names)),
         Action::Delete(names) => Ok(delete(entries, expiries, &names)),
         Action::Move(source, destination, from, to) => {

@@ -1,7 +1,8 @@
-// `DEL key ..`, `EXISTS key ..` and `FLUSHALL`. A key goes with its pair of the index.
-ghost use Rattle.std.specs.Prelude.{◌≡◌, ◌+◌, ◌-◌, ◌≤◌, [], length, if◌then◌else◌};
+// `DEL key ..`, `SK.GIVE key text`, `EXISTS key ..` and `FLUSHALL`. A key goes with its pair of the index.
+ghost use Rattle.std.specs.Prelude.{◌≡◌, ◌+◌, ◌-◌, ◌≤◌, [], length, Ok, if◌then◌else◌};
 ghost use Rattle.std.specs.Option.{is_some};
 ghost use Rattle.sk_value.specs.Answer.{counted};
+ghost use Rattle.sk_value.specs.Apply.{changed, give_at, holds_string};
 ghost use Rattle.sk_value.specs.Keys.{at, how_many, without, without_all};
 ghost use Rattle.sk_keys.specs.Index.{IsIndexed};
 
@@ -46,6 +47,31 @@ pub fn delete(entries: &mut Entries, expiries: &mut Expiries, names: &Words) -> 
         remove(entries, expiries, name);
     }
     Reply::Int((before - entries.len()) as i64)
+}
+
+// Whether the key holds a string, and exactly this one.
+fn holds_string(entries: &Entries, name: &Word, text: &Word) -> bool
+    ensures { result ≡ holds_string text.now (at name.now entries.now.entries) }
+{
+    match entries.get(name) {
+        Some(there) => there.value.is_string(text),
+        None => false,
+    }
+}
+
+/// Removes a key that holds exactly this string, and answers whether it did. Any other stays. Takes no memory.
+#[tactic(auto, unfolding(sk_value::specs::Apply::give_at))]
+pub fn give(entries: &mut Entries, expiries: &mut Expiries, name: &Word, text: &Word) -> Reply
+    requires { IsIndexed entries.old.entries expiries.old }
+    ensures answer { Ok result ≡ (give_at text.now (at name.now entries.old.entries)).answer }
+    ensures keys { entries.new.entries ≡ changed name.now (give_at text.now (at name.now entries.old.entries)).change entries.old.entries }
+    ensures indexed { IsIndexed entries.new.entries expiries.new }
+{
+    if !holds_string(entries, name, text) {
+        return Reply::Int(0);
+    }
+    remove(entries, expiries, name);
+    Reply::Int(1)
 }
 
 // How many of the words name a key.

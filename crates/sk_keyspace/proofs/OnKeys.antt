@@ -4,7 +4,7 @@ use Rattle.std.specs.Prelude.{◌≢◌, Err, IfErr, IfOk, IsErr, Ok, OnErr, OnO
 use Rattle.sk_value.specs.declared.action.Action.{Action}
 use Rattle.sk_value.specs.declared.keys_fault.KeysFault.{KeysFault}
 use Rattle.sk_value.specs.declared.keys_fault.KeysFault.TheVariants as fault
-use Rattle.sk_value.specs.Apply.{applied, edit_at, set_at, expires_at, move_keys}
+use Rattle.sk_value.specs.Apply.{applied, edit_at, set_at, expires_at, give_at, move_keys}
 use Rattle.sk_value.specs.Keys.{Keys}
 use Rattle.sk_value.specs.Answer.{Answer, AnswersWith}
 use Rattle.sk_resp.specs.declared.reply.Reply.{Reply}
@@ -16,7 +16,7 @@ use Rattle.sk_store.proofs.Steps.{keyed_ready}
 
 -- what is refused leaves the keys as they are
 refused_keeps : (now : ℕ) (a : Action) (keys : Keys) (f : KeysFault) → (applied now a keys).answer ≡ Err f → (applied now a keys).keys ≡ keys
-unfolding edit_at set_at expires_at move_keys
+unfolding edit_at set_at expires_at give_at move_keys
 refused_keeps now a keys f e = grind (arith, e)
 
 -- what an action comes to, where the keys' answer and what they became are known

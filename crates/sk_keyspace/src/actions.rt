@@ -6,7 +6,7 @@ use crate::deletes::{delete, flush};
 use crate::edits::edit;
 use crate::looks::{exists, look};
 use crate::moves::move_text;
-use crate::plain::{expire, set};
+use crate::plain::{expire, give, set};
 use sk_resp::{Memory, Reply, Say};
 use sk_store::Store;
 use sk_value::Action;
@@ -24,6 +24,7 @@ pub fn act(store: &mut Store, action: Action) -> Result<Reply, Memory>
         Action::WriteOp(key, how) => edit(store, key, how),
         Action::Set(key, text, options) => set(store, key, text, options),
         Action::Expire(key, millis) => expire(store, key, millis),
+        Action::Give(key, text) => give(store, key, text),
         Action::Exists(names) => exists(store, names),
         Action::Delete(names) => Ok(delete(store, names)),
         Action::Move(source, destination, from, to) => {

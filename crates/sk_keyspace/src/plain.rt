@@ -81,3 +81,12 @@ pub fn expire(store: &mut Store, key: Word, millis: i64) -> Result<Reply, Memory
     let class = class_of(key.bytes());
     do_on_plain(store, Action::Expire(key, millis), class)
 }
+
+/// Deletes a key that holds exactly this string, where the key is plain. Another is refused.
+pub fn give(store: &mut Store, key: Word, text: Word) -> Result<Reply, Memory>
+    requires { IsReady store.old }
+    ensures { Executes store.old (on_plain (world store.old) (Action.Give key text) (class_of key)) result store.new }
+{
+    let class = class_of(key.bytes());
+    do_on_plain(store, Action::Give(key, text), class)
+}

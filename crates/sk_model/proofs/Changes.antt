@@ -14,5 +14,6 @@ pub mod LiveJobs
 pub mod Marked
 pub mod Notify
 pub mod NotifyLaws
+pub mod Order
 pub mod Phases
 pub mod Rows

@@ -21,13 +21,13 @@ use Rattle.sk_seats.specs.declared.phase.Phase.TheVariants.{Plain}
 use Rattle.sk_seats.specs.Phases.{works_of}
 use Rattle.sk_seats.specs.Works.{is_buried_as, is_held_as}
 use Rattle.sk_model.specs.World.{World, first, phase_of}
-use Rattle.sk_model.specs.Change.{Add, Carry, Take, Trim, PutBack, Free, Change, Moves, Passes, Locks, Unlocks, Elects, TakesSlot, Notifies, changed}
+use Rattle.sk_model.specs.Change.{Add, Take, Trim, PutBack, Free, Change, Moves, Passes, Locks, Unlocks, Elects, TakesSlot, Notifies, changed}
 use Rattle.sk_leases.specs.Leased.{is_led_by_another, last, leads}
 use Rattle.sk_model.specs.Periodic.{is_above, is_in_time, is_process}
 use Rattle.sk_model.specs.Reading.{Words}
 use Rattle.sk_model.specs.Seats.{releases}
 use Rattle.sk_model.specs.Event.{Event, Ask, Cut, Run, Step, after}
-use Rattle.sk_model.specs.Once.{called_by, is_dead_set}
+use Rattle.sk_model.specs.Once.{called_by, is_burial, is_dead_set}
 
 -- ## Causes in the event
 
@@ -136,12 +136,6 @@ pub record IsSlot (w : World) (loop : Bytes) (slot : ℕ) (text : Bytes) (event 
   pub timely : is_in_time (changed w (Passes now)) slot ≡ true
 
 -- ## Each change
-
--- a text comes into the dead set
-abbrev pub is_burial : Change → Bool
-is_burial (Moves (Carry row from to score end)) = is_dead_set to
-is_burial (Moves (PutBack row)) = is_dead_set row.place
-is_burial other = false
 
 -- w: the world before the event. buried: whether a text came into the dead set earlier in the event. due: the callback of the firing just before it, or
 -- the job of the slot.

@@ -26,5 +26,6 @@ pub mod Once
 pub mod Covered
 pub mod Causes
 pub mod Laws
+pub mod Order
 pub mod Reliable
 pub mod Starving

@@ -98,6 +98,12 @@ is_dead_set (Set Retry) = false
 is_dead_set (Queue queue) = false
 is_dead_set (Private ident) = false
 
+-- a text comes into the dead set
+abbrev pub is_burial : Change → Bool
+is_burial (Moves (Carry row from to score end)) = is_dead_set to
+is_burial (Moves (PutBack row)) = is_dead_set row.place
+is_burial other = false
+
 -- the job of this id names this batch or one within it, and is a member of the one that it names
 abbrev pub names_batch : Bytes → Batched → Bytes → Option Bytes → Bool
 names_batch bid s jid None = false

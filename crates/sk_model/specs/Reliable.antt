@@ -7,6 +7,7 @@ use Rattle.sk_model.specs.Event.{Step, Run}
 use Rattle.sk_model.specs.Laws.{BalanceFrom, CopiesKeptFrom, LiveJobsStand, OneHolderFrom, OneLeaderFrom, SlotsRiseFrom}
 use Rattle.sk_model.specs.Life.{Unborn}
 use Rattle.sk_model.specs.Once.{CallsFollowFrom, CompleteOnceFrom, DeathOnceFrom, SettledStaysFrom, SuccessOnceFrom}
+use Rattle.sk_model.specs.Order.{InOrderFrom}
 
 pub record IsReliable (limits : Limits) (steps : List Step) : Type 0 where
   -- After each step every live job stands in a queue, a private list or a set.
@@ -23,6 +24,8 @@ pub record IsReliable (limits : Limits) (steps : List Step) : Type 0 where
   pub complete_once : CompleteOnceFrom (first limits) (λ bid. false) steps
   -- Death of a batch is fired once, at the first step that buries a member of it.
   pub death_once : DeathOnceFrom (first limits) (λ bid. false) steps
+  -- What is fired for one job stands in order: complete before success, success before death, and of each kind the inner batch first.
+  pub firings_in_order : InOrderFrom (first limits) steps
   -- Each firing is followed at once by the push of the batch's callback, where it has one.
   pub callbacks_follow : CallsFollowFrom (first limits) steps
   -- Whatever takes a row away, puts a text back or is the store's own push has its cause.

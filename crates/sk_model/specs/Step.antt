@@ -92,6 +92,7 @@ act w (action.ReadOp key look) = says (reply_of (look_at w.moment look (held w k
 act w (action.WriteOp key edit) = edits w key edit (class_of key)
 act w (action.Set key text options) = on_plain w (action.Set key text options) (class_of key)
 act w (action.Expire key millis) = on_plain w (action.Expire key millis) (class_of key)
+act w (action.Give key text) = on_plain w (action.Give key text) (class_of key)
 act w (action.Exists keys) = says (counted (how_many (held w) keys))
 act w (action.Delete keys) = delete w keys
 act w (action.Move source destination from to) = moves w source destination from to (class_of source) (class_of destination)

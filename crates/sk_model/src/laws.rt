@@ -3,6 +3,7 @@ ghost use Rattle.std.specs.Prelude.{◌≡◌};
 ghost use Rattle.sk_model.specs.Causes.{MovesHaveCauses};
 ghost use Rattle.sk_model.specs.Laws.{Balance, Conserve, CopiesKept, OneHolder, OneLeader, SlotsRise};
 ghost use Rattle.sk_model.specs.Once.{BatchOnce, CallbacksFollow, CompleteOnce, DeathOnce, SettledStays};
+ghost use Rattle.sk_model.specs.Order.{FiringsInOrder};
 ghost use Rattle.sk_model.specs.Reading.{IsSaid, PipeCommand, SomeReading, Words};
 ghost use Rattle.sk_model.specs.Reliable.{Reliable};
 ghost use Rattle.sk_model.specs.Starving.{LimitsStay, OwnWordsNeverStarve, ReleasesNeverStarve, ServedOrStarved};
@@ -48,6 +49,13 @@ pub fn complete_fires_once()
 /// Death of a batch is fired once, in the first step in which a member of it comes into the dead set, and in no other.
 pub fn death_fires_once()
     ensures { DeathOnce }
+{}
+
+/// What an event fires stands in groups: one before the first text that comes into the dead set, and one after each such text, up to the next one.
+/// Within a group each complete stands before each success and death, each success before each death, and of each kind a batch before those that
+/// it is in. So a command that buries several jobs fires for one after another, in the order in which it buries them.
+pub fn firings_are_in_order()
+    ensures { FiringsInOrder }
 {}
 
 /// Each firing of a batch is followed at once by the push of the batch's callback of this kind, at the left end of the queue that its head

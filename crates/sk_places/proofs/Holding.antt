@@ -1,5 +1,5 @@
 -- What an edit of the lists leaves of what holds of them, and of their rows.
-use Rattle.std.proofs.Common.{◌≡◌, ◌+◌, ◌<◌, ◌≤◌, ℕ, zero, suc, Bool, true, false, List, [], ◌∷◌, ◌++◌, Option, Some, None, drop, length, map, slice_get, take, refl, sym, arith, ap, ap₂, subst, ◌∙◌}
+use Rattle.std.proofs.Common.{◌≡◌, ◌+◌, ◌<◌, ◌≤◌, ℕ, zero, suc, Bool, true, false, List, [], ◌∷◌, Some, None, drop, length, map, slice_get, take, refl, sym, arith, ap, ap₂, subst, ◌∙◌}
 use Rattle.std.specs.Prelude.{IfSome, slice_index_or}
 use Rattle.std.specs.BTreeMap.{is_at}
 use Rattle.std.specs.List.{AllByRecursion, insert, position_or_len, remove}
@@ -14,10 +14,11 @@ use Rattle.sk_undo.specs.Versions.{Versions, edited}
 use Rattle.sk_places.specs.declared.row_lists.RowLists.{RowLists}
 use Rattle.sk_places.specs.declared.row.Place.{Place}
 use Rattle.sk_places.specs.declared.row.Row.{Row}
-use Rattle.sk_places.specs.RowLists.{AreLists, AreNamed, HasSpace, IsReady, Item, all_rows, is_list, kept_rows, listed, place_of, rows_in, start_of}
+use Rattle.sk_places.specs.RowLists.{AreLists, AreNamed, HasSpace, IsNameless, Item, all_rows, is_list, kept_rows, listed, place_of, rows_in, start_of}
 use Rattle.sk_places.specs.Rows.{place_cmp, put_row, rows_at}
 use Rattle.sk_places.proofs.Entries.{map_map, part_map, position_map}
 use Rattle.sk_places.proofs.Listed.{list_none, list_put, list_removed, list_rows}
+use Rattle.sk_places.proofs.SpareDeques.{nameless_stays, spare_edited}
 
 pub place_within : {X : Type 0} (end : Side) (l : List X) → place_of end l ≤ length l
 place_within Left l = omega arith
@@ -45,12 +46,13 @@ named_edited names s t ls e h q = subst (AreNamed names) (sym e) (record {
 })
 
 -- an edit of the deques alone
-pub lists_edited : (l m : RowLists) (ls : List (List Item)) (rows : List Row) → m.names.list ≡ l.names.list → m.sets.list ≡ l.sets.list → m.deques.lists ≡ edited ls l.deques.lists → length ls ≡ length l.deques.lists.current → all_rows l.names.list.current ls l.sets.list.current ≡ rows → AreLists l
+pub lists_edited : (l m : RowLists) (ls : List (List Item)) (rows : List Row) → m.names.list ≡ l.names.list → m.sets.list ≡ l.sets.list → m.spare.numbers.items ≡ l.spare.numbers.items → m.deques.lists ≡ edited ls l.deques.lists → length ls ≡ length l.deques.lists.current → ((k : ℕ) → IsNameless k l.names.list.current → list_at k ls ≡ list_at k l.deques.lists.current) → all_rows l.names.list.current ls l.sets.list.current ≡ rows → AreLists l
     → AreLists m × (rows_in m ≡ edited rows (rows_in l))
-lists_edited l m ls rows names sets is long all a = (
+lists_edited l m ls rows names sets spare is long stays all a = (
   record {
     named = subst (λ ns. AreNamed ns m.deques.lists) (sym names) (named_edited l.names.list l.deques.lists m.deques.lists ls is long a.named);
     sets = rw sets a.sets;
+    spare = rw (names, spare, is) (spare_edited l.spare.numbers.items l.names.list.current l.deques.lists ls long stays a.spare);
     one_step = ap (λ (s : Versions (List (List Item))). is_some s.saved) is ∙ a.one_step ∙ ap (λ s. is_some s.saved) (sym sets);
   },
   ap₂ (λ ns s. kept_rows ns.current m.deques.lists s) names sets ∙ ap (λ s. kept_rows l.names.list.current s l.sets.list) is ∙ ap (λ r. edited r (rows_in l)) all,
@@ -77,17 +79,19 @@ module _ (l : RowLists) (place : Place) (n : ℕ) (a : AreLists l) (list : is_li
   get_is i item e = ap (λ rows. slice_get rows i) own_rows ∙ get_of (list_at n l.deques.lists.current) i item e
 
   -- a row that comes to an end
-  pub put_is : (m : RowLists) (end : Side) (at : ℕ) (item : Item) → m.names.list ≡ l.names.list → m.sets.list ≡ l.sets.list → at ≡ place_of end (list_at n l.deques.lists.current) → m.deques.lists ≡ edited (with_item n at item l.deques.lists.current) l.deques.lists
+  pub put_is : (m : RowLists) (end : Side) (at : ℕ) (item : Item) → m.names.list ≡ l.names.list → m.sets.list ≡ l.sets.list → m.spare.numbers.items ≡ l.spare.numbers.items → at ≡ place_of end (list_at n l.deques.lists.current) → m.deques.lists ≡ edited (with_item n at item l.deques.lists.current) l.deques.lists
       → AreLists m × (rows_in m ≡ edited (put_row end (listed place item) (rows_in l).current) (rows_in l))
-  put_is m end at item names sets there is = lists_edited l m (with_item n at item l.deques.lists.current) (put_row end (listed place item) (rows_in l).current) names sets is (length_changed n (λ its. insert its at item) l.deques.lists.current)
+  put_is m end at item names sets spare there is = lists_edited l m (with_item n at item l.deques.lists.current) (put_row end (listed place item) (rows_in l).current) names sets spare is (length_changed n (λ its. insert its at item) l.deques.lists.current)
+      (λ k none. nameless_stays (is_at (place_cmp place)) l.names.list.current n k (λ its. insert its at item) l.deques.lists.current found none)
       (ap (λ k. all_rows l.names.list.current (with_item n k item l.deques.lists.current) l.sets.list.current) there ∙ list_put l.names.list.current l.deques.lists.current l.sets.list.current a.named.sorted a.named.apart a.sets.current place n list found (list_there l place n a found) end item) a
 
   -- a row that goes
-  pub removed_is : (m : RowLists) (at : ℕ) → at < length (rows_at place (rows_in l).current) → m.names.list ≡ l.names.list → m.sets.list ≡ l.sets.list → m.deques.lists ≡ edited (without_item n at l.deques.lists.current) l.deques.lists
+  pub removed_is : (m : RowLists) (at : ℕ) → at < length (rows_at place (rows_in l).current) → m.names.list ≡ l.names.list → m.sets.list ≡ l.sets.list → m.spare.numbers.items ≡ l.spare.numbers.items → m.deques.lists ≡ edited (without_item n at l.deques.lists.current) l.deques.lists
       → AreLists m × (rows_in m ≡ edited (remove (rows_in l).current (start_of place (rows_in l).current + at)) (rows_in l))
-  removed_is m at within names sets is =
+  removed_is m at within names sets spare is =
       let less : at < length (list_at n l.deques.lists.current) = subst (λ k. at < k) len_is within in
-      lists_edited l m (without_item n at l.deques.lists.current) (remove (rows_in l).current (start_of place (rows_in l).current + at)) names sets is (length_changed n (λ its. remove its at) l.deques.lists.current)
+      lists_edited l m (without_item n at l.deques.lists.current) (remove (rows_in l).current (start_of place (rows_in l).current + at)) names sets spare is (length_changed n (λ its. remove its at) l.deques.lists.current)
+      (λ k none. nameless_stays (is_at (place_cmp place)) l.names.list.current n k (λ its. remove its at) l.deques.lists.current found none)
       (list_removed l.names.list.current l.deques.lists.current l.sets.list.current a.named.sorted a.named.apart a.sets.current place n list found (list_there l place n a found) at less) a
 
   -- looks at the place's rows
@@ -121,8 +125,8 @@ pub within_listed : (l : RowLists) (place : Place) (n at : ℕ) → AreLists l �
 within_listed l place n at a list found h = subst (λ k. at < k) (len_is l place n a list found) h
 
 -- nothing but memory was taken
-pub lists_same : (l m : RowLists) → m.names.list ≡ l.names.list → m.deques.lists ≡ l.deques.lists → m.sets.list ≡ l.sets.list → AreLists l → AreLists m × (rows_in m ≡ rows_in l)
-lists_same l m names lists sets a = (
-  record { named = rw (names, lists) a.named; sets = rw sets a.sets; one_step = rw (lists, sets) a.one_step },
+pub lists_same : (l m : RowLists) → m.names.list ≡ l.names.list → m.deques.lists ≡ l.deques.lists → m.sets.list ≡ l.sets.list → m.spare.numbers.items ≡ l.spare.numbers.items → AreLists l → AreLists m × (rows_in m ≡ rows_in l)
+lists_same l m names lists sets spare a = (
+  record { named = rw (names, lists) a.named; sets = rw sets a.sets; spare = rw (names, lists, spare) a.spare; one_step = rw (lists, sets) a.one_step },
   ap₂ (λ ns s. kept_rows ns.current s m.sets.list) names lists ∙ ap (kept_rows l.names.list.current l.deques.lists) sets,
 )

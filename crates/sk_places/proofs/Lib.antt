@@ -23,6 +23,7 @@ pub mod SetRows
 pub mod SetScores
 pub mod Shifts
 pub mod Sound
+pub mod SpareDeques
 pub mod Sweeping
 pub mod Sweeps
 pub mod LeastScores

@@ -1,8 +1,8 @@
 -- What an edit of a place's deque, or of the sets, is to all rows.
-use Rattle.std.proofs.Common.{◌≡◌, ◌+◌, ◌<◌, ◌≤◌, ℕ, zero, suc, Bool, true, false, not, List, [], ◌∷◌, ◌++◌, Option, Some, None, length, filter, map, slice_get, refl, sym, arith, ap, ap₂, append_assoc, subst, ◌∙◌}
+use Rattle.std.proofs.Common.{◌≡◌, ◌+◌, ◌<◌, ℕ, zero, suc, Bool, true, false, not, List, [], ◌∷◌, ◌++◌, Some, None, length, map, refl, sym, arith, ap, ap₂, append_assoc, subst, ◌∙◌}
 use Rattle.std.proofs.lemmas.List.{map-append}
 use Rattle.std.specs.BTreeMap.{is_at as is_key}
-use Rattle.std.specs.List.{AllByRecursion, insert, remove, position_or_len}
+use Rattle.std.specs.List.{AllByRecursion, insert, remove}
 use Rattle.std.specs.Map.{keys_of, values_of, lookup}
 use Rattle.std.specs.Ordering.{is_eq, is_le, is_lt}
 use Rattle.std.specs.declared.cmp.Ordering.{Ordering}
@@ -38,7 +38,7 @@ none_found : (p : Place) (es : List (Place × ℕ)) → all_pass (λ q. is_lt (p
 none_found p [] h = refl
 none_found p (e ∷ es) h = let less : is_lt (place_cmp p e.0) ≡ true = grind (arith, h) in let is = less_is (place_cmp p e.0) less in grind (arith, is, h, none_found p es)
 
-found_apart : (test : Place → Bool) (es : List (Place × ℕ)) (n k : ℕ) → lookup test es ≡ Some n → AllByRecursion (λ m. ¬ (m ≡ k)) (values_of es) → ¬ (n ≡ k)
+pub found_apart : (test : Place → Bool) (es : List (Place × ℕ)) (n k : ℕ) → lookup test es ≡ Some n → AllByRecursion (λ m. ¬ (m ≡ k)) (values_of es) → ¬ (n ≡ k)
 found_apart test [] n k f d = λ e. absurd (cc f)
 found_apart test (e ∷ es) n k f d = by (test e.0) refl (λ g. found_apart test es n k g d.1)
   where

@@ -1,8 +1,8 @@
 -- What an edit of the sets is to all rows.
-use Rattle.std.proofs.Common.{◌≡◌, ◌+◌, ◌-◌, ◌<◌, ◌≤◌, ℕ, zero, suc, Bool, true, false, not, List, [], ◌∷◌, ◌++◌, Option, Some, None, drop, get_or, length, map, min, slice_get, take, refl, sym, arith, ap, ap₂, subst, ◌∙◌}
+use Rattle.std.proofs.Common.{◌≡◌, ◌+◌, ◌-◌, ◌<◌, ◌≤◌, ℕ, Bool, true, false, not, List, [], ◌∷◌, ◌++◌, Some, drop, get_or, length, map, min, slice_get, take, refl, sym, arith, ap, ap₂, ◌∙◌}
 use Rattle.std.specs.List.{insert, remove, position_or_len}
 use Rattle.std.specs.Option.{is_some}
-use Rattle.std.specs.Ordering.{is_le, is_lt}
+use Rattle.std.specs.Ordering.{is_lt}
 use Rattle.std.specs.declared.cmp.Ordering.TheVariants.{Equal}
 use Rattle.sk_cmd.specs.declared.argument.Side.{Side}
 use Rattle.sk_undo.specs.Partitioned.{all_pass}
@@ -11,7 +11,7 @@ use Rattle.sk_places.specs.declared.row_lists.RowLists.{RowLists}
 use Rattle.sk_places.specs.declared.row.Place.{Place}
 use Rattle.sk_places.specs.declared.row.Row.{Row}
 use Rattle.sk_places.specs.Entries.{Entry, as_row, as_rows}
-use Rattle.sk_places.specs.RowLists.{AreLists, AreSets, Item, all_rows, is_list, is_of_set, kept_rows, listed, rows_in, rows_in_lists, start_of}
+use Rattle.sk_places.specs.RowLists.{AreLists, Item, all_rows, is_list, is_of_set, kept_rows, listed, rows_in, rows_in_lists, start_of}
 use Rattle.sk_places.specs.Order.{is_ordered}
 use Rattle.sk_places.specs.PlaceOrder.{same_place}
 use Rattle.sk_places.specs.Rows.{is_at, pair_of, place_cmp, put_row, rows_at, stands_before}
@@ -27,12 +27,13 @@ ordered_behind [] ys h = h
 ordered_behind (x ∷ xs) ys h = ordered_behind xs ys (grind (arith, h))
 
 -- an edit of the sets alone
-pub sets_edited : (l m : RowLists) (es : List Entry) (rows : List Row) → m.names.list ≡ l.names.list → m.deques.lists ≡ l.deques.lists → m.sets.list ≡ edited es l.sets.list → all_pass is_of_set (as_rows es) ≡ true → all_rows l.names.list.current l.deques.lists.current es ≡ rows → AreLists l
+pub sets_edited : (l m : RowLists) (es : List Entry) (rows : List Row) → m.names.list ≡ l.names.list → m.deques.lists ≡ l.deques.lists → m.spare.numbers.items ≡ l.spare.numbers.items → m.sets.list ≡ edited es l.sets.list → all_pass is_of_set (as_rows es) ≡ true → all_rows l.names.list.current l.deques.lists.current es ≡ rows → AreLists l
     → AreLists m × (rows_in m ≡ edited rows (rows_in l))
-sets_edited l m es rows names lists is sets all a = (
+sets_edited l m es rows names lists spare is sets all a = (
   record {
     named = rw (names, lists) a.named;
     sets = rw is (record { current = sets; saved = a.sets.saved });
+    spare = rw (names, lists, spare) a.spare;
     one_step = ap (λ (s : Versions (List (List Item))). is_some s.saved) lists ∙ a.one_step ∙ ap (λ (s : Versions (List Entry)). is_some s.saved) (sym is);
   },
   ap₂ (λ ns s. kept_rows ns.current s m.sets.list) names lists ∙ ap (kept_rows l.names.list.current l.deques.lists) is ∙ ap (λ r. edited r (rows_in l)) all,
@@ -71,22 +72,22 @@ module _ (l : RowLists) (place : Place) (a : AreLists l) (set : is_list place �
       ap (λ rows. slice_get rows at) same_rows ∙ here ∙ ap (λ p. Some (record { place = p; score = e.0.score; text = e.1 })) (sym (same_place place e.0.place equal))
 
   -- a row that comes
-  pub set_put_is : (m : RowLists) (end : Side) (at : ℕ) (e : Entry) → m.names.list ≡ l.names.list → m.deques.lists ≡ l.deques.lists → e.0.place ≡ place → at ≡ position_or_len (λ row. not (stands_before end (as_row e) row)) (as_rows l.sets.list.current) → m.sets.list ≡ edited (insert l.sets.list.current at e) l.sets.list
+  pub set_put_is : (m : RowLists) (end : Side) (at : ℕ) (e : Entry) → m.names.list ≡ l.names.list → m.deques.lists ≡ l.deques.lists → m.spare.numbers.items ≡ l.spare.numbers.items → e.0.place ≡ place → at ≡ position_or_len (λ row. not (stands_before end (as_row e) row)) (as_rows l.sets.list.current) → m.sets.list ≡ edited (insert l.sets.list.current at e) l.sets.list
       → AreLists m × (rows_in m ≡ edited (put_row end (as_row e) (rows_in l).current) (rows_in l))
-  set_put_is m end at e names lists row_key here is =
+  set_put_is m end at e names lists spare row_key here is =
       let of_set : is_of_set (as_row e) ≡ true = ap (λ p. not (is_list p)) row_key ∙ ap not set in
       let entries = map_insert as_row l.sets.list.current at e in
       let all : all_pass is_of_set (as_rows (insert l.sets.list.current at e)) ≡ true = ap (all_pass is_of_set) entries ∙ all_insert is_of_set (as_rows l.sets.list.current) at (as_row e) a.sets.current of_set in
       let put : as_rows (insert l.sets.list.current at e) ≡ put_row end (as_row e) (as_rows l.sets.list.current) = entries ∙ ap (λ n. insert (as_rows l.sets.list.current) n (as_row e)) here ∙ sym (inserted_after (stands_before end (as_row e)) (as_row e) (as_rows l.sets.list.current)) in
-      sets_edited l m (insert l.sets.list.current at e) (put_row end (as_row e) (rows_in l).current) names lists is all
+      sets_edited l m (insert l.sets.list.current at e) (put_row end (as_row e) (rows_in l).current) names lists spare is all
       (ap (λ r. rows_in_lists l.names.list.current l.deques.lists.current ++ r) put ∙ sym (set_put l.names.list.current l.deques.lists.current a.named.kinds place set end (as_row e) l.sets.list.current row_key)) a
 
   -- a row that goes
-  pub set_removed_is : (m : RowLists) (index at : ℕ) → m.names.list ≡ l.names.list → m.deques.lists ≡ l.deques.lists → index ≡ start_of place (as_rows l.sets.list.current) + at → m.sets.list ≡ edited (remove l.sets.list.current index) l.sets.list
+  pub set_removed_is : (m : RowLists) (index at : ℕ) → m.names.list ≡ l.names.list → m.deques.lists ≡ l.deques.lists → m.spare.numbers.items ≡ l.spare.numbers.items → index ≡ start_of place (as_rows l.sets.list.current) + at → m.sets.list ≡ edited (remove l.sets.list.current index) l.sets.list
       → AreLists m × (rows_in m ≡ edited (remove (rows_in l).current (start_of place (rows_in l).current + at)) (rows_in l))
-  set_removed_is m index at names lists f is =
+  set_removed_is m index at names lists spare f is =
       let entries = map_remove as_row l.sets.list.current index in
-      sets_edited l m (remove l.sets.list.current index) (remove (rows_in l).current (start_of place (rows_in l).current + at)) names lists is
+      sets_edited l m (remove l.sets.list.current index) (remove (rows_in l).current (start_of place (rows_in l).current + at)) names lists spare is
       (ap (all_pass is_of_set) entries ∙ all_remove is_of_set (as_rows l.sets.list.current) index a.sets.current)
       (ap (λ r. rows_in_lists l.names.list.current l.deques.lists.current ++ r) (entries ∙ ap (remove (as_rows l.sets.list.current)) f) ∙ sym (set_removed l.names.list.current l.deques.lists.current a.named.kinds place set at l.sets.list.current)) a
 

@@ -17,10 +17,11 @@ use Rattle.sk_places.specs.declared.row.Place.{Place}
 use Rattle.sk_places.specs.declared.row.Row.{Row}
 use Rattle.sk_places.specs.declared.row.RowKey.{RowKey}
 use Rattle.sk_places.specs.Entries.{as_row, put_again, shifted}
-use Rattle.sk_places.specs.RowLists.{AreLists, Item, all_rows, is_list, listed, place_of, rows_in, start_of}
+use Rattle.sk_places.specs.RowLists.{AreLists, IsNameless, Item, all_rows, is_list, listed, place_of, rows_in, start_of}
 use Rattle.sk_places.specs.Order.{is_ordered}
 use Rattle.sk_places.specs.Rows.{place_cmp, put_row, rows_at}
 use Rattle.sk_places.proofs.Holding.{get_is, len_is, list_there, lists_edited, place_within}
+use Rattle.sk_places.proofs.SpareDeques.{nameless_stays}
 use Rattle.sk_places.proofs.Listed.{list_put, list_removed}
 use Rattle.sk_places.proofs.Segments.{length_at, segment, there}
 
@@ -81,10 +82,14 @@ length_moved : (o : Option Item) (m j : ℕ) (tag : ℤ) (ls : List (List Item))
 length_moved None m j tag ls = refl
 length_moved (Some x) m j tag ls = length_changed m (λ l. insert l j (tag, x.1)) ls
 
+moved_stays : (o : Option Item) (test : Place → Bool) (es : List (Place × ℕ)) (n m j : ℕ) (tag : ℤ) (ls : List (List Item)) → lookup test es ≡ Some n → IsNameless m es → list_at m (with_moved o n j tag ls) ≡ list_at m ls
+moved_stays None test es n m j tag ls found none = refl
+moved_stays (Some x) test es n m j tag ls found none = nameless_stays test es n m (λ l. insert l j (tag, x.1)) ls found none
+
 pub shifted_is : (l m : RowLists) (from : Place) (row_key : RowKey) (end : Side) (n k at j : ℕ) → AreLists l → is_ordered (rows_in l).current ≡ true → is_list from ≡ true → is_list row_key.place ≡ true → lookup (is_at (place_cmp from)) l.names.list.current ≡ Some n → lookup (is_at (place_cmp row_key.place)) l.names.list.current ≡ Some k → at < length (rows_at from (rows_in l).current) → j ≡ place_of end (list_at k (without_item n at l.deques.lists.current))
-    → m.names.list ≡ l.names.list → m.sets.list ≡ l.sets.list → m.deques.lists ≡ edited (moved n at k j row_key.score l.deques.lists.current) l.deques.lists
+    → m.names.list ≡ l.names.list → m.sets.list ≡ l.sets.list → m.spare.numbers.items ≡ l.spare.numbers.items → m.deques.lists ≡ edited (moved n at k j row_key.score l.deques.lists.current) l.deques.lists
     → AreLists m × (rows_in m ≡ edited (shifted end (start_of from (rows_in l).current + at) row_key (rows_in l).current) (rows_in l))
-shifted_is l m from row_key end n k at j a ordered list_from list_to found onto within place names sets is =
+shifted_is l m from row_key end n k at j a ordered list_from list_to found onto within place names sets spare is =
     let ls : List (List Item) = l.deques.lists.current in
     let out : n < length l.deques.lists.current = list_there l from n a found in
     let less : at < length (list_at n l.deques.lists.current) = subst (λ c. at < c) (len_is l from n a list_from found) within in
@@ -97,6 +102,7 @@ shifted_is l m from row_key end n k at j a ordered list_from list_to found onto 
     ap₂ (λ o i. all_rows l.names.list.current (with_moved o k i row_key.score rest) l.sets.list.current) item.1 place
     ∙ list_put l.names.list.current rest l.sets.list.current a.named.sorted a.named.apart a.sets.current row_key.place k list_to onto there_too end (row_key.score, item.0.1)
     ∙ ap (put_row end (as_row (row_key, item.0.1))) (list_removed l.names.list.current l.deques.lists.current l.sets.list.current a.named.sorted a.named.apart a.sets.current from n list_from found out at less) in
-    lists_edited l m (moved n at k j row_key.score l.deques.lists.current) (shifted end (start_of from (rows_in l).current + at) row_key (rows_in l).current) names sets is
+    lists_edited l m (moved n at k j row_key.score l.deques.lists.current) (shifted end (start_of from (rows_in l).current + at) row_key (rows_in l).current) names sets spare is
     (length_moved (slice_get (list_at n l.deques.lists.current) at) k j row_key.score rest ∙ long)
+    (λ q none. moved_stays (slice_get (list_at n l.deques.lists.current) at) (is_at (place_cmp row_key.place)) l.names.list.current k q j row_key.score rest onto none ∙ nameless_stays (is_at (place_cmp from)) l.names.list.current n q (λ its. remove its at) l.deques.lists.current found none)
     (put ∙ shifted_to end row_key from item.0 (rows_in l).current at ordered within (get_is l from n a list_from found at item.0 item.1)) a

@@ -1,6 +1,6 @@
 -- The rows as the code keeps them, and the one list that they are. A queue and a private list is a deque under its place, which stands once; the sets
 -- of jobs stand in one list by score and text.
-use Rattle.std.specs.Prelude.{◌≡◌, ◌+◌, ◌<◌, ◌≤◌, ℕ, suc, ℤ, Bool, true, false, not, List, [], ◌∷◌, ◌++◌, Option, Some, None, IfSome, length, map, option_map, slice_index_or}
+use Rattle.std.specs.Prelude.{◌≡◌, ◌+◌, ◌<◌, ◌≤◌, ℕ, suc, ℤ, Bool, true, false, not, List, [], ◌∷◌, ◌++◌, Some, None, IfSome, length, map, slice_index_or}
 use Rattle.std.specs.BTreeMap.{is_at}
 use Rattle.std.specs.List.{AllByRecursion, position_or_len}
 use Rattle.std.specs.Map.{keys_of, values_of, lookup}
@@ -18,7 +18,7 @@ use Rattle.sk_places.specs.declared.row.Place.{Place}
 use Rattle.sk_places.specs.declared.row.Place.TheVariants.{Queue, Private, Set}
 use Rattle.sk_places.specs.declared.row.Row.{Row}
 use Rattle.sk_places.specs.Entries.{Entry, as_rows}
-use Rattle.sk_places.specs.Rows.{place_cmp, rows_at}
+use Rattle.sk_places.specs.Rows.{place_cmp}
 
 -- what a deque keeps of a row: its score and its text
 abbrev pub Item : Type 0
@@ -71,6 +71,24 @@ pub record AreNamed (names : Versions (List (Place × ℕ))) (lists : Versions (
   pub below : AllByRecursion (λ n. n < length lists.current) (values_of names.current)
   pub as_many : IfSome lists.saved (λ were. length were ≡ length lists.current)
 
+-- The deque has no items, and had none at the begin of an open step.
+pub record IsIdle (number : ℕ) (lists : Versions (List (List Item))) : Type 0 where
+  pub below : number < length lists.current
+  pub empty : list_at number lists.current ≡ []
+  pub was_empty : IfSome lists.saved (λ were. list_at number were ≡ [])
+
+-- no place has the deque
+abbrev pub IsNameless : ℕ → List (Place × ℕ) → Type 0
+IsNameless number names = AllByRecursion (λ n. ¬ (n ≡ number)) (values_of names)
+
+pub record IsSpare (names : List (Place × ℕ)) (lists : Versions (List (List Item))) (number : ℕ) : Type 0 where
+  pub nameless : IsNameless number names
+  pub idle : IsIdle number lists
+
+pub record AreSpare (numbers : List ℕ) (names : List (Place × ℕ)) (lists : Versions (List (List Item))) : Type 0 where
+  pub apart : AreApart numbers
+  pub spare : AllByRecursion (IsSpare names lists) numbers
+
 pub record AreSets (sets : Versions (List Entry)) : Type 0 where
   pub current : all_pass is_of_set (as_rows sets.current) ≡ true
   pub saved : IfSome sets.saved (λ es. all_pass is_of_set (as_rows es) ≡ true)
@@ -78,7 +96,13 @@ pub record AreSets (sets : Versions (List Entry)) : Type 0 where
 pub record AreLists (l : RowLists) : Type 0 where
   pub named : AreNamed l.names.list l.deques.lists
   pub sets : AreSets l.sets.list
+  pub spare : AreSpare l.spare.numbers.items l.names.list.current l.deques.lists
   pub one_step : is_some l.deques.lists.saved ≡ is_some l.sets.list.saved
+
+-- a spare deque that isn't kept as one
+pub record IsUnused (number : ℕ) (l : RowLists) : Type 0 where
+  pub spare : IsSpare l.names.list.current l.deques.lists number
+  pub alone : AllByRecursion (λ n. ¬ (n ≡ number)) l.spare.numbers.items
 
 -- the place's deque has memory for so many further items
 pub record HasSpace (count : ℕ) (place : Place) (es : List (Place × ℕ)) (ls : List (List Item)) (spaces : List ℕ) : Type 0 where

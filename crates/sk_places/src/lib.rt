@@ -17,6 +17,7 @@ mod row_filter;
 mod row_lists;
 mod rows;
 mod search;
+mod spare;
 mod text_index;
 mod text_key;
 mod totals;

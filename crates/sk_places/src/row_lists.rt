@@ -27,6 +27,7 @@ use crate::copies::{Pairs, Texts};
 use crate::row::{Place, RowKey};
 use crate::row_filter::{PickedItem, RowFilter, Selection};
 use crate::search::{AboveOf, Behind, Beyond, FromPair, Named, Passed, Reached, ReachedBy};
+use crate::spare::Spare;
 use crate::{Ending, LiveJobs, Memory};
 use sk_base::{Bound, Score};
 use sk_cmd::{Scored, Side};
@@ -36,16 +37,17 @@ use sk_resp::Word;
 use sk_undo::{UndoList, UndoMap};
 use std::alloc::Global;
 
-/// All rows: each deque by its number under its place, and the sets.
+/// All rows: each deque by its number under its place, and the sets. A deque that no place has is spare.
 #[derive(Drop)]
 pub struct RowLists {
     pub names: UndoMap<Place, usize>,
     pub deques: UndoDeques<Score, Payload>,
     pub sets: UndoList<RowKey, Payload>,
+    pub spare: Spare,
 }
 
-// The number of a place's deque.
-fn number_of(names: &UndoMap<Place, usize>, place: &Place) -> Option<usize>
+/// The number of a place's deque.
+pub fn number_of(names: &UndoMap<Place, usize>, place: &Place) -> Option<usize>
     ensures { result ≡ lookup (is_key (place_cmp place.now)) names.now.list.current }
 {
     names.get(place).copied()
@@ -81,6 +83,7 @@ impl RowLists {
             names: UndoMap::new(alloc),
             deques: UndoDeques::new(alloc),
             sets: UndoList::new(alloc),
+            spare: Spare::new(alloc),
         }
     }
 
@@ -112,7 +115,7 @@ impl RowLists {
         }
     }
 
-    // Makes the deque of a place that has none, and answers its number.
+    // Gives a place that has none a deque, and answers its number.
     fn open(&mut self, place: Place) -> Result<usize, Memory>
         requires lists { AreLists self.old }
         requires list { is_list place ≡ true }
@@ -123,8 +126,9 @@ impl RowLists {
         ensures found { IfOk result (λ list. lookup (is_key (place_cmp place)) self.new.names.list.current ≡ Some list) }
     {
         self.names.reserve(1)?;
-        let list = self.deques.add()?;
+        let list = self.unused()?;
         self.names.put(place, list);
+        self.spare.look_further();
         let _count = self.names.len(); // for what it says of their order
         Ok(list)
     }
@@ -507,7 +511,7 @@ impl RowLists {
         self.sets.undo();
     }
 
-    /// Closes the step, and what stands now stays. Takes no memory.
+    /// Closes the step, and what stands now stays. Wants no memory. Some places without a row lose their deques.
     pub fn commit(&mut self)
         requires lists { AreLists self.old }
         requires open { IsSome (rows_in self.old).saved }
@@ -516,6 +520,7 @@ impl RowLists {
     {
         self.deques.commit();
         self.sets.commit();
+        self.sweep();
     }
 }
 

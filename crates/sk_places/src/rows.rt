@@ -451,7 +451,7 @@ impl Rows {
         self.text_index.undo();
     }
 
-    /// Closes the step, and what stands now stays. Takes no memory.
+    /// Closes the step, and what stands now stays. Wants no memory, and may give some back.
     pub fn commit(&mut self)
         requires { IsSome self.old.saved }
         ensures { self.new ≡ committed self.old }

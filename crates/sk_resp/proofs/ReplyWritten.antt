@@ -136,6 +136,7 @@ name_line name.Revive = fixed _ refl refl
 name_line name.Kill = fixed _ refl refl
 name_line name.Where = fixed _ refl refl
 name_line name.Status = fixed _ refl refl
+name_line name.Give = fixed _ refl refl
 name_line name.As = fixed _ refl refl
 name_line name.Now = fixed _ refl refl
 name_line name.Cut = fixed _ refl refl

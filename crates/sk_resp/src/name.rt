@@ -119,6 +119,8 @@ pub enum Name {
     Where,
     /// `SK.STATUS`
     Status,
+    /// `SK.GIVE key text`
+    Give,
     /// `SK.AS seat`, a word of the pipe's own
     As,
     /// `SK.NOW moment`, a word of the pipe's own
@@ -190,6 +192,7 @@ impl Name {
             Name::Kill => b"sk.kill",
             Name::Where => b"sk.where",
             Name::Status => b"sk.status",
+            Name::Give => b"sk.give",
             Name::As => b"sk.as",
             Name::Now => b"sk.now",
             Name::Cut => b"sk.cut",

@@ -23,6 +23,7 @@ action_of (plain.KindOf key) = action.ReadOp key look.KindOf
 action_of (plain.Incrby key n) = action.WriteOp key (edit.Incrby n)
 action_of (plain.Pexpire key millis) = action.Expire key millis
 action_of (plain.Pttl key) = action.ReadOp key look.Pttl
+action_of (plain.Give key text) = action.Give key text
 action_of (plain.Lpush key texts) = action.WriteOp key (edit.Push Left texts)
 action_of (plain.Rpush key texts) = action.WriteOp key (edit.Push Right texts)
 action_of (plain.Lrange key first last) = action.ReadOp key (look.Lrange first last)

@@ -1,5 +1,5 @@
 -- What each action answers, and what it does to the plain keys.
-use Rattle.std.specs.Prelude.{ℕ, ◌==◌, ◌+◌, ◌-◌, ◌*◌, ℤ, pos, negsuc, List, [], Option, Some, None, Bool, cond, ◌&&◌, nat_lt, nat_le, length, Result, Ok, Err}
+use Rattle.std.specs.Prelude.{ℕ, ◌==◌, ◌+◌, ◌-◌, ◌*◌, ℤ, pos, negsuc, List, [], Option, Some, None, Bool, false, cond, ◌&&◌, nat_lt, nat_le, length, Result, Ok, Err}
 use Rattle.std.specs.Option.{is_some}
 use Rattle.std.specs.Str.{bytes_eq}
 use Rattle.sk_base.specs.declared.limits.TheConstants.{LAST_CALENDAR_MOMENT}
@@ -21,7 +21,7 @@ use Rattle.sk_value.specs.declared.action.Action.{Action}
 use Rattle.sk_value.specs.declared.action.Action.TheVariants as action
 use Rattle.sk_value.specs.Answer.{Answer, AndThen, counted}
 use Rattle.sk_value.specs.Lists.{push_one, take_one}
-use Rattle.sk_value.specs.Values.{is_empty, look_at, edit_in, blank}
+use Rattle.sk_value.specs.Values.{is_empty, is_string, look_at, edit_in, blank}
 use Rattle.sk_value.specs.Keys.{Keys, at, put, without, without_all, how_many}
 
 -- ## One key
@@ -112,6 +112,17 @@ expires_at now (pos n) before = cond (nat_lt 0 n) (within (after now n)) (expire
   within None = refuses fault.BadExpire
   within (Some deadline) = expire_at (Some deadline) before
 
+-- ## Deleting by what is held
+
+-- what is held is exactly this string
+abbrev pub holds_string : Bytes → Option Entry → Bool
+holds_string text None = false
+holds_string text (Some entry) = is_string text entry.value
+
+-- SK.GIVE: a key that holds exactly this string goes. Any other stays, whatever its kind.
+unfoldable pub give_at : Bytes → Option Entry → Turn
+give_at text before = cond (holds_string text before) (goes (counted 1)) (says (counted 0))
+
 -- ## All keys
 
 -- what an action answers, and the keys afterwards
@@ -176,6 +187,7 @@ applied now (action.ReadOp name look) keys = answers (look_at now look (at name 
 applied now (action.WriteOp name edit) keys = turns name (edit_at edit (at name keys)) keys
 applied now (action.Set name text options) keys = turns name (set_at now text options (at name keys)) keys
 applied now (action.Expire name millis) keys = turns name (expires_at now millis (at name keys)) keys
+applied now (action.Give name text) keys = turns name (give_at text (at name keys)) keys
 applied now (action.Exists names) keys = answers (Ok (counted (how_many (λ name. at name keys) names))) keys
 applied now (action.Delete names) keys = answers (Ok (counted (length keys - length (without_all names keys)))) (without_all names keys)
 applied now (action.Move source destination from to) keys = move_keys source destination from to keys

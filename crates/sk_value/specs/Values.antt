@@ -1,5 +1,7 @@
 -- Values of any kind. A command for another kind is refused.
 use Rattle.std.specs.Prelude.{ℕ, ◌==◌, ◌-◌, ◌^◌, min, negsuc, [], codes, length, Bool, false, Option, Some, None, Ok, Err}
+use Rattle.std.specs.Str.{bytes_eq}
+use Rattle.sk_resp.specs.Spelling.{Bytes}
 use Rattle.sk_resp.specs.declared.reply.Reply.{Reply}
 use Rattle.sk_resp.specs.declared.reply.Reply.TheVariants as reply
 use Rattle.sk_resp.specs.declared.say.Say.TheVariants as say
@@ -33,6 +35,11 @@ is_empty (value.List list) = length list == 0
 is_empty (value.Set members) = length members == 0
 is_empty (value.Hash pairs) = length pairs == 0
 is_empty (value.Sorted pairs) = length pairs == 0
+
+-- the value is a string, and exactly this one
+abbrev pub is_string : Bytes → Value → Bool
+is_string text (value.String own) = bytes_eq own text
+is_string text other = false
 
 -- ## Reading
 

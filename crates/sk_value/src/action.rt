@@ -23,6 +23,8 @@ pub enum Action {
     Set(Word, Word, SetOptions),
     /// `PEXPIRE key milliseconds`
     Expire(Word, i64),
+    /// `SK.GIVE key text`
+    Give(Word, Word),
     /// `EXISTS key ..`
     Exists(Words),
     /// `DEL key ..`
@@ -52,6 +54,7 @@ pub fn action_of(command: PlainCommand) -> Action
         PlainCommand::Incrby(key, n) => Action::WriteOp(key, WriteOp::Incrby(n)),
         PlainCommand::Pexpire(key, millis) => Action::Expire(key, millis),
         PlainCommand::Pttl(key) => Action::ReadOp(key, ReadOp::Pttl),
+        PlainCommand::Give(key, text) => Action::Give(key, text),
         PlainCommand::Lpush(key, texts) => Action::WriteOp(key, WriteOp::Push(Side::Left, texts)),
         PlainCommand::Rpush(key, texts) => Action::WriteOp(key, WriteOp::Push(Side::Right, texts)),
         PlainCommand::Lrange(key, first, last) => Action::ReadOp(key, ReadOp::Lrange(first, last)),

@@ -1,7 +1,7 @@
 // What a key holds: a value of one of five kinds.
 ghost use Rattle.std.specs.Prelude.{◌≡◌, OnErr};
 ghost use Rattle.sk_value.specs.Answer.{AnswersWith, UpdatesTo};
-ghost use Rattle.sk_value.specs.Values.{edit_in, is_empty, kind_of, look_in};
+ghost use Rattle.sk_value.specs.Values.{edit_in, is_empty, is_string, kind_of, look_in};
 
 use crate::strings::{edit_string, look_string};
 use crate::{Fields, Items, KeysFault, Members, ReadOp, Sorted, WriteOp};
@@ -46,6 +46,16 @@ impl Value {
             Value::Set(members) => members.len() == 0,
             Value::Hash(fields) => fields.len() == 0,
             Value::Sorted(pairs) => pairs.len() == 0,
+        }
+    }
+
+    /// A string, and exactly this one.
+    pub fn is_string(&self, text: &Word) -> bool
+        ensures { result ≡ is_string text.now self.now }
+    {
+        match self {
+            Value::String(own) => own == text,
+            _ => false,
         }
     }
 

@@ -21,8 +21,8 @@ use Rattle.sk_model.specs.Change.{Add, Carry, Take, Trim, Merge, PutBack, Free, 
 use Rattle.sk_model.specs.Notify.{push_callback, fire_all, push_to, notify_in, notify_of}
 use Rattle.sk_model.specs.Jobs.{surplus, buried_by}
 use Rattle.sk_model.specs.Event.{Event}
-use Rattle.sk_model.specs.Once.{called_by, is_dead_set}
-use Rattle.sk_model.specs.Causes.{IsRemoval, HasCause, HaveCauses, is_burial}
+use Rattle.sk_model.specs.Once.{called_by, is_burial, is_dead_set}
+use Rattle.sk_model.specs.Causes.{IsRemoval, HasCause, HaveCauses}
 use Rattle.sk_model.proofs.Changes.Marked.{Sane}
 use Rattle.sk_model.proofs.Changes.Fired.{push_callback_batches}
 use Rattle.sk_model.proofs.Changes.Callbacks.{AllCalled, all_called_after}

@@ -11,10 +11,10 @@ use Rattle.sk_batch.specs.Batched.{Batched}
 use Rattle.sk_batch.specs.declared.firing.Kind.TheVariants.{Death}
 use Rattle.sk_seats.specs.declared.phase.Phase.{Phase}
 use Rattle.sk_model.specs.World.{World, phase_of}
-use Rattle.sk_model.specs.Change.{Add, Carry, Take, Trim, PutBack, Free, Change, Moves, Passes, Names, Unnames, Keeps, Turns, Beats, Counts, Recovers, Forgets, Locks, Unlocks, Elects, TakesSlot, changed, perform}
+use Rattle.sk_model.specs.Change.{Add, Carry, Take, Trim, PutBack, Free, Change, Moves, Passes, Names, Unnames, Keeps, Turns, Beats, Counts, Recovers, Forgets, Locks, Unlocks, Elects, changed, perform}
 use Rattle.sk_places.specs.LiveJobs.{one_if}
 use Rattle.sk_model.specs.Once.{CallsFollow, times, buries, is_dead_set}
-use Rattle.sk_places.specs.declared.origin.Origin.{Origin}
+use Rattle.sk_model.specs.Order.{InOrder}
 use Rattle.sk_places.specs.declared.origin.Origin.TheVariants.{Outside}
 use Rattle.sk_model.proofs.Changes.Kept.{Ready}
 use Rattle.sk_model.proofs.Changes.Marked.{Sane}
@@ -23,6 +23,7 @@ use Rattle.sk_model.proofs.Changes.Fired.{was_fired, all_quiet, quiet_batches, q
 use Rattle.sk_model.proofs.Changes.Batches.{Leads, StaysWhole, leads_own, leads_same, leads_then}
 use Rattle.sk_model.proofs.Changes.Callbacks.{calls-append, calls_quiet}
 use Rattle.sk_model.proofs.Changes.Covered.{Covers, covers_append, covers_quiet}
+use Rattle.sk_model.proofs.Changes.Order.{is_late, late_append, no_fires, none_late, order_append, order_behind, order_none, quiet_none}
 use Rattle.sk_model.proofs.Changes.Jobs.{KeepsJobs, keeps_nothing, keeps_append, keeps_others, keeps_add, keeps_put, keeps_carry, keeps_take, keeps_trim, keeps_free, keeps_turn, keeps_passes, keeps_names, keeps_unnames, keeps_keeps, keeps_beats, keeps_counts, keeps_recovers, keeps_forgets, keeps_locks, keeps_unlocks, keeps_leads}
 
 -- a member of the batch was buried, and death was fired
@@ -40,12 +41,19 @@ pub record Lawful (w : World) (changes : List Change) : Type 0 where
   pub leads : Leads w.batches (perform w changes).batches (λ kind b. times kind b changes)
   pub deaths : Deaths w changes
   pub calls : Sane w.batches → CallsFollow w changes
+  pub order : Sane w.batches → InOrder w changes
   pub covers : Covers w changes
 
 -- the same, where no batch gets jobs
+pub record Told (w : World) (changes : List Change) : Type 0 where
+  pub lawful : Lawful w changes
+  pub stays : StaysWhole w.batches (perform w changes).batches
+
+-- and where nothing is fired but for what was buried, so that they may come behind others
 pub record Good (w : World) (changes : List Change) : Type 0 where
   pub lawful : Lawful w changes
   pub stays : StaysWhole w.batches (perform w changes).batches
+  pub late : is_late changes ≡ true
 
 -- ## One list of changes after another
 
@@ -71,18 +79,41 @@ deaths_append w one more sane first then_ = record {
       grind (arith, both, first_, last, end);
 }
 
-pub good_append : (w : World) (one more : List Change) → Good w one → Good (perform w one) more → Good w (one ++ more)
-good_append w one more first then_ = record {
-  lawful = record {
-    keeps = keeps_append w one more first.lawful.keeps then_.lawful.keeps;
-    leads = subst (λ (v : World). Leads w.batches v.batches (λ kind b. times kind b (one ++ more))) (sym (perform-append w one more))
-        (leads_then w.batches (perform w one).batches (perform (perform w one) more).batches _ _ _ (λ kind b. times-append kind b one more) first.lawful.leads then_.lawful.leads then_.stays);
-    deaths = deaths_append w one more first.lawful.leads.sane first.lawful.deaths then_.lawful.deaths;
-    calls = λ s. calls-append w one more (first.lawful.calls s) (then_.lawful.calls (first.lawful.leads.sane s));
-    covers = covers_append w one more first.lawful.covers then_.lawful.covers;
-  };
-  stays = subst (λ (v : World). StaysWhole w.batches v.batches) (sym (perform-append w one more)) (λ b h. then_.stays b (first.stays b h));
+lawful_append : (w : World) (one more : List Change) → Lawful w one → Told (perform w one) more → (Sane w.batches → InOrder w (one ++ more)) → Lawful w (one ++ more)
+lawful_append w one more first then_ order = record {
+  keeps = keeps_append w one more first.keeps then_.lawful.keeps;
+  leads = subst (λ (v : World). Leads w.batches v.batches (λ kind b. times kind b (one ++ more))) (sym (perform-append w one more))
+      (leads_then w.batches (perform w one).batches (perform (perform w one) more).batches _ _ _ (λ kind b. times-append kind b one more) first.leads then_.lawful.leads then_.stays);
+  deaths = deaths_append w one more first.leads.sane first.deaths then_.lawful.deaths;
+  calls = λ s. calls-append w one more (first.calls s) (then_.lawful.calls (first.leads.sane s));
+  order = order;
+  covers = covers_append w one more first.covers then_.lawful.covers;
 }
+
+stays_append : (w : World) (one more : List Change) → StaysWhole w.batches (perform w one).batches → StaysWhole (perform w one).batches (perform (perform w one) more).batches → StaysWhole w.batches (perform w (one ++ more)).batches
+stays_append w one more first then_ = subst (λ (v : World). StaysWhole w.batches v.batches) (sym (perform-append w one more)) (λ b h. then_ b (first b h))
+
+abbrev pub told_of : (w : World) (changes : List Change) → Good w changes → Told w changes
+told_of w changes good = record { lawful = good.lawful; stays = good.stays }
+
+-- what is told, behind changes that fire nothing
+pub told_behind : (w : World) (one more : List Change) → no_fires one ≡ true → Good w one → Told (perform w one) more → Told w (one ++ more)
+told_behind w one more none first then_ = record {
+  lawful = lawful_append w one more first.lawful then_ (λ s. order_behind w one more none (then_.lawful.order (first.lawful.leads.sane s)));
+  stays = stays_append w one more first.stays then_.stays;
+}
+
+-- and others behind what is told
+pub told_append : (w : World) (one more : List Change) → Told w one → Good (perform w one) more → Told w (one ++ more)
+told_append w one more first then_ = record {
+  lawful = lawful_append w one more first.lawful (told_of (perform w one) more then_) (λ s. order_append w one more (first.lawful.order s) (then_.lawful.order (first.lawful.leads.sane s)) then_.late);
+  stays = stays_append w one more first.stays then_.stays;
+}
+
+pub good_append : (w : World) (one more : List Change) → Good w one → Good (perform w one) more → Good w (one ++ more)
+good_append w one more first then_ =
+    let told = told_append w one more (told_of w one first) then_ in
+    record { lawful = told.lawful; stays = told.stays; late = late_append one more first.late then_.late }
 
 -- one change, and then others
 pub then_others : (w : World) (change : Change) (changes : List Change) → Good w (change ∷ []) → Good (changed w change) changes → Good w (change ∷ changes)
@@ -100,6 +131,7 @@ stays_quiet w changes quiet = subst (StaysWhole w.batches) (sym (quiet_batches w
 pub good_quiet : (w : World) (changes : List Change) → KeepsJobs w changes → all_quiet changes ≡ true → ((b : Bytes) → buries b w changes ≡ false) → Good w changes
 good_quiet w changes keeps quiet none =
     let same = quiet_batches w changes quiet in
+    let none_fired : no_fires changes ≡ true = quiet_none changes quiet in
     record {
       lawful = record {
         keeps = keeps;
@@ -109,9 +141,11 @@ good_quiet w changes keeps quiet none =
           died = λ s b. let end = ap (λ (t : Batched). has_died t b) same in let no = none b in grind (arith, end, no);
         };
         calls = λ s. calls_quiet w changes quiet;
+        order = λ s. order_none w changes none_fired;
         covers = covers_quiet w changes quiet;
       };
       stays = stays_quiet w changes quiet;
+      late = none_late changes none_fired;
     }
 
 pub good_nothing : (w : World) → Good w []
@@ -186,5 +220,6 @@ lawful_passes w now changes l = record {
   leads = leads_same w.batches (perform w (Passes now ∷ changes)).batches _ _ (λ kind b. omega arith) l.leads;
   deaths = deaths_append w (Passes now ∷ []) changes (λ s. s) (good_passes w now).lawful.deaths l.deaths;
   calls = λ s. ((changes, refl), l.calls s);
+  order = λ s. (refl, l.order s);
   covers = l.covers;
 }

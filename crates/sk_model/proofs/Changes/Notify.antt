@@ -33,6 +33,7 @@ use Rattle.sk_places.specs.Rows.{copies_of}
 use Rattle.sk_model.specs.Room.{most_pushes}
 use Rattle.sk_model.specs.Notify.{push_to, push_job, push_callback, fire_all, notify_in, notify_of, notify}
 use Rattle.sk_model.specs.Once.{CallsFollow, times, buries, is_of_batch, names_batch}
+use Rattle.sk_model.specs.Order.{InOrder}
 use Rattle.sk_model.proofs.Tools.Texts.{bytes_tell}
 use Rattle.sk_model.proofs.Tools.RowsThatGo.{count_put}
 use Rattle.sk_model.proofs.Changes.Ancestors.{line_there}
@@ -41,9 +42,10 @@ use Rattle.sk_model.proofs.Changes.Fired.{any-append, any_death, any_others, cou
 use Rattle.sk_model.proofs.Changes.Batches.{Leads, StaysWhole, leads_own, leads_same}
 use Rattle.sk_model.proofs.Changes.NotifyLaws.{fires_are, leads, stays_whole, notified_fires}
 use Rattle.sk_model.proofs.Changes.Callbacks.{AllCalled, all_called-append, calls_fired, line_own, own_called}
+use Rattle.sk_model.proofs.Changes.Order.{Lined, Ordered, fires_ordered, kinds_ordered, line_lined, lined_ordered}
 use Rattle.sk_model.proofs.Changes.Jobs.{KeepsJobs, keeps_nothing, keeps_append, keeps_others, keeps_add, keeps_fire, keeps_notifies}
 use Rattle.sk_model.proofs.Changes.Covered.{Covers, DiesOnce, count_all, covers_fired, fires_few, none_dies_once}
-use Rattle.sk_model.proofs.Changes.Lawful.{Good, buries-append, good_nothing, has_died}
+use Rattle.sk_model.proofs.Changes.Lawful.{Told, buries-append, good_nothing, has_died, told_of}
 
 -- ## A job that is no member
 
@@ -145,6 +147,31 @@ fires_called e bid jid s sane = by_member (is_member bid jid s.members) refl whe
       (all_called-append t (complete_fires t bid) (later_fires e bid jid s) (own_called Complete t (completes t) (ancestors s.batches bid) (line_own Complete s.batches bid sane.tree)) (later_called e))
   by_member false m = subst (AllCalled (marked (mark_of e) bid jid s)) (sym (fires_none e bid jid s m)) tt
 
+-- ## Order
+
+-- they stand in order
+pub notified_ordered : (e : Event) (bid jid : Bytes) (s : Batched) → Sane s → Ordered (marked (mark_of e) bid jid s) (fires_of e bid jid s)
+notified_ordered e bid jid s sane = by_member (is_member bid jid s.members) refl where
+  line : Lined s.batches (ancestors s.batches bid)
+  line = line_lined s.batches bid sane.tree
+
+  by_event : (e : Event) → Ordered (marked (mark_of e) bid jid s) (notified_fires e bid jid s)
+  by_event event.Reported =
+      let t = marked Reported bid jid s in
+      kinds_ordered t Complete Success refl (filter (completes t) (ancestors s.batches bid)) [] (lined_ordered t Complete (completes t) (ancestors s.batches bid) line) tt
+  by_event event.Returned =
+      let t = marked Returned bid jid s in
+      kinds_ordered t Complete Success refl (filter (completes t) (ancestors s.batches bid)) (filter (succeeds s t) (ancestors s.batches bid))
+      (lined_ordered t Complete (completes t) (ancestors s.batches bid) line) (lined_ordered t Success (succeeds s t) (ancestors s.batches bid) line)
+  by_event event.Died =
+      let t = marked Reported bid jid s in
+      kinds_ordered t Complete Death refl (filter (completes t) (ancestors s.batches bid)) (filter dies (ancestors s.batches bid))
+      (lined_ordered t Complete (completes t) (ancestors s.batches bid) line) (lined_ordered t Death dies (ancestors s.batches bid) line)
+
+  by_member : (m : Bool) → is_member bid jid s.members ≡ m → Ordered (marked (mark_of e) bid jid s) (fires_of e bid jid s)
+  by_member true m = subst (Ordered (marked (mark_of e) bid jid s)) (sym (fires_are e bid jid s m)) (by_event e)
+  by_member false m = subst (Ordered (marked (mark_of e) bid jid s)) (sym (fires_none e bid jid s m)) tt
+
 -- ## Firings, one after another
 
 module _ (b : Bytes) where
@@ -242,6 +269,9 @@ module _ (e : Event) (w : World) (bid jid : Bytes) where
   notified_calls : Sane w.batches → CallsFollow w (notify_in e w jid (Some bid)).changes
   notified_calls sane = ((fire_all fs, refl), calls_fired (changed w (Notifies e bid jid)) fs (fires_called e bid jid w.batches sane))
 
+  notified_order : Sane w.batches → InOrder w (notify_in e w jid (Some bid)).changes
+  notified_order sane = (refl, fires_ordered (changed w (Notifies e bid jid)) fs (notified_ordered e bid jid w.batches sane))
+
   -- what is kept of deaths
   notified_died : (b : Bytes) → has_died (perform w (notify_in e w jid (Some bid)).changes).batches b ≡ has_died w.batches b || (is_there b w.batches.batches && list_any (named Death b) fs)
   notified_died b = ap (λ (t : Batched). has_died t b) notified_batches ∙ fired_after Death b fs w.batches.batches
@@ -271,9 +301,9 @@ notify_covers e w jid (Some bid) c =
 
 -- what is told but for a burying
 module _ (e : Event) (alive : e ≡ event.Died → ⊥) where
-  notify_in_good : (w : World) (jid : Bytes) (o : Option Bytes) → Good w (notify_in e w jid o).changes
-  notify_in_good w jid None = good_nothing w
-  notify_in_good w jid (Some bid) = record {
+  notify_in_told : (w : World) (jid : Bytes) (o : Option Bytes) → Told w (notify_in e w jid o).changes
+  notify_in_told w jid None = told_of w [] (good_nothing w)
+  notify_in_told w jid (Some bid) = record {
     lawful = record {
       keeps = notified_keeps e w bid jid;
       leads = notified_leads e w bid jid;
@@ -282,17 +312,18 @@ module _ (e : Event) (alive : e ≡ event.Died → ⊥) where
         died = λ s b. let none = none_dies e bid jid w.batches b alive in let is = notified_died e w bid jid b in let no = notified_buries e w bid jid b in grind (arith, none.1, is, no);
       };
       calls = notified_calls e w bid jid;
+      order = notified_order e w bid jid;
       covers = notify_covers e w jid (Some bid);
     };
     stays = notified_stays e w bid jid;
   }
 
-  notify_of_good : (w : World) (found : Option Head) → Good w (notify_of e w found).changes
-  notify_of_good w None = good_nothing w
-  notify_of_good w (Some h) = notify_in_good w h.jid h.bid
+  notify_of_told : (w : World) (found : Option Head) → Told w (notify_of e w found).changes
+  notify_of_told w None = told_of w [] (good_nothing w)
+  notify_of_told w (Some h) = notify_in_told w h.jid h.bid
 
-  pub notify_good : (w : World) (text : Bytes) → Good w (notify e w text).changes
-  notify_good w text = notify_of_good w (head text)
+  pub notify_told : (w : World) (text : Bytes) → Told w (notify e w text).changes
+  notify_told w text = notify_of_told w (head text)
 
 -- what is told of a burying
 pub record TellsDeath (w : World) (changes : List Change) (dies : Bytes → Bool) : Type 0 where
@@ -301,12 +332,13 @@ pub record TellsDeath (w : World) (changes : List Change) (dies : Bytes → Bool
   pub stays : StaysWhole w.batches (perform w changes).batches
   pub buries_none : (b : Bytes) → buries b w changes ≡ false
   pub calls : Sane w.batches → CallsFollow w changes
+  pub order : Sane w.batches → InOrder w changes
   pub covers : Covers w changes
   pub once : Sane w.batches → (b : Bytes) → times Death b changes ≡ one_if (dies b && not (has_died w.batches b))
   pub died : Sane w.batches → (b : Bytes) → has_died (perform w changes).batches b ≡ has_died w.batches b || dies b
 
 nothing_dies : (w : World) → TellsDeath w [] (λ b. false)
-nothing_dies w = record { keeps = keeps_nothing w; leads = (good_nothing w).lawful.leads; stays = λ b h. h; buries_none = λ b. refl; calls = λ s. tt; covers = λ c. c; once = λ s b. refl; died = λ s b. grind arith }
+nothing_dies w = record { keeps = keeps_nothing w; leads = (good_nothing w).lawful.leads; stays = λ b h. h; buries_none = λ b. refl; calls = λ s. tt; order = λ s. tt; covers = λ c. c; once = λ s b. refl; died = λ s b. grind arith }
 
 in_dies : (w : World) (jid : Bytes) (o : Option Bytes) → TellsDeath w (notify_in event.Died w jid o).changes (λ b. names_batch b w.batches jid o)
 in_dies w jid None = nothing_dies w
@@ -316,6 +348,7 @@ in_dies w jid (Some bid) = record {
   stays = notified_stays event.Died w bid jid;
   buries_none = notified_buries event.Died w bid jid;
   calls = notified_calls event.Died w bid jid;
+  order = notified_order event.Died w bid jid;
   covers = notify_covers event.Died w jid (Some bid);
   once = λ s b. notified_times event.Died w bid jid Death b ∙ (member_dies bid jid w.batches b s).0;
   died = λ s b.

@@ -1,5 +1,5 @@
 -- The changes of each command are good.
-use Rattle.std.proofs.Common.{◌≡◌, ◌≤◌, ℕ, zero, suc, List, [], ◌∷◌, ◌++◌, refl, sym, subst, inl, inr, arith, Bool, true, false, cond, ◌&&◌, ◌||◌}
+use Rattle.std.proofs.Common.{◌≡◌, ◌≤◌, ℕ, zero, suc, List, [], ◌∷◌, ◌++◌, refl, sym, subst, inl, inr, arith, false, ◌&&◌, ◌||◌}
 use Rattle.std.specs.Prelude.{nat_abs, pos, Option, Some, None, Ok, Err, map}
 use Rattle.std.specs.List.{list_all}
 use Rattle.sk_resp.specs.Spelling.{Bytes}
@@ -44,7 +44,7 @@ use Rattle.sk_model.proofs.Commands.Sets.{choice, taking_good, edit_jobs_good, d
 use Rattle.sk_model.proofs.Commands.Rescue.{rescue_good}
 use Rattle.sk_model.proofs.Commands.Unique.{unique_push_good}
 use Rattle.sk_model.proofs.Commands.Periodic.{cron_good, lead_good}
-use Rattle.sk_model.proofs.Commands.Workers.{where_plain_good, beat_good, join_good, work_good, start_good, fail_good, ok_good, drop_good, bury_good, back_good}
+use Rattle.sk_model.proofs.Commands.Workers.{where_plain_good, beat_good, join_good, work_good, start_good, fail_told, ok_told, drop_good, bury_good, back_good}
 use Rattle.sk_model.proofs.Commands.Batches.{batch_push_lawful, batch_add_lawful}
 use Rattle.sk_model.specs.Batches.{batch_of, tells_stat}
 use Rattle.sk_batch.specs.Stat.{stat}
@@ -164,6 +164,7 @@ act_good w (action.ReadOp key look) = good_nothing w
 act_good w (action.WriteOp key e) = edits_good w key e (class_of key)
 act_good w (action.Set key text options) = on_plain_good w (action.Set key text options) (class_of key)
 act_good w (action.Expire key millis) = on_plain_good w (action.Expire key millis) (class_of key)
+act_good w (action.Give key text) = on_plain_good w (action.Give key text) (class_of key)
 act_good w (action.Exists keys) = good_nothing w
 act_good w (action.Delete keys) = delete_good w keys
 act_good w (action.Move source destination from to) = moves_good w source destination from to (class_of source) (class_of destination)
@@ -182,8 +183,8 @@ run_lawful : (w : World) (seat : ℕ) (phase : Phase) (c : ScriptCommand) → ph
 run_lawful w seat phase (script.Beat ident) is = (beat_good w ident).lawful
 run_lawful w seat phase (script.Join ident) is = (where_plain_good w phase _ (join_good w seat ident)).lawful
 run_lawful w seat phase (script.Start text) is = (start_good w phase text).lawful
-run_lawful w seat phase (script.Ok text) is = (ok_good w seat phase text is).lawful
-run_lawful w seat phase (script.Fail text) is = (fail_good w phase text).lawful
+run_lawful w seat phase (script.Ok text) is = (ok_told w seat phase text is).lawful
+run_lawful w seat phase (script.Fail text) is = (fail_told w phase text).lawful
 run_lawful w seat phase (script.Drop text) is = (drop_good w seat phase text is).lawful
 run_lawful w seat phase (script.Bury text) is = (bury_good w seat phase text is).lawful
 run_lawful w seat phase (script.Back text) is = (back_good w seat phase text is).lawful

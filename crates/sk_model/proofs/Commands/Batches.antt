@@ -34,6 +34,7 @@ use Rattle.sk_model.proofs.Changes.Batches.{Leads, was_completed, leads_same}
 use Rattle.sk_model.proofs.Changes.Callbacks.{AllCalled, calls-append, calls_fired, calls_quiet}
 use Rattle.sk_model.proofs.Changes.Covered.{count_all, covers_fired, few_append, fires_few, none_dies_once, quiet_calls}
 use Rattle.sk_model.proofs.Changes.Jobs.{KeepsJobs, keeps_nothing, keeps_append, keeps_others, keeps_makes, keeps_joins}
+use Rattle.sk_model.proofs.Changes.Order.{Ordered, fires_ordered, order_behind, order_none, quiet_none}
 use Rattle.sk_model.proofs.Changes.Lawful.{Lawful, good_nothing, buries-append, has_died}
 use Rattle.sk_model.proofs.Changes.Notify.{fires_bury, fires_keep, job_buries, job_keeps}
 
@@ -147,6 +148,11 @@ module _ (s : Batched) (batch : Batch) (jids : List Bytes) (new : is_there batch
       let count = count_all s v fs made_leads (λ kind b h. grind (arith, h)) (λ b sane. none_dies_once s v fs b (no_deaths b).0) c.sane c.settled in
       omega (arith, count, c.fired)
 
+-- complete comes before success
+made_ordered : (s : Batched) (batch : Batch) (jids : List Bytes) → Ordered s (made_fires batch jids)
+made_ordered s batch [] = (refl, (refl, tt))
+made_ordered s batch (jid ∷ jids) = tt
+
 -- ## A batch gets jobs
 
 joined_leads : (s : Batched) (x : Bytes) (jids : List Bytes) → Takes s x → Leads s (joined x jids s) (λ kind b. 0)
@@ -234,6 +240,11 @@ make_lawful w batch texts new takes =
         died = λ s b. let is = ap (λ (t : Batched). has_died t b) end in let same = died_is w.batches batch jids new takes b in let no = rest_buries w c texts firings b in grind (arith, is, same, no);
       };
       calls = λ s. ((push_jobs texts ++ fire_all firings, refl), rest_calls w c texts firings (made_called w.batches batch jids new takes));
+      order = λ s. (
+        refl,
+        order_behind (changed w c) (push_jobs texts) (fire_all firings) (quiet_none (push_jobs texts) (jobs_quiet texts))
+            (fires_ordered (perform (changed w c) (push_jobs texts)) firings (made_ordered (perform (changed w c) (push_jobs texts)).batches batch jids)),
+      );
       covers = covers_fired w (make batch texts).changes (changed w c).batches firings end (made_leads w.batches batch jids new takes) (omega arith) (λ kind b h. grind (arith, h))
           (λ b sane. none_dies_once w.batches (changed w c).batches firings b (no_deaths w.batches batch jids new takes b).0)
           (let few = few_append (push_jobs texts) (fire_all firings) (length firings) (quiet_calls (push_jobs texts) (jobs_quiet texts)) (fires_few firings) in omega (arith, few));
@@ -252,6 +263,7 @@ join_lawful w bid texts takes =
         died = λ s b. let is = ap (λ (t : Batched). has_died t b) end in let no = jobs_bury b (changed w c) texts in grind (arith, is, no);
       };
       calls = λ s. ((push_jobs texts, refl), calls_quiet (changed w c) (push_jobs texts) (jobs_quiet texts));
+      order = λ s. (refl, order_none (changed w c) (push_jobs texts) (quiet_none (push_jobs texts) (jobs_quiet texts)));
       covers = covers_fired w (join bid texts).changes (changed w c).batches [] end (joined_leads w.batches bid (jids_of texts) takes) refl (λ kind b h. h)
           (λ b sane. none_dies_once w.batches (changed w c).batches [] b refl) (omega (arith, quiet_calls (push_jobs texts) (jobs_quiet texts)));
     }

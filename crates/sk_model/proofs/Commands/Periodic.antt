@@ -1,6 +1,6 @@
 -- The changes of SK.LEAD and SK.CRON are good.
-use Rattle.std.proofs.Common.{◌≡◌, ◌+◌, ◌≤◌, ◌<◌, ◌∙◌, ℕ, List, [], ◌∷◌, ◌++◌, refl, sym, subst, arith, ap, Bool, true, false, not, ◌&&◌, ◌||◌, cond}
-use Rattle.std.specs.Prelude.{Option, Some, None}
+use Rattle.std.proofs.Common.{◌≡◌, ◌+◌, ◌≤◌, ℕ, List, [], ◌∷◌, ◌++◌, refl, sym, subst, arith, ap, false, not, ◌&&◌}
+use Rattle.std.specs.Prelude.{Some}
 use Rattle.sk_resp.specs.Spelling.{Bytes}
 use Rattle.sk_payload.specs.Head.{head}
 use Rattle.sk_payload.specs.Member.{is_name}
@@ -12,20 +12,20 @@ use Rattle.sk_places.specs.Totals.{pushes_in}
 use Rattle.sk_places.specs.declared.origin.Origin.TheVariants.{Inner}
 use Rattle.sk_model.specs.World.{World}
 use Rattle.sk_model.specs.Batches.{may_call}
-use Rattle.sk_model.specs.Change.{Change, Elects, TakesSlot, changed, perform}
+use Rattle.sk_model.specs.Change.{Change, TakesSlot, changed, perform}
 use Rattle.sk_model.specs.Covered.{IsCovered}
 use Rattle.sk_model.specs.Once.{buries, times}
-use Rattle.sk_model.specs.Periodic.{cron, has_loop, is_above, is_in_time, is_process, lead, push_slot}
+use Rattle.sk_model.specs.Periodic.{cron, has_loop, is_above, is_in_time, is_process, lead}
 use Rattle.sk_model.specs.Room.{is_full, most_pushes}
 use Rattle.sk_model.specs.Notify.{push_job}
 use Rattle.sk_model.proofs.Changes.Callbacks.{calls_call}
 use Rattle.sk_model.proofs.Changes.Covered.{Covers, push_few, through_inner}
 use Rattle.sk_model.proofs.Changes.Fired.{push_callback_batches, push_callback_times}
 use Rattle.sk_model.proofs.Tools.Room.{room_left}
+use Rattle.sk_model.proofs.Changes.Order.{callback_none, none_late, order_none}
 use Rattle.sk_model.proofs.Changes.Lawful.{Good, good_leads, good_nothing, has_died}
 use Rattle.sk_model.proofs.Changes.Jobs.{keeps_marks, keeps_others}
 use Rattle.sk_model.proofs.Changes.Batches.{Leads, StaysWhole, leads_own}
-use Rattle.sk_model.proofs.Changes.Marked.{Sane}
 use Rattle.sk_model.proofs.Commands.Sets.{choice}
 use Rattle.sk_model.proofs.Changes.Notify.{job_buries, job_keeps}
 
@@ -69,9 +69,11 @@ module _ (w : World) (loop : Bytes) (slot : ℕ) (text : Bytes) where
         died = λ s b. let end = ap (λ (t : Batched). has_died t b) same in let no = none_buried b in grind (arith, end, no);
       };
       calls = λ s. (([], append_nothing (push_job Inner text)), calls_call (changed w (TakesSlot loop slot text)) (Some text));
+      order = λ s. order_none w slotted (callback_none (Some text));
       covers = slot_covers room;
     };
     stays = subst (StaysWhole w.batches) (sym same) (λ b h. h);
+    late = none_late slotted (callback_none (Some text));
   }
 
 pub cron_good : (w : World) (ident loop : Bytes) (slot : ℕ) (text : Bytes) → Good w (cron w ident loop slot text).changes

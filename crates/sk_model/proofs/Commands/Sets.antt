@@ -22,7 +22,6 @@ use Rattle.sk_places.specs.declared.row.Place.{Place}
 use Rattle.sk_places.specs.declared.row.Place.TheVariants.{Queue, Private, Set}
 use Rattle.sk_places.specs.declared.row.Row.{Row}
 use Rattle.sk_places.specs.Rows.{pair_of, place_cmp, stands_before, is_at, is_same, rows_at, row_of, row_in, take_row, first_row}
-use Rattle.sk_places.specs.declared.origin.Origin.TheVariants.{Outside}
 use Rattle.sk_model.specs.World.{World}
 use Rattle.sk_model.specs.Change.{Carry, Take, Trim, Merge, Change, Moves, carried, changed, perform}
 use Rattle.sk_model.specs.Outcome.{Outcome}
@@ -38,11 +37,12 @@ use Rattle.sk_batch.specs.Batched.{Batched}
 use Rattle.sk_batch.specs.declared.event.Event.TheVariants.{Died}
 use Rattle.sk_batch.specs.declared.firing.Kind.TheVariants.{Death}
 use Rattle.sk_model.specs.Notify.{notify}
-use Rattle.sk_model.specs.Once.{times, buries, is_dead_set, is_of_batch}
+use Rattle.sk_model.specs.Once.{times, buries, is_burial, is_dead_set, is_of_batch}
 use Rattle.sk_model.proofs.Changes.Marked.{Sane}
 use Rattle.sk_model.proofs.Changes.Fired.{all_quiet, quiet-append, quiet_batches, quiet_times, times-append}
 use Rattle.sk_model.proofs.Changes.Batches.{Leads, StaysWhole, leads_then}
 use Rattle.sk_model.proofs.Changes.Callbacks.{calls-append, calls_quiet}
+use Rattle.sk_model.proofs.Changes.Order.{buried_late, no_fires, order_behind, quiet_none, some_burial}
 use Rattle.sk_model.proofs.Changes.Jobs.{KeepsJobs, keeps_append, keeps_others, keeps_carry, keeps_merge}
 use Rattle.sk_model.proofs.Changes.Covered.{covers_append, covers_quiet}
 use Rattle.sk_model.proofs.Changes.Lawful.{Good, buries-append, has_died, leads_quiet, stays_quiet, good_nothing, good_append, then_others, perform-append, good_add, good_carry, good_take, good_trim}
@@ -167,6 +167,7 @@ trims_bury b w (row ∷ rows) = trims_bury b (changed w (Moves (Trim row))) rows
 pub record Buries (w : World) (text : Bytes) (put : List Change) : Type 0 where
   pub keeps : KeepsJobs w put
   pub quiet : all_quiet put ≡ true
+  pub burial : list_any is_burial put ≡ true
   pub member : (b : Bytes) → buries b w put ≡ is_of_batch b w.batches (head text)
 
 module _ (w : World) (text : Bytes) (put : List Change) (one : Buries w text put) where
@@ -184,6 +185,9 @@ module _ (w : World) (text : Bytes) (put : List Change) (one : Buries w text put
 
   done_quiet : all_quiet done ≡ true
   done_quiet = quiet-append put _ one.quiet (trims_quiet gone)
+
+  done_none : no_fires done ≡ true
+  done_none = quiet_none done done_quiet
 
   done_batches : (perform w done).batches ≡ w.batches
   done_batches = quiet_batches w done done_quiet
@@ -240,15 +244,17 @@ module _ (w : World) (text : Bytes) (put : List Change) (one : Buries w text put
             grind (arith, is, all, died, end);
       };
       calls = λ s. calls-append w done told (calls_quiet w done done_quiet) (notified_death.calls (sane_done s));
+      order = λ s. order_behind w done told done_none (notified_death.order (sane_done s));
       covers = covers_append w done told (covers_quiet w done done_quiet) notified_death.covers;
     };
     stays = subst (λ (v : World). StaysWhole w.batches v.batches) (sym end_is) (λ b h. notified_death.stays b (stays_quiet w done done_quiet b h));
+    late = buried_late done told done_none (some_burial put (map (λ row. Moves (Trim row)) gone) one.burial);
   }
 
 put_dead_buries : (w : World) (row : Row) (found : Option Row) → list_any (is_same row) w.rows ≡ true → is_at (Set Dead) row ≡ false → row_of row.text (rows_at (Set Dead) w.rows) ≡ found
     → Buries w row.text (merge found ++ Moves (Carry row Left (Set Dead) (moment_score w) Left) ∷ [])
-put_dead_buries w row None there alive e = record { keeps = put_as_keeps w row None there alive e; quiet = refl; member = λ b. grind arith }
-put_dead_buries w row (Some other) there alive e = record { keeps = put_as_keeps w row (Some other) there alive e; quiet = refl; member = λ b. grind arith }
+put_dead_buries w row None there alive e = record { keeps = put_as_keeps w row None there alive e; quiet = refl; burial = refl; member = λ b. grind arith }
+put_dead_buries w row (Some other) there alive e = record { keeps = put_as_keeps w row (Some other) there alive e; quiet = refl; burial = refl; member = λ b. grind arith }
 
 pub bury_good : (w : World) (row : Row) → list_any (is_same row) w.rows ≡ true → is_at (Set Dead) row ≡ false → Good w (bury w row).changes
 bury_good w row there alive = buried_good w row.text (put_dead w row) (put_dead_buries w row _ there alive refl)

@@ -1,5 +1,5 @@
 -- The changes of the workers' commands are good.
-use Rattle.std.proofs.Common.{◌≡◌, ℕ, List, [], ◌∷◌, refl, sym, ap, subst, ◌∙◌, arith, Bool, true, false, ◌&&◌, length}
+use Rattle.std.proofs.Common.{◌≡◌, ℕ, List, [], ◌∷◌, refl, sym, ap, subst, ◌∙◌, arith, Bool, true, false, cond, ◌&&◌, length}
 use Rattle.std.specs.Prelude.{pos, nat_lt, Option, Some, None}
 use Rattle.std.specs.List.{list_any}
 use Rattle.std.specs.Option.{is_some}
@@ -33,7 +33,7 @@ use Rattle.sk_model.specs.World.{World, phase_of}
 use Rattle.sk_leases.specs.Leased.{is_alive}
 use Rattle.sk_model.specs.Change.{Change, Counts, Carry, Free, Moves, Turns, carried, changed, freed, freed_at, freed_work, perform}
 use Rattle.sk_model.specs.Notify.{and_notify}
-use Rattle.sk_model.specs.Once.{buries, is_of_batch}
+use Rattle.sk_model.specs.Once.{buries, is_burial, is_of_batch}
 use Rattle.sk_batch.specs.declared.event.Event.{Event}
 use Rattle.sk_batch.specs.declared.event.Event.TheVariants as event
 use Rattle.sk_batch.specs.declared.event.Event.TheVariants.{Died}
@@ -55,8 +55,9 @@ use Rattle.sk_model.proofs.Changes.Fired.{all_quiet}
 use Rattle.sk_model.proofs.Changes.Kept.{Ready}
 use Rattle.sk_model.proofs.Tools.Works.{all_appended, all_staged, all_without}
 use Rattle.sk_model.proofs.Changes.Jobs.{KeepsJobs, keeps_others, keeps_put, keeps_carry, keeps_turn}
-use Rattle.sk_model.proofs.Changes.Notify.{notify_good}
-use Rattle.sk_model.proofs.Changes.Lawful.{Good, good_nothing, good_append, good_quiet, then_others, good_carry, good_free, good_turn, good_beats, good_counts}
+use Rattle.sk_model.proofs.Changes.Notify.{notify_told}
+use Rattle.sk_model.proofs.Changes.Order.{no_fires}
+use Rattle.sk_model.proofs.Changes.Lawful.{Good, Told, told_append, told_behind, told_of, good_nothing, good_quiet, then_others, good_carry, good_free, good_turn, good_beats, good_counts}
 
 -- ## In each phase
 
@@ -64,9 +65,17 @@ pub where_plain_good : (w : World) (phase : Phase) (o : Outcome) → Good w o.ch
 where_plain_good w Plain o good = good
 where_plain_good w (Joined ident works) o good = good_nothing w
 
+told_choice : (w : World) (b : Bool) (one other : Outcome) → (b ≡ true → Told w one.changes) → (b ≡ false → Told w other.changes) → Told w (cond b one other).changes
+told_choice w true one other f g = f refl
+told_choice w false one other f g = g refl
+
 where_some_good : (w : World) (phase : Phase) (test : Work → Bool) (o : Bytes → Outcome) → ((ident : Bytes) → Good w (o ident).changes) → Good w (where_some phase test o).changes
 where_some_good w Plain test o good = good_nothing w
 where_some_good w (Joined ident works) test o good = choice w (list_any test works) _ _ (λ y. good ident) (λ n. good_nothing w)
+
+where_some_told : (w : World) (phase : Phase) (test : Work → Bool) (o : Bytes → Outcome) → ((ident : Bytes) → Told w (o ident).changes) → Told w (where_some phase test o).changes
+where_some_told w Plain test o told = told_of w [] (good_nothing w)
+where_some_told w (Joined ident works) test o told = told_choice w (list_any test works) _ _ (λ y. told ident) (λ n. told_of w [] (good_nothing w))
 
 -- ## Other works in a seat's hands
 
@@ -158,17 +167,17 @@ pub start_good : (w : World) (phase : Phase) (text : Bytes) → Good w (start ph
 start_good w phase text = where_some_good w phase (is_held_as text) _ (λ ident. unlocks_good w until.Start text)
 
 -- what the batch is told comes after other changes
-and_notify_good : (event : Event) (w : World) (text : Bytes) (changes : List Change) → (event ≡ Died → ⊥) → Good w changes → Good w (and_notify event w text changes).changes
-and_notify_good event w text changes alive one = good_append w changes _ one (notify_good event alive (perform w changes) text)
+and_notify_told : (event : Event) (w : World) (text : Bytes) (changes : List Change) → (event ≡ Died → ⊥) → no_fires changes ≡ true → Good w changes → Told w (and_notify event w text changes).changes
+and_notify_told event w text changes alive none one = told_behind w changes _ none one (notify_told event alive (perform w changes) text)
 
-pub fail_good : (w : World) (phase : Phase) (text : Bytes) → Good w (fail w phase text).changes
-fail_good w phase text = where_some_good w phase (is_held_as text) _
-    (λ ident. and_notify_good event.Reported w text _ (λ e. cc e) (then_others w (Counts processed) _ (good_counts w processed) (good_counts _ failed)))
+pub fail_told : (w : World) (phase : Phase) (text : Bytes) → Told w (fail w phase text).changes
+fail_told w phase text = where_some_told w phase (is_held_as text) _
+    (λ ident. and_notify_told event.Reported w text _ (λ e. cc e) refl (then_others w (Counts processed) _ (good_counts w processed) (good_counts _ failed)))
 
-pub ok_good : (w : World) (seat : ℕ) (phase : Phase) (text : Bytes) → phase_of w seat ≡ phase → Good w (ok w seat phase text).changes
-ok_good w seat phase text is = where_some_good w phase (is_held_as text) _
-    (λ ident. good_append w _ (unlocks until.Success text)
-    (and_notify_good event.Returned w text _ (λ e. cc e)
+pub ok_told : (w : World) (seat : ℕ) (phase : Phase) (text : Bytes) → phase_of w seat ≡ phase → Told w (ok w seat phase text).changes
+ok_told w seat phase text is = where_some_told w phase (is_held_as text) _
+    (λ ident. told_append w _ (unlocks until.Success text)
+    (and_notify_told event.Returned w text _ (λ e. cc e) refl
     (then_others w (Turns seat (staging (is_held_as text) (Settled Returned) phase)) _ (turn_good w seat phase _ is (settled_ready w (is_held_as text) Returned phase)) (good_counts _ processed)))
     (unlocks_good _ until.Success text))
 
@@ -197,6 +206,10 @@ put_as_keeps w set pair (Some row) e = keeps_carry w row Left (Set set) pair.0 L
 pub put_quiet : (set : Scored) (pair : Pair) (found : Option Row) (seat : ℕ) (phase : Phase) → all_quiet (put_as set pair found ∷ Turns seat phase ∷ []) ≡ true
 put_quiet set pair None seat phase = refl
 put_quiet set pair (Some row) seat phase = refl
+
+pub put_burial : (pair : Pair) (found : Option Row) (seat : ℕ) (phase : Phase) → list_any is_burial (put_as Dead pair found ∷ Turns seat phase ∷ []) ≡ true
+put_burial pair None seat phase = refl
+put_burial pair (Some row) seat phase = refl
 
 -- a text that goes to the set of retries isn't buried
 put_alive : (w : World) (pair : Pair) (found : Option Row) (seat : ℕ) (phase : Phase) (b : Bytes) → buries b w (put_as Retry pair found ∷ Turns seat phase ∷ []) ≡ false
@@ -252,6 +265,7 @@ bury_good w seat phase text is =
     where_some_good w phase test _ (λ ident. buried_good w text _ (record {
       keeps = put_keeps w seat phase test Dead pair is (λ work jid passes named. may_newer work.payload text jid (buried_may text work passes) named);
       quiet = put_quiet Dead pair _ seat (staging test Put phase);
+      burial = put_burial pair _ seat (staging test Put phase);
       member = λ b. put_dead w pair _ seat (staging test Put phase) b refl;
     }))
 
@@ -280,6 +294,7 @@ module _ (w : World) (seat : ℕ) (phase : Phase) (ident : Bytes) (is : phase_of
   work_as_good (action.ReadOp key look) = good_nothing w
   work_as_good (action.Set key text options) = good_nothing w
   work_as_good (action.Expire key millis) = good_nothing w
+  work_as_good (action.Give key text) = good_nothing w
   work_as_good (action.Exists keys) = good_nothing w
   work_as_good (action.Delete keys) = good_nothing w
   work_as_good action.Flush = good_nothing w

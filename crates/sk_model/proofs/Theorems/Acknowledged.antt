@@ -315,6 +315,7 @@ act_counted : (w : World) (a : Action) → Counted (acked_by a) (act w a)
 act_counted w (action.WriteOp key e) = edits_counted w key e (class_of key)
 act_counted w (action.Set key text options) = on_plain_quiet w (action.Set key text options) (class_of key)
 act_counted w (action.Expire key millis) = on_plain_quiet w (action.Expire key millis) (class_of key)
+act_counted w (action.Give key text) = on_plain_quiet w (action.Give key text) (class_of key)
 act_counted w (action.Delete keys) = either Quiet (list_all (λ key. may_go (class_of key)) keys) _ _ (λ y. delete_each_none w keys) (λ n. refl)
 act_counted w (action.Move source destination from to) = moves_quiet w source destination from to (class_of source) (class_of destination)
 act_counted w action.Flush = none_pushed (take_all w.rows ++ map Unnames w.names) _ (none_pushed (take_all w.rows) (map Unnames w.names) (take_all_none w.rows) (unnames_none w.names)) refl

@@ -6,6 +6,7 @@ use Rattle.sk_model.specs.World.{World, first}
 use Rattle.sk_places.specs.LiveJobs.{one_if}
 use Rattle.sk_model.specs.Event.{Step, Run, after}
 use Rattle.sk_model.specs.Once.{is_whole, buries, SuccessOnceFrom, BatchOnce, AllSettled, SettledStaysFrom, SettledStays, CompleteOnceFrom, CompleteOnce, DeathOnceFrom, DeathOnce, CallsFollowFrom, CallbacksFollow}
+use Rattle.sk_model.specs.Order.{FiringsInOrder, InOrderFrom}
 use Rattle.sk_model.proofs.Changes.Marked.{Sane}
 use Rattle.sk_model.proofs.Changes.Batches.{Done, IsWhole, was_completed}
 use Rattle.sk_model.proofs.Changes.Lawful.{has_died}
@@ -97,3 +98,14 @@ calls_from w (step ∷ steps) sane run =
 
 pub callbacks_follow : CallbacksFollow
 callbacks_follow limits steps run = calls_from (first limits) steps (sane_first limits) run
+
+-- ## Order
+
+order_from : (w : World) (steps : List Step) → Sane w.batches → Run w steps → InOrderFrom w steps
+order_from w [] sane run = tt
+order_from w (step ∷ steps) sane run =
+    let l = lawful w step.event step.outcome run.0 in
+    (l.order sane, order_from (after w step) steps (l.leads.sane sane) run.1)
+
+pub firings_in_order : FiringsInOrder
+firings_in_order limits steps run = order_from (first limits) steps (sane_first limits) run

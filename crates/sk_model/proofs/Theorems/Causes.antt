@@ -246,6 +246,7 @@ act_tame w (action.ReadOp key look) = refl
 act_tame w (action.WriteOp key e) = edits_tame w key e (class_of key)
 act_tame w (action.Set key text options) = on_plain_tame w (action.Set key text options) (class_of key)
 act_tame w (action.Expire key millis) = on_plain_tame w (action.Expire key millis) (class_of key)
+act_tame w (action.Give key text) = on_plain_tame w (action.Give key text) (class_of key)
 act_tame w (action.Exists keys) = refl
 act_tame w (action.Delete keys) = either (Tame true) (list_all (λ key. may_go (class_of key)) keys) _ _ (λ y. delete_each_tame w keys) (λ n. refl)
 act_tame w (action.Move source destination from to) = moves_tame w source destination from to (class_of source) (class_of destination)
@@ -496,6 +497,7 @@ module _ (w : World) (seat now : ℕ) (words : Words) where
     as_causes (action.ReadOp key look) e = tt
     as_causes (action.Set key text options) e = tt
     as_causes (action.Expire key millis) e = tt
+    as_causes (action.Give key text) e = tt
     as_causes (action.Exists keys) e = tt
     as_causes (action.Delete keys) e = tt
     as_causes action.Flush e = tt

@@ -19,11 +19,11 @@ use Rattle.sk_leases.specs.Leased.{is_led_by_another}
 use Rattle.sk_seats.specs.declared.phase.Phase.{Phase}
 use Rattle.sk_seats.specs.declared.phase.Phase.TheVariants.{Plain, Joined}
 use Rattle.sk_model.specs.World.{World, first, phase_of}
-use Rattle.sk_model.specs.Causes.{CausesFrom, HasCause, HaveCauses, IsSlot, is_burial}
+use Rattle.sk_model.specs.Causes.{CausesFrom, HasCause, HaveCauses, IsSlot}
 use Rattle.sk_model.specs.Change.{Change, TakesSlot, Passes, changed}
 use Rattle.sk_model.specs.Event.{Event, Ask, Cut, ResultsIn, Happens, Run, Step, after}
 use Rattle.sk_model.specs.Laws.{IsNotLed, KeepsLeader, OneLeader, OneLeaderFrom, SlotsRise, SlotsRiseFrom, is_mark}
-use Rattle.sk_model.specs.Once.{called_by}
+use Rattle.sk_model.specs.Once.{called_by, is_burial}
 use Rattle.sk_model.specs.Outcome.{Outcome, refuses, tells}
 use Rattle.sk_model.specs.Periodic.{is_process, lead, lead_as}
 use Rattle.sk_model.specs.Reading.{Words}

@@ -4,7 +4,7 @@ use Rattle.sk_model.proofs.Theorems.Causes.{moves_have_causes}
 use Rattle.sk_model.proofs.Theorems.LockHolders.{one_holder}
 use Rattle.sk_model.proofs.Theorems.Leaders.{one_leader, slots_rise}
 use Rattle.sk_model.proofs.Theorems.LiveJobs.{balance, conserve, copies_kept}
-use Rattle.sk_model.proofs.Theorems.Callbacks.{batch_once, callbacks_follow, complete_once, death_once, settled_stays}
+use Rattle.sk_model.proofs.Theorems.Callbacks.{batch_once, callbacks_follow, complete_once, death_once, firings_in_order, settled_stays}
 
 pub reliable : Reliable
 reliable limits steps run = record {
@@ -15,6 +15,7 @@ reliable limits steps run = record {
   settled_stays = settled_stays limits steps run;
   complete_once = complete_once limits steps run;
   death_once = death_once limits steps run;
+  firings_in_order = firings_in_order limits steps run;
   callbacks_follow = callbacks_follow limits steps run;
   moves_have_causes = moves_have_causes limits steps run;
   one_holder = one_holder limits steps run;

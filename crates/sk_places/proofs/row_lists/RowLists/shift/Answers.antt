@@ -21,7 +21,7 @@ shift-requires-clause-fits c =
     may_move c.args.end c.args.self.now.deques.lists.current c.args.self.now.deques.spaces c.in-Some.list c.in-Some-number_of.onto c.args.at c.place_behind-there.result (list_there c.args.self.now c.args.from.now c.in-Some.list c.requires.lists (sym c.number_of.ensures ∙ c.in-Some.is)) (list_there c.args.self.now c.args.row_key.now.place c.in-Some-number_of.onto c.requires.lists (sym c.number_of-in-Some.ensures ∙ c.in-Some-number_of.is)) (within_listed c.args.self.now c.args.from.now c.in-Some.list c.args.at c.requires.lists c.requires.from (sym c.number_of.ensures ∙ c.in-Some.is) c.requires.within) c.place_behind-there.ensures (omega (arith, s))
 
 pub returns-clause-lists : goal.returns-clause-lists
-returns-clause-lists c = (shifted_is c.args.self.now (record { names = c.args.self.now.names; deques = c.shift.new.self; sets = c.args.self.now.sets }) c.args.from.now c.args.row_key.now c.args.end c.in-Some.list c.in-Some-number_of.onto c.args.at c.place_behind-there.result c.requires.lists c.requires.ordered c.requires.from c.requires.to (sym c.number_of.ensures ∙ c.in-Some.is) (sym c.number_of-in-Some.ensures ∙ c.in-Some-number_of.is) c.requires.within c.place_behind-there.ensures refl refl c.shift.ensures.lists).0
+returns-clause-lists c = (shifted_is c.args.self.now (record { names = c.args.self.now.names; spare = c.args.self.now.spare; deques = c.shift.new.self; sets = c.args.self.now.sets }) c.args.from.now c.args.row_key.now c.args.end c.in-Some.list c.in-Some-number_of.onto c.args.at c.place_behind-there.result c.requires.lists c.requires.ordered c.requires.from c.requires.to (sym c.number_of.ensures ∙ c.in-Some.is) (sym c.number_of-in-Some.ensures ∙ c.in-Some-number_of.is) c.requires.within c.place_behind-there.ensures refl refl refl c.shift.ensures.lists).0
 
 pub returns-clause-rows : goal.returns-clause-rows
-returns-clause-rows c = (shifted_is c.args.self.now (record { names = c.args.self.now.names; deques = c.shift.new.self; sets = c.args.self.now.sets }) c.args.from.now c.args.row_key.now c.args.end c.in-Some.list c.in-Some-number_of.onto c.args.at c.place_behind-there.result c.requires.lists c.requires.ordered c.requires.from c.requires.to (sym c.number_of.ensures ∙ c.in-Some.is) (sym c.number_of-in-Some.ensures ∙ c.in-Some-number_of.is) c.requires.within c.place_behind-there.ensures refl refl c.shift.ensures.lists).1
+returns-clause-rows c = (shifted_is c.args.self.now (record { names = c.args.self.now.names; spare = c.args.self.now.spare; deques = c.shift.new.self; sets = c.args.self.now.sets }) c.args.from.now c.args.row_key.now c.args.end c.in-Some.list c.in-Some-number_of.onto c.args.at c.place_behind-there.result c.requires.lists c.requires.ordered c.requires.from c.requires.to (sym c.number_of.ensures ∙ c.in-Some.is) (sym c.number_of-in-Some.ensures ∙ c.in-Some-number_of.is) c.requires.within c.place_behind-there.ensures refl refl refl c.shift.ensures.lists).1
