@@ -19,6 +19,7 @@ third false b false d e = e
 -- A bulk string that answers is text, unless any bytes are wanted.
 pub IsUtf8-answer : (wanted : Answer) (jid : Bytes) → wanted ≢ answer.Popped → answers wanted (reply.Bulk jid) ≡ true → IsUtf8 jid
 IsUtf8-answer answer.Okay jid bytes e = cc
+IsUtf8-answer answer.OkayOrNull jid bytes e = cc
 IsUtf8-answer answer.Number jid bytes e = cc
 IsUtf8-answer answer.List jid bytes e = cc
 IsUtf8-answer answer.Report jid bytes e = cc

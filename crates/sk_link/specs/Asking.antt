@@ -21,6 +21,11 @@ is_okay (reply.Say say.Ok) = true
 is_okay (reply.Simple text) = bytes_eq text (codes "OK")
 is_okay r = false
 
+-- `+OK` or null
+abbrev pub is_okay_or_null : Reply → Bool
+is_okay_or_null reply.Null = true
+is_okay_or_null r = is_okay r
+
 -- an integer
 abbrev pub is_number : Reply → Bool
 is_number (reply.Int n) = true
@@ -45,6 +50,7 @@ is_unique r = is_okay r
 -- The reply is of this kind.
 abbrev pub answers : Answer → Reply → Bool
 answers answer.Okay r = is_okay r
+answers answer.OkayOrNull r = is_okay_or_null r
 answers answer.Number r = is_number r
 answers answer.List r = is_list r
 answers answer.Popped r = is_popped r

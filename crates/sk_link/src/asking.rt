@@ -1,6 +1,6 @@
 // A request that wants an answer of a kind. A readable reply of another kind is a refusal, as an error reply is.
 ghost use Rattle.std.specs.Prelude.{◌≡◌, true, Err};
-ghost use Rattle.sk_link.specs.Asking.{Asked, answers, is_okay as okay_reply};
+ghost use Rattle.sk_link.specs.Asking.{Asked, answers, is_okay as okay_reply, is_okay_or_null as okay_or_null};
 ghost use Rattle.sk_base.specs.Name.{is_name as name_test};
 
 use crate::{Link, LinkFault, Report};
@@ -14,6 +14,8 @@ use std::alloc::Global;
 pub enum Answer {
     /// `+OK`
     Okay,
+    /// `+OK` or null, as SET with NX is answered.
+    OkayOrNull,
     /// An integer.
     Number,
     /// An array.
@@ -45,6 +47,12 @@ fn is_okay(reply: &Reply) -> bool
     }
 }
 
+fn is_okay_or_null(reply: &Reply) -> bool
+    ensures { result ≡ okay_or_null reply.now }
+{
+    matches!(reply, Reply::Null) || is_okay(reply)
+}
+
 // A name of at most 64 bytes, as a jid is.
 fn is_jid(bytes: &[u8]) -> bool
     ensures { result ≡ name_test LONGEST_ID bytes.now }
@@ -58,6 +66,7 @@ pub fn is_answer(wanted: Answer, reply: &Reply) -> bool
 {
     match wanted {
         Answer::Okay => is_okay(reply),
+        Answer::OkayOrNull => is_okay_or_null(reply),
         Answer::Number => matches!(reply, Reply::Int(_)),
         Answer::List => matches!(reply, Reply::Array(_)),
         Answer::Popped => matches!(reply, Reply::Null | Reply::Bulk(_)),

@@ -1,0 +1,15 @@
+pub mod Calls
+pub mod Holding
+pub mod Granting
+pub mod Keys
+pub mod Moments
+pub mod Readings
+pub mod Acting
+pub mod Giving
+pub mod SlotLaws
+pub mod Tame
+pub mod KeyOrder
+pub mod WorldOrder
+pub mod Others
+pub mod Counting
+pub mod WindowLaws

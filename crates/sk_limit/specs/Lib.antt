@@ -1,0 +1,9 @@
+pub mod Limiter
+pub mod Asking
+pub mod Requests
+pub mod Hold
+pub mod Grant
+pub mod Own
+pub mod Slots
+pub mod Windows
+pub mod Others
