@@ -1,0 +1,11 @@
+pub mod Performing
+pub mod Saving
+pub mod Stages
+pub mod Calling
+pub mod Losses
+pub mod Along
+pub mod Store
+pub mod Others
+pub mod Through
+pub mod Shapes
+pub mod Chains

@@ -1,0 +1,14 @@
+pub mod Event
+pub mod Request
+pub mod Cursor
+pub mod Deeds
+pub mod Performs
+pub mod Reads
+pub mod Ends
+pub mod Transcript
+pub mod Stages
+pub mod JobRun
+pub mod Calls
+pub mod Writes
+pub mod Goes
+pub mod Laws
