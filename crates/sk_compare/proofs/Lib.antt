@@ -1,3 +1,4 @@
 pub mod Same
+pub mod Texts
 pub mod Meeting
 pub mod Telling

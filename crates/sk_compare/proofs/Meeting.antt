@@ -3,9 +3,10 @@ use Rattle.std.proofs.Common.{◌≡◌, ◌≢◌, ◌==◌, ◌<◌, ◌≤◌
 use Rattle.std.specs.List.{slice_get}
 use Rattle.std.proofs.lemmas.List.{append-nil, length-take-le, take_all, take_at, take_more}
 use Rattle.std.proofs.lemmas.Option.{get_or_from_slice_get, slice_get_within}
-use Rattle.sk_compare.specs.Exchange.{Exchange, exchange_of, text_in}
+use Rattle.sk_compare.specs.Exchange.{Exchange, FitsMemory, WasAnswered, exchange_of, text_in}
 use Rattle.sk_compare.specs.Alike.{Alike, DiffersAt, HasMet, IsDifference, Meets, Passes, Strays, noted, with_deed}
 use Rattle.sk_compare.specs.declared.difference.Difference.{Difference}
+use Rattle.sk_compare.proofs.Texts.{texts_differ}
 use Rattle.sk_desk.specs.declared.entry.Ask.{Ask}
 use Rattle.sk_desk.specs.declared.entry.Deed.{Deed}
 use Rattle.sk_desk.specs.declared.entry.Deed.TheVariants as deed
@@ -95,13 +96,19 @@ there_within (x ∷ xs) (suc n) l e = there_within xs n (omega (arith, l)) e
 
 at_place : (told noted_ : ℕ → List Exchange) (seat n : ℕ) (d : Difference) → d.seat ≡ seat → d.place ≡ n →
     take n (told seat) ≡ take n (noted_ seat) → (slice_get (told seat) n ≡ slice_get (noted_ seat) n → ⊥) →
-    d.told ≡ text_in (slice_get (told seat) n) → d.noted ≡ text_in (slice_get (noted_ seat) n) → DiffersAt told noted_ d
-at_place told noted_ seat n d seat_is place_is before other told_is noted_is = record {
-  before = rw (seat_is, place_is) before;
-  other = rw (seat_is, place_is) other;
-  told_is = rw (seat_is, place_is) told_is;
-  noted_is = rw (seat_is, place_is) noted_is;
-}
+    d.told ≡ text_in (slice_get (told seat) n) → d.noted ≡ text_in (slice_get (noted_ seat) n) → FitsMemory d.told → FitsMemory d.noted → DiffersAt told noted_ d
+at_place told noted_ seat n d seat_is place_is before other told_is noted_is told_fits noted_fits =
+    let x = slice_get (told seat) n in
+    let y = slice_get (noted_ seat) n in
+    let texts : WasAnswered x → WasAnswered y → d.told ≢ d.noted =
+    λ i j same. texts_differ x y other (subst FitsMemory told_is told_fits) (subst FitsMemory noted_is noted_fits) i j (sym told_is ∙ same ∙ noted_is) in
+    record {
+      before = rw (seat_is, place_is) before;
+      other = rw (seat_is, place_is) other;
+      told_is = rw (seat_is, place_is) told_is;
+      noted_is = rw (seat_is, place_is) noted_is;
+      texts = rw (seat_is, place_is) texts;
+    }
 
 -- Behind the asks that were met the two go on in other ways.
 differs_behind : (told noted_ : ℕ → List Exchange) (met : ℕ → ℕ) (seat : ℕ) (rest : List Exchange) (x : Option Exchange) (d : Difference) →
@@ -113,7 +120,7 @@ differs_behind told noted_ met seat rest x d within is first other h =
     let len : length front ≡ n = length-take-le n (told seat) within in
     let there : slice_get (noted_ seat) n ≡ x = ap (λ l. slice_get l n) is ∙ ap (λ k. slice_get (front ++ rest) k) (sym len) ∙ get_past front rest ∙ first in
     at_place told noted_ seat n d h.seat_is h.place_is (sym (ap (λ l. take n l) is ∙ take_at front rest n len)) (λ same. other (same ∙ there))
-    h.told_is (h.noted_is ∙ ap (λ y. text_in y) (sym there))
+    h.told_is (h.noted_is ∙ ap (λ y. text_in y) (sym there)) h.told_fits h.noted_fits
 
 pub strayed : (told : ℕ → List Exchange) (met : ℕ → ℕ) (all rest before : List Entry) (e : Entry) (ask : Ask) (d : Difference) → before ≡ e ∷ rest →
     HasMet told met all before → Strays told met e.seat e.deed ask → IsDifference told met e.seat (Some (exchange_of ask)) d → DiffersAt told (noted all) d

@@ -1,7 +1,7 @@
 -- When stories and a journal are alike, and where they differ.
 use Rattle.std.specs.Prelude.{◌≡◌, ◌≢◌, ◌==◌, ◌≤◌, ◌+◌, ◌++◌, ◌∷◌, ℕ, List, [], Option, Some, None, get_or, length, map, take, if◌then◌else◌}
 use Rattle.std.specs.List.{flat_map, slice_get}
-use Rattle.sk_compare.specs.Exchange.{Exchange, exchange_of, text_in}
+use Rattle.sk_compare.specs.Exchange.{Exchange, FitsMemory, WasAnswered, exchange_of, text_in}
 use Rattle.sk_compare.specs.declared.difference.Difference.{Difference}
 use Rattle.sk_desk.specs.declared.entry.Ask.{Ask}
 use Rattle.sk_desk.specs.declared.entry.Deed.{Deed}
@@ -33,12 +33,14 @@ noted (e ∷ entries) s = if e.seat == s then with_deed e.deed (noted entries s)
 pub record Alike (told noted : ℕ → List Exchange) : Type 0 where
   pub each : (s : ℕ) → told s ≡ noted s
 
--- The first place of a seat at which there is another ask in the one than in the other, or only in one of them.
+-- The first place of a seat at which there is another ask in the one than in the other, or only in one of them. There the texts differ, too, unless one
+-- of the two asks has no reply.
 pub record DiffersAt (told noted : ℕ → List Exchange) (d : Difference) : Type 0 where
   pub before : take d.place (told d.seat) ≡ take d.place (noted d.seat)
   pub other : slice_get (told d.seat) d.place ≢ slice_get (noted d.seat) d.place
   pub told_is : d.told ≡ text_in (slice_get (told d.seat) d.place)
   pub noted_is : d.noted ≡ text_in (slice_get (noted d.seat) d.place)
+  pub texts : WasAnswered (slice_get (told d.seat) d.place) → WasAnswered (slice_get (noted d.seat) d.place) → d.told ≢ d.noted
 
 -- what a comparison answers
 abbrev pub Compares : (ℕ → List Exchange) → (ℕ → List Exchange) → Option Difference → Type 0
@@ -90,3 +92,5 @@ pub record IsDifference (told : ℕ → List Exchange) (met : ℕ → ℕ) (seat
   pub place_is : d.place ≡ met seat
   pub told_is : d.told ≡ text_in (slice_get (told seat) (met seat))
   pub noted_is : d.noted ≡ text_in x
+  pub told_fits : FitsMemory d.told
+  pub noted_fits : FitsMemory d.noted

@@ -1,6 +1,6 @@
 // What is compared of an ask: the words of the request, and the text of the reply.
 ghost use Rattle.std.specs.Prelude.{◌≡◌, ◌↔◌, IfOk, option_map, true};
-ghost use Rattle.sk_compare.specs.Exchange.{exchange_of, text_in, text_of};
+ghost use Rattle.sk_compare.specs.Exchange.{FitsMemory, exchange_of, text_in, text_of};
 
 use crate::Memory;
 use sk_desk::Ask;
@@ -34,7 +34,8 @@ pub(crate) fn is_same(told: &Ask, noted: &Ask) -> bool
 
 /// The request as clients write it, and the reply behind it.
 pub(crate) fn text_of(alloc: Global, ask: &Ask) -> Result<Word, Memory>
-    ensures { IfOk result (λ text. text ≡ text_of (exchange_of ask.entry.now)) }
+    ensures is { IfOk result (λ text. text ≡ text_of (exchange_of ask.entry.now)) }
+    ensures fits { IfOk result FitsMemory }
 {
     let mut text = Vec::new(alloc);
     write_request(alloc, &ask.request, &mut text)?;
@@ -46,7 +47,8 @@ pub(crate) fn text_of(alloc: Global, ask: &Ask) -> Result<Word, Memory>
 
 /// The text of this, or an empty one where there is none.
 pub(crate) fn text_in(alloc: Global, ask: Option<&Ask>) -> Result<Word, Memory>
-    ensures { IfOk result (λ text. text ≡ text_in (option_map (λ a. exchange_of a.now) ask.entry)) }
+    ensures is { IfOk result (λ text. text ≡ text_in (option_map (λ a. exchange_of a.now) ask.entry)) }
+    ensures fits { IfOk result FitsMemory }
 {
     match ask {
         Some(ask) => text_of(alloc, ask),

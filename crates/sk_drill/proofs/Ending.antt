@@ -1,10 +1,10 @@
 -- How a drill ends.
-use Rattle.std.proofs.Common.{◌≡◌, ◌<◌, ◌≤◌, ◌^◌, ◌==◌, ◌++◌, ◌∷◌, ◌∙◌, ℕ, Bool, true, false, List, [], if◌then◌else◌, map, Option, Some, None, Result, Ok, Err, IfErr, IfOk, IfSome, OnOk, MatchOption, ap, arith, length, refl, subst, sym}
+use Rattle.std.proofs.Common.{◌≡◌, ◌<◌, ◌≤◌, ◌^◌, ◌==◌, ◌++◌, ◌∷◌, ◌∙◌, ℕ, Bool, true, false, List, [], if◌then◌else◌, map, Option, Some, None, Result, Ok, Err, IfErr, IfOk, IfSome, OnOk, IsSome, MatchOption, zero, suc, ap, arith, length, refl, subst, sym}
 use Rattle.std.specs.Prelude.{◌≢◌}
-use Rattle.std.specs.List.{AllByRecursion}
+use Rattle.std.specs.List.{AllByRecursion, slice_get}
 use Rattle.std.proofs.lemmas.List.{append-nil}
 use Rattle.sk_compare.specs.Alike.{Alike, AllAnswered, Compares, noted, told, told_by}
-use Rattle.sk_compare.specs.Exchange.{exchange_of}
+use Rattle.sk_compare.specs.Exchange.{Exchange, WasAnswered, exchange_of}
 use Rattle.sk_compare.specs.declared.difference.Difference.{Difference}
 use Rattle.sk_desk.specs.declared.entry.Entry.{Entry}
 use Rattle.sk_desk.specs.Log.{Log}
@@ -12,8 +12,9 @@ use Rattle.sk_desk.specs.State.{IsConsistent, IsLogged, StateView}
 use Rattle.sk_jobs.specs.Counting.{tally_of}
 use Rattle.sk_lane.specs.declared.story.Story.{Story}
 use Rattle.sk_drill.specs.Crews.{HaveOwnSeats}
-use Rattle.sk_drill.specs.Drilled.{AreBySeat, EndsAs, IsDrilled, IsRecorded}
+use Rattle.sk_drill.specs.Drilled.{AreBySeat, EndsAs, IsAnswered, IsDrilled, IsRecorded}
 use Rattle.sk_drill.specs.Soaked.{IsBalanced}
+use Rattle.sk_drill.proofs.Each.{all_told, noted_answered}
 use Rattle.sk_drill.specs.declared.drill_end.DrillEnd.{DrillEnd}
 use Rattle.sk_drill.specs.declared.drill_end.DrillEnd.TheVariants as end
 use Rattle.sk_drill.specs.declared.drill_end.Drilled.{Drilled}
@@ -53,7 +54,7 @@ told_self story =
     let own : (story.seat == story.seat) ≡ true = grind arith in
     ap (λ t. if t then map exchange_of story.asks.items else []) own
 
-told_none : (stories : List Story) (s : ℕ) → AllByRecursion (λ story. story.seat ≢ s) stories → told stories s ≡ []
+pub told_none : (stories : List Story) (s : ℕ) → AllByRecursion (λ story. story.seat ≢ s) stories → told stories s ≡ []
 told_none [] s others = refl
 told_none (story ∷ stories) s others = ap (λ l. l ++ told stories s) (told_other story s (story.seat == s) refl others.0) ∙ told_none stories s others.1
 
@@ -84,6 +85,13 @@ are_by_seat stories entries own alike = record {
   others = λ s others. sym (alike.each s) ∙ told_none stories s others;
 }
 
+-- ## Asks that have their replies
+
+reply_at : (xs : List Exchange) (n : ℕ) → AllByRecursion (λ x. IsSome x.reply) xs → WasAnswered (slice_get xs n)
+reply_at [] n all = tt
+reply_at (x ∷ xs) zero all = all.0
+reply_at (x ∷ xs) (suc n) all = reply_at xs n all.1
+
 -- ## How it ends
 
 alike_as : (s : StateView) (d : Drilled) (stories : List Story) → IsRecorded s stories None → HaveOwnSeats stories → d.book ≡ s.log → d.stories.items ≡ stories →
@@ -105,12 +113,20 @@ alike_as s d stories r own book_is stories_are tally_is balanced events = record
 
 -- The end, by what the comparison came to.
 pub ends_as : {E : Type 0} (s : StateView) (d : Drilled) (stories : List Story) (came : Result (Option Difference) E) (end_now : DrillEnd) →
-    IfOk came (IsRecorded s stories) → HaveOwnSeats stories → d.book ≡ s.log → d.stories.items ≡ stories → d.summary.tally ≡ tally_of s.world → IsBalanced d.summary.tally →
-    MatchOption s.log (2 ^ 62 ≤ d.summary.events) (λ k. d.summary.events ≡ length k.entries) →
+    IfOk came (IsRecorded s stories) → HaveOwnSeats stories → AllByRecursion IsAnswered stories → d.book ≡ s.log → d.stories.items ≡ stories →
+    d.summary.tally ≡ tally_of s.world → IsBalanced d.summary.tally → MatchOption s.log (2 ^ 62 ≤ d.summary.events) (λ k. d.summary.events ≡ length k.entries) →
     (came ≡ Ok None → end_now ≡ end.Alike d) → IfOk came (λ r. IfSome r (λ x. end_now ≡ end.Differs x.seat x.place x.told x.noted)) →
     IfErr came (λ e. end_now ≡ end.Memory) → EndsAs stories end_now
-ends_as s d stories (Ok None) end_now r own book_is stories_are tally_is balanced events alike differs memory =
+ends_as s d stories (Ok None) end_now r own answered book_is stories_are tally_is balanced events alike differs memory =
     subst (EndsAs stories) (sym (alike refl)) (alike_as s d stories r own book_is stories_are tally_is balanced events)
-ends_as s d stories (Ok (Some x)) end_now r own book_is stories_are tally_is balanced events alike differs memory =
-    subst (EndsAs stories) (sym differs) (record { log = r.log; world = s.world; journal = r.journal; answered = r.answered; differs = r.compares })
-ends_as s d stories (Err e) end_now r own book_is stories_are tally_is balanced events alike differs memory = subst (EndsAs stories) (sym memory) tt
+ends_as s d stories (Ok (Some x)) end_now r own answered book_is stories_are tally_is balanced events alike differs memory =
+    subst (EndsAs stories) (sym differs) (record {
+      log = r.log;
+      world = s.world;
+      journal = r.journal;
+      answered = r.answered;
+      differs = r.compares;
+      texts = r.compares.texts (reply_at (told stories x.seat) x.place (all_told (λ y. IsSome y.reply) stories x.seat answered))
+          (reply_at (noted r.log.entries x.seat) x.place (noted_answered r.log.entries x.seat r.answered));
+    })
+ends_as s d stories (Err e) end_now r own answered book_is stories_are tally_is balanced events alike differs memory = subst (EndsAs stories) (sym memory) tt

@@ -1,6 +1,6 @@
 -- How a drill ends, by what its threads tell.
 use denote.Param.Members.{Mut}
-use Rattle.std.specs.Prelude.{◌≡◌, ◌≢◌, ◌/◌, ℕ, List, [], length, map, Option, Some}
+use Rattle.std.specs.Prelude.{◌≡◌, ◌≢◌, ◌/◌, ℕ, List, [], length, map, Option, Some, IsSome}
 use Rattle.std.specs.List.{AllByRecursion}
 use Rattle.sk_compare.specs.Alike.{AllAnswered, Alike, Compares, DiffersAt, noted, told}
 use Rattle.sk_compare.specs.Exchange.{exchange_of}
@@ -11,12 +11,15 @@ use Rattle.sk_desk.specs.Log.{Log}
 use Rattle.sk_desk.specs.State.{StateView}
 use Rattle.sk_jobs.specs.Counting.{tally_of}
 use Rattle.sk_lane.specs.declared.story.Story.{Story}
+use Rattle.sk_resp.specs.declared.reply.Reply.{Reply}
+use Rattle.sk_status.specs.declared.tally.Tally.{Tally}
 use Rattle.sk_model.specs.World.{World}
 use Rattle.sk_policy.specs.declared.delay.DelayRule.{DelayRule}
 use Rattle.sk_worker.specs.Run.{Run}
 use Rattle.sk_worker.specs.declared.registry.Registry.{Registry}
 use Rattle.sk_drill.specs.Crews.{AreStories}
 use Rattle.sk_drill.specs.Soaked.{IsBalanced}
+use Rattle.sk_drill.specs.Telling.{numbers}
 use Rattle.sk_drill.specs.declared.plan.Plan.{Plan}
 use Rattle.sk_drill.specs.declared.drill_end.DrillEnd.{DrillEnd}
 use Rattle.sk_drill.specs.declared.drill_end.DrillEnd.TheVariants as end
@@ -35,6 +38,10 @@ pub record AreBySeat (stories : List Story) (entries : List Entry) : Type 0 wher
   pub own : AllByRecursion (λ story. noted entries story.seat ≡ map exchange_of story.asks.items) stories
   pub others : (s : ℕ) → AllByRecursion (λ story. story.seat ≢ s) stories → noted entries s ≡ []
 
+-- Each ask of the story has its reply.
+abbrev pub IsAnswered : Story → Type 0
+IsAnswered story = AllByRecursion (λ x. IsSome x.reply) (map exchange_of story.asks.items)
+
 -- The book is a journal, which is a run of the store; the summary has its length, and the tally of its last world. It has of each seat what the
 -- stories tell of it, each ask once and in order, with its reply.
 pub record IsDrilled (stories : List Story) (d : Drilled) : Type 0 where
@@ -50,13 +57,14 @@ pub record IsDrilled (stories : List Story) (d : Drilled) : Type 0 where
   pub alike : Alike (told stories) (noted log.entries)
   pub by_seat : AreBySeat stories log.entries
 
--- There was a journal with another ask at this place of this seat than the stories tell, or one of them has none there.
+-- There was a journal with another ask at this place of this seat than the stories tell, or one of them has none there. The two texts differ.
 pub record HasDiffered (stories : List Story) (d : Difference) : Type 0 where
   pub log : Log
   pub world : World
   pub journal : IsJournal log.entries world
   pub answered : AllAnswered log.entries
   pub differs : DiffersAt (told stories) (noted log.entries) d
+  pub texts : d.told ≢ d.noted
 
 -- how it ends with these stories
 abbrev pub EndsAs : List Story → DrillEnd → Type 0
@@ -64,14 +72,25 @@ EndsAs stories (end.Alike d) = IsDrilled stories d
 EndsAs stories (end.Differs seat place told noted) = HasDiffered stories (record { seat = seat; place = place; told = told; noted = noted })
 EndsAs stories end.Memory = Unit {0}
 
+-- The tally counts just the pushes that were answered by a number, and no push of the store's own.
+pub record CountsPushes (answers : List Reply) (tally : Tally) : Type 0 where
+  pub outside_is : tally.outside ≡ numbers answers
+  pub inner_is : tally.inner ≡ 0
+
+-- what the tally counts, where there is one, of the pushes with these replies
+abbrev pub CountsAs : List Reply → DrillEnd → Type 0
+CountsAs answers (end.Alike d) = CountsPushes answers d.summary.tally
+CountsAs answers other = Unit {0}
+
 -- what each thread knows of a drill: each worker has as many crashes
 abbrev pub plan_of : ℕ → ℕ → ℕ → ℕ → Plan
 plan_of seed jobs workers crashes = record { seed = seed; jobs = jobs; crashes = crashes / workers }
 
 module _ {Job Rule : Type 0} {OfJob : Job → Type 0} {OfRule : Rule → Type 0} {Delays : Mut ((rule : Rule) × OfRule rule) (ℕ × Unit {0}) ℕ} where
-  -- There was no memory. Or all threads told their stories, and the drill ends as they compare with the journal.
+  -- There was no memory. Or all threads told their stories, and the drill ends as they compare with the journal. Where they are alike, the tally counts
+  -- the pushes of the thread that pushes, and no other.
   pub data Drills (runs : (job : Job) × OfJob job → Option (List Run)) (plan : Plan) (workers : ℕ) (rules : List (DelayRule Rule OfRule Delays))
       (teams teams_now : List (Registry Job Rule OfJob OfRule Delays)) : DrillEnd → Type 0 where
     starved : Drills runs plan workers rules teams teams_now end.Memory
-    ended : (stories : List Story) (how : DrillEnd) → AreStories runs plan workers rules teams teams_now stories → EndsAs stories how →
-        Drills runs plan workers rules teams teams_now how
+    ended : (stories : List Story) (how : DrillEnd) (are : AreStories runs plan workers rules teams teams_now stories) → EndsAs stories how →
+        CountsAs are.pushed.pushed.answers how → Drills runs plan workers rules teams teams_now how

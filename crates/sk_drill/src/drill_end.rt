@@ -20,7 +20,7 @@ pub struct Drilled {
 pub enum DrillEnd {
     /// The journal has of each seat what is told of it.
     Alike(Drilled),
-    /// At a place of a seat the journal has another ask than is told, or only one of them has an ask there.
+    /// At a place of a seat the journal has another ask than is told, or only one of them has an ask there. The two texts differ.
     Differs {
         /// The number of the seat.
         seat: u32,

@@ -5,7 +5,7 @@ ghost use Rattle.sk_desk.specs.State.{IsConsistent};
 ghost use Rattle.sk_jobs.specs.Counting.{tally_of};
 ghost use Rattle.sk_drill.specs.Soaked.{IsBalanced};
 ghost use Rattle.sk_drill.specs.Crews.{AreStories, HaveOwnSeats, Room, StandApart, classes_of};
-ghost use Rattle.sk_drill.specs.Drilled.{Drills, EndsAs, IsRecorded, plan_of};
+ghost use Rattle.sk_drill.specs.Drilled.{Drills, EndsAs, IsAnswered, IsRecorded, plan_of};
 
 use crate::crew::{Posts, run_drill};
 use crate::plan::Plan;
@@ -94,6 +94,7 @@ fn end_by(came: Result<Option<Difference>, Memory>, drilled: Drilled) -> DrillEn
 fn finish<I: HubId>(alloc: Global, closed: Closed<I, FullBook>, stories: Vec<Story>) -> DrillEnd
     requires sound { IsConsistent closed }
     requires apart { HaveOwnSeats stories.items }
+    requires answered { AllByRecursion IsAnswered stories.items }
     ensures { EndsAs stories.items result }
 {
     let came = compared(alloc, &closed, &stories);
@@ -228,7 +229,8 @@ pub fn drill<R: Threads + Wait + Sync>(
     // There is a plain rule for each team.
     requires rules { vec_len rules ≡ vec_len teams.old }
 
-    // The stories are those of all threads, and the drill ends as they compare with the journal, which is a run of the store.
+    // The stories are those of all threads, and the drill ends as they compare with the journal, which is a run of the store. Where they are alike, the
+    // tally counts each push that was answered by a number, and nothing that the store pushed itself.
     ensures told { Drills runs (plan_of seed jobs workers crashes) workers rules.items teams.old.items teams.new.items result }
 
     // The teams have their classes still.

@@ -3,7 +3,7 @@ ghost use Rattle.std.specs.Prelude.{◌≡◌, [], IfOk, IfSome, OnOk, map, true
 ghost use Rattle.sk_compare.specs.Exchange.{exchange_of};
 ghost use Rattle.sk_poller.specs.Stage.{watch_of};
 ghost use Rattle.sk_drill.specs.Crews.{PolledAt};
-ghost use Rattle.sk_drill.specs.Telling.{GoesOn, Polled, PollsOnce, watch};
+ghost use Rattle.sk_drill.specs.Telling.{HasEnded, OnTime, Polled, StaysOnTime, TakesTurn, poll_moment, watch};
 
 use crate::Memory;
 use crate::duty::Duty;
@@ -29,7 +29,9 @@ fn poller(alloc: Global) -> Result<Poller, Memory>
     Ok(Poller::new(ident, Vec::new(alloc), 0))
 }
 
-fn clock() -> StepClock {
+fn clock() -> StepClock
+    ensures { result ≡ record { now = 1700000000000; step = 1000 } }
+{
     StepClock {
         now: START,
         step: STEP,
@@ -38,7 +40,7 @@ fn clock() -> StepClock {
 
 // Whether the poller goes on behind a turn.
 fn goes_on(turn: Result<PollReport, PollFault>) -> Result<(), Memory>
-    ensures { OnOk result (GoesOn turn) }
+    ensures { OnOk result (HasEnded turn) }
 {
     match turn {
         Ok(_) => Ok(()),
@@ -56,7 +58,8 @@ fn take_turn<D: Desk>(
     dice: &mut PcgDice,
 ) -> Result<(), Memory>
     requires { watch_of poller.now ≡ watch }
-    ensures { OnOk result (PollsOnce (map exchange_of link.old.asks.items) (map exchange_of link.new.asks.items)) }
+    ensures polled { OnOk result (TakesTurn clock.old link.old clock.new link.new) }
+    ensures time { OnOk result (StaysOnTime link.old link.new) }
 {
     goes_on(poller.turn(alloc, link, clock, dice))
 }
@@ -71,7 +74,9 @@ fn poll_all<D: Desk>(
 ) -> Result<(), Memory>
     requires watch { watch_of poller.now ≡ watch }
     requires empty { (link.old.asks.items ≡ []) × (marks.old.items ≡ []) }
-    ensures { OnOk result (Polled turns (map exchange_of link.new.asks.items) marks.new.items) }
+    requires clock { link.old.clock ≡ record { now = 1700000000000; step = 1000 } }
+    ensures polled { OnOk result (Polled turns (map exchange_of link.new.asks.items) marks.new.items) }
+    ensures time { OnOk result (OnTime poll_moment link.new) }
 {
     let mut clock = clock();
     // It draws no word, since it has no periodic jobs.

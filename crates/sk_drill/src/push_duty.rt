@@ -2,7 +2,7 @@
 ghost use Rattle.std.specs.Prelude.{◌≡◌, [], IfOk, IfSome, OnOk, map, true};
 ghost use Rattle.sk_compare.specs.Exchange.{exchange_of};
 ghost use Rattle.sk_drill.specs.Crews.{PushedAt};
-ghost use Rattle.sk_drill.specs.Telling.{PushesOne, Pushed};
+ghost use Rattle.sk_drill.specs.Telling.{OnTime, PushesOne, Pushed, StaysOnTime, push_moment};
 
 use crate::Memory;
 use crate::duty::Duty;
@@ -16,7 +16,8 @@ use std::alloc::Global;
 
 // Pushes one job over a link.
 fn push_one<D: Desk>(alloc: Global, link: &mut SeatLink<D, StepClock>, k: u64) -> Result<(), Memory>
-    ensures { OnOk result (PushesOne k (map exchange_of link.old.asks.items) (map exchange_of link.new.asks.items)) }
+    ensures pushed { OnOk result (PushesOne k (map exchange_of link.old.asks.items) (map exchange_of link.new.asks.items)) }
+    ensures time { OnOk result (StaysOnTime link.old link.new) }
 {
     let words = push(alloc, k, b"default")?;
     match link.call(alloc, &words) {
@@ -31,8 +32,10 @@ fn push_all<D: Desk>(
     link: &mut SeatLink<D, StepClock>,
     jobs: u64,
 ) -> Result<(), Memory>
-    requires { link.old.asks.items ≡ [] }
-    ensures { OnOk result (Pushed jobs (map exchange_of link.new.asks.items)) }
+    requires empty { link.old.asks.items ≡ [] }
+    requires clock { link.old.clock ≡ record { now = 1700000000000; step = 0 } }
+    ensures pushed { OnOk result (Pushed jobs (map exchange_of link.new.asks.items)) }
+    ensures time { OnOk result (OnTime push_moment link.new) }
 {
     for k in 0..jobs {
         push_one(alloc, link, k + 1)?;
