@@ -1,2 +1,3 @@
 mod Zips
 mod Requests
+mod Foreigners

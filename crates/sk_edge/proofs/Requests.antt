@@ -2,7 +2,7 @@
 use Rattle.std.proofs.Common.{◌≡◌, ◌≢◌, ◌<◌, ◌≤◌, ◌+◌, ◌↔◌, ◌∙◌, ℕ, [], ◌∷◌, ◌++◌, Option, Some, None, IsTrue, MatchOption, is_some, length, take, drop, get_or, refl, sym, ap, subst, arith, append_assoc, length-append}
 use Rattle.std.proofs.lemmas.List.{length-take-le, take_all, take_more, drop_more, take-append-drop}
 use Rattle.sk_base.specs.declared.limits.TheConstants.{LONGEST_INLINE}
-use Rattle.sk_edge.specs.RequestLine.{Bytes, Lacks, StandsFirst, IsVersion, IsBeforeVersion, IsRequestLine, IsRequest, NoStar, BeginsHttp, Passes}
+use Rattle.sk_edge.specs.RequestLine.{Bytes, Lacks, StandsFirst, IsVersion, IsBeforeVersion, IsRequestLine, IsRequest, NoStar, BeginsHttp, NeverHttp}
 
 pub lacks_append : (byte : ℕ) (a b : Bytes) → Lacks byte a → Lacks byte b → Lacks byte (a ++ b)
 lacks_append byte [] b p q = q
@@ -91,17 +91,17 @@ first_append [] more lt = absurd (omega arith)
 first_append (b ∷ bytes) more lt = refl
 
 -- a text that begins with a star
-pub passes_star : (bytes : Bytes) → 0 < length bytes → get_or bytes 0 0 ≡ 42 → Passes bytes
+pub passes_star : (bytes : Bytes) → 0 < length bytes → get_or bytes 0 0 ≡ 42 → NeverHttp bytes
 passes_star bytes lt is = λ more h. star_line (bytes ++ more) h.line h.behind h.is (first_append bytes more lt ∙ is) h.no_star
 
 -- a line that is known
-pub passes_line : (line behind : Bytes) → Lacks 10 line → (IsRequest line → length line ≤ LONGEST_INLINE → ⊥) → Passes (line ++ 10 ∷ behind)
+pub passes_line : (line behind : Bytes) → Lacks 10 line → (IsRequest line → length line ≤ LONGEST_INLINE → ⊥) → NeverHttp (line ++ 10 ∷ behind)
 passes_line line behind p none =
     λ more h. let same : h.line ≡ line = first_lf h.line line h.behind (behind ++ more) h.no_lf p (sym h.is ∙ append_assoc line (10 ∷ behind) more) in
     none (subst (λ z. IsRequest z) same h.request) (subst (λ z. length z ≤ LONGEST_INLINE) same h.short)
 
 -- a line that is too long
-pub passes_long : (bytes : Bytes) → Lacks 10 bytes → LONGEST_INLINE < length bytes → Passes bytes
+pub passes_long : (bytes : Bytes) → Lacks 10 bytes → LONGEST_INLINE < length bytes → NeverHttp bytes
 passes_long bytes p long =
     λ more h. let past : length bytes ≤ length h.line = lf_past bytes h.line more h.behind p h.is in
     let short : length h.line ≤ LONGEST_INLINE = h.short in
@@ -121,7 +121,7 @@ begins_at bytes at s plain short r =
       is = s.2;
     }
 
-pub passes_at : (bytes : Bytes) (at : ℕ) → StandsFirst 10 bytes at → (IsRequest (take at bytes) → at ≤ LONGEST_INLINE → ⊥) → Passes bytes
+pub passes_at : (bytes : Bytes) (at : ℕ) → StandsFirst 10 bytes at → (IsRequest (take at bytes) → at ≤ LONGEST_INLINE → ⊥) → NeverHttp bytes
 passes_at bytes at s none =
     let len : length (take at bytes) ≡ at = length-take-le at bytes (omega (arith, s.1)) in
-    subst (λ z. Passes z) (sym s.2) (passes_line (take at bytes) (drop (at + 1) bytes) s.0 (λ r short. none r (omega (arith, len, short))))
+    subst (λ z. NeverHttp z) (sym s.2) (passes_line (take at bytes) (drop (at + 1) bytes) s.0 (λ r short. none r (omega (arith, len, short))))

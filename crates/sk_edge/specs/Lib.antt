@@ -4,5 +4,6 @@ pub mod Memory
 pub mod Draw
 pub mod Faults
 pub mod RequestLine
+pub mod Foreign
 pub mod FirstLine
 pub mod Discipline

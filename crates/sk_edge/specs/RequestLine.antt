@@ -71,5 +71,5 @@ pub record BeginsHttp (bytes : Bytes) : Type 0 where
   pub is : bytes ≡ line ++ lf ∷ behind
 
 -- Whatever comes behind these bytes, the stream doesn't begin with a request of HTTP.
-abbrev pub Passes : Bytes → Type 0
-Passes bytes = (more : Bytes) → BeginsHttp (bytes ++ more) → ⊥
+abbrev pub NeverHttp : Bytes → Type 0
+NeverHttp bytes = (more : Bytes) → BeginsHttp (bytes ++ more) → ⊥

@@ -1,8 +1,10 @@
 // The first line of a stream, which is held back until it is known to be no request of HTTP. A page that a browser shows can make it send such a
 // request to any port of the machine, with commands of the store in its body; so no byte of it is handed on. What a reader of commands refuses by
-// itself passes at once: an array, and a line with more bytes than an inline command may have.
+// itself passes at once: an array, and a line with more bytes than an inline command may have. A page can also have a handshake of TLS sent, with a
+// session ticket that its own server made, so no byte of that is handed on either.
 ghost use Rattle.std.specs.Prelude.{◌≡◌, ◌≢◌, ◌<◌, ◌≤◌, ◌++◌, ◌↔◌, [], length, slice_index, take, IsTrue, OnOk, OnErr};
-ghost use Rattle.sk_edge.specs.RequestLine.{lf, star, Bytes, BeginsHttp, Lacks, Passes};
+ghost use Rattle.sk_edge.specs.RequestLine.{lf, star, Bytes, BeginsHttp, Lacks, NeverHttp};
+ghost use Rattle.sk_edge.specs.Foreign.{BeginsTls, IsForeign, Passes};
 
 use crate::request_line::{find, is_request};
 use sk_base::limits::LONGEST_INLINE;
@@ -14,9 +16,9 @@ use std::marker::Model;
 pub(crate) enum Stage {
     /// It may still become a request of HTTP.
     Open,
-    /// It is none, whatever comes.
+    /// It is none, nor a handshake of TLS, whatever comes.
     Passed,
-    /// It is one, or there was no memory to hold it. Nothing is handed on.
+    /// It is one of these, or there was no memory to hold it. Nothing is handed on.
     Shut,
 }
 
@@ -49,12 +51,25 @@ fn is_array(bytes: &[u8]) -> bool
     !bytes.is_empty() && bytes[0] == b'*'
 }
 
-// What is known of a first line by these bytes, where no LF is among so many at the front.
-fn stage_of(bytes: &[u8], from: usize) -> Stage
+// The first byte of a record of TLS that carries a handshake.
+const HANDSHAKE: u8 = 22;
+
+// Whether a handshake of TLS begins.
+fn is_handshake(bytes: &[u8]) -> bool
+    ensures { IsTrue result ↔ BeginsTls bytes.now }
+{
+    match bytes {
+        [first, ..] => *first == HANDSHAKE,
+        [] => false,
+    }
+}
+
+// What is known of a first line of no handshake, by these bytes, where no LF is among so many at the front.
+fn line_stage(bytes: &[u8], from: usize) -> Stage
     requires within { from ≤ length bytes.now }
     requires looked { Lacks lf (take from bytes.now) }
     ensures open { result ≡ Stage.Open → Lacks lf bytes.now × (length bytes.now ≤ LONGEST_INLINE) }
-    ensures passed { result ≡ Stage.Passed → Passes bytes.now }
+    ensures passed { result ≡ Stage.Passed → NeverHttp bytes.now }
     ensures shut { result ≡ Stage.Shut → BeginsHttp bytes.now }
 {
     if is_array(bytes) {
@@ -72,6 +87,21 @@ fn stage_of(bytes: &[u8], from: usize) -> Stage
             Stage::Passed
         },
     }
+}
+
+// What is known of a first line by these bytes, where no LF is among so many at the front.
+#[tactic(auto, using(crate::proofs::Foreigners::passes_both))]
+fn stage_of(bytes: &[u8], from: usize) -> Stage
+    requires within { from ≤ length bytes.now }
+    requires looked { Lacks lf (take from bytes.now) }
+    ensures open { result ≡ Stage.Open → Lacks lf bytes.now × (length bytes.now ≤ LONGEST_INLINE) }
+    ensures passed { result ≡ Stage.Passed → 0 < length bytes.now → Passes bytes.now }
+    ensures shut { result ≡ Stage.Shut → IsForeign bytes.now }
+{
+    if is_handshake(bytes) {
+        return Stage::Shut;
+    }
+    line_stage(bytes, from)
 }
 
 impl FirstLine {
@@ -131,13 +161,14 @@ impl FirstLine {
     }
 
     /// Takes the next piece of the stream. An empty piece is the stream's end, which no line ends.
+    #[tactic(auto, using(crate::proofs::Foreigners::foreign_more))]
     pub(crate) fn take(&mut self, piece: &[u8]) -> Result<(), AllocError>
         requires { self.old.stage ≡ Stage.Open }
         ensures held { OnOk result (self.new.held ≡ self.old.held ++ piece.now) }
         ensures open { OnOk result (self.new.stage ≡ Stage.Open → 0 < length piece.now) }
         ensures passed { OnOk result (self.new.stage ≡ Stage.Passed → 0 < length piece.now → Passes (self.old.held ++ piece.now)) }
         ensures end { OnOk result (self.new.stage ≡ Stage.Passed → piece.now ≡ [] → Lacks lf self.old.held) }
-        ensures refused { OnOk result (self.new.stage ≡ Stage.Shut → (more : Bytes) → BeginsHttp ((self.old.held ++ piece.now) ++ more)) }
+        ensures refused { OnOk result (self.new.stage ≡ Stage.Shut → (more : Bytes) → IsForeign ((self.old.held ++ piece.now) ++ more)) }
         ensures err { OnErr result (self.new.stage ≡ Stage.Shut) }
     {
         if piece.is_empty() {

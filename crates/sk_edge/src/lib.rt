@@ -2,6 +2,7 @@
 #![tactic(auto)]
 
 mod collector;
+mod connections;
 mod discipline;
 mod door;
 mod first_line;
@@ -14,6 +15,7 @@ mod request_line;
 mod tcp_conn;
 mod tcp_door;
 mod tcp_ear;
+mod turn;
 
 pub use door::{Door, DoorFault, Ear};
 pub use mem_door::MemDoor;

@@ -3,6 +3,7 @@
 // What couldn't be sent is given up, so that nothing is sent twice. A client's first line is held back until it is known to be no request of HTTP.
 ghost use Rattle.std.specs.Prelude.{◌≡◌, ◌<◌, ◌≤◌, None, length, IfSome, refl};
 
+use crate::connections::Place;
 use crate::first_line::{FirstLine, Stage};
 use sk_base::limits::LARGEST_BATCH;
 use sk_base::{Conn, Duplex, Failed, Sink, Source};
@@ -18,6 +19,8 @@ pub struct TcpConn {
     first: FirstLine,
     // what was written and not sent yet
     gathered: Vec<u8>,
+    // of a client, as long as it is served
+    place: Option<Place>,
     read_faults: u64,
     write_faults: u64,
 }
@@ -93,17 +96,17 @@ impl TcpConn {
     pub fn new(alloc: Global, stream: TcpStream) -> TcpConn
         ensures { result ≡ record { reads = 0; writes = 0 } }
     {
-        TcpConn::over(alloc, stream, FirstLine::passed(alloc))
+        TcpConn::over(alloc, stream, FirstLine::passed(alloc), None)
     }
 
     // The same to a client, of which no read gives anything where it begins with a request of HTTP.
-    pub(crate) fn accepted(alloc: Global, stream: TcpStream) -> TcpConn
+    pub(crate) fn accepted(alloc: Global, stream: TcpStream, place: Option<Place>) -> TcpConn
         ensures { result ≡ record { reads = 0; writes = 0 } }
     {
-        TcpConn::over(alloc, stream, FirstLine::new(alloc))
+        TcpConn::over(alloc, stream, FirstLine::new(alloc), place)
     }
 
-    fn over(alloc: Global, stream: TcpStream, first: FirstLine) -> TcpConn
+    fn over(alloc: Global, stream: TcpStream, first: FirstLine, place: Option<Place>) -> TcpConn
         ensures { result ≡ record { reads = 0; writes = 0 } }
     {
         // Where the option can't be set the connection is slower, and no less right.
@@ -112,6 +115,7 @@ impl TcpConn {
             stream,
             first,
             gathered: Vec::new(alloc),
+            place,
             read_faults: 0,
             write_faults: 0,
         }
@@ -216,16 +220,18 @@ impl Duplex for TcpConn {
 
 impl Conn for TcpConn {}
 
-/// What was gathered is sent, where that can be.
+/// What was gathered is sent, where that can be. Then it is closed, and no ear shuts it down any more.
 impl Drop for TcpConn {
     fn drop(self) {
         let TcpConn {
             mut stream,
             first: _,
             gathered,
+            place,
             read_faults: _,
             write_faults: _,
         } = self;
         let _ = send_all(&mut stream, &gathered);
+        drop(place);
     }
 }

@@ -1,10 +1,12 @@
 -- What the accept loops of a server did, and what came of all its connections.
-use Rattle.std.specs.Prelude.{◌≡◌, ◌≢◌, ◌⊎◌, ℕ, ◌+◌, ◌-◌, ◌*◌, ◌/◌, ◌^◌, ◌<◌, ◌≤◌, All, List, [], length, map, Option, Result, Ok, Err, Bool, true, false}
+use Rattle.std.specs.Prelude.{◌≡◌, ◌≢◌, ◌⊎◌, ℕ, ◌+◌, ◌-◌, ◌*◌, ◌/◌, ◌^◌, ◌<◌, ◌≤◌, All, List, [], length, map, Option, Some, None, Result, Ok, Err, Bool, true, false}
 use Rattle.std.specs.List.{Any, sum_by}
 use Rattle.sk_base.specs.Outside.{Rose}
 use Rattle.sk_base.specs.declared.clock.Clock as a_clock
 use Rattle.sk_base.specs.declared.sink.Sink as a_sink
 use Rattle.sk_base.specs.declared.source.Source as a_source
+use Rattle.sk_desk.specs.declared.hub.HubFault.{HubFault}
+use Rattle.sk_desk.specs.declared.hub.HubFault.TheVariants as hub_fault
 use Rattle.sk_desk.specs.Pass.{PassView}
 use Rattle.sk_desk.specs.State.{IsBalanced}
 use Rattle.sk_edge.specs.Collected.{Collected, Keeps, MakesRoom}
@@ -86,6 +88,22 @@ IsSettled sessions loops = ((0 < sessions) × All (λ it. it.served ≡ sessions
 -- The loop's numbers were used up.
 abbrev pub IsUsed : {E K : Type 0} → LoopView E K → Type 0
 IsUsed l = (l.end ≡ loop_end.Spent) × (l.served ≡ l.numbers)
+
+-- how a loop ends that had no seat for a connection
+abbrev pub end_of : HubFault → LoopEnd
+end_of hub_fault.Spent = loop_end.Spent
+end_of hub_fault.Memory = loop_end.Memory
+
+-- None of the loops ended so.
+abbrev pub NoneAt : {E K : Type 0} → LoopEnd → List (LoopView E K) → Type 0
+NoneAt how loops = All (λ l. l.end ≢ how) loops
+
+-- The loops' gravest fault: that an ear failed; else that numbers were used up; else that there was no memory. None where no loop ended by one of these.
+abbrev pub IsGravest : {E K : Type 0} → List (LoopView E K) → Option ServeFault → Type 0
+IsGravest loops (Some fault.Failed) = Any (λ l. l.end ≡ loop_end.Failed) loops
+IsGravest loops (Some fault.Spent) = NoneAt loop_end.Failed loops × Any IsUsed loops
+IsGravest loops (Some fault.Memory) = NoneAt loop_end.Failed loops × (NoneAt loop_end.Spent loops × Any (λ l. l.end ≡ loop_end.Memory) loops)
+IsGravest loops None = NoneAt loop_end.Failed loops × (NoneAt loop_end.Spent loops × NoneAt loop_end.Memory loops)
 
 -- ## Ears
 

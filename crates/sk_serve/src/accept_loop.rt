@@ -2,10 +2,11 @@
 ghost use Rattle.std.specs.Prelude.{◌≡◌, ◌≢◌, ◌⊎◌, ◌≤◌, ◌*◌, ◌↔◌, IfOk, IfErr, IsTrue, Err, false};
 ghost use Rattle.sk_base.specs.Outside.{Rose};
 ghost use Rattle.sk_edge.specs.Doors.{IsNudged};
-ghost use Rattle.sk_serve.specs.Server.{Runs, ServesOne, stands};
+ghost use Rattle.sk_serve.specs.Server.{Runs, ServesOne, end_of, stands};
 ghost use Rattle.sk_desk.specs.declared.hub.HubFault.TheVariants as hub_fault;
 
 use crate::gate::{Gate, GatedDesk};
+use crate::reserve::Reserve;
 use crate::shared::Shared;
 use crate::{SessionEnd, session};
 use sk_base::{Clock, Duplex, Failed};
@@ -58,6 +59,7 @@ fn serve_one<R: Wait + Sync, C: Duplex, K: Clock, I: HubId, G: Gate>(
     pass: &mut Pass<I>,
     conn: &mut C,
     clock: &mut K,
+    reserve: &mut Reserve,
 ) -> Result<SessionEnd, HubFault>
     ensures parts { pass.new.parts ≡ pass.old.parts }
     ensures served { IfOk result (λ end. ServesOne C.Source C.Sink K.Clock pass.old clock.old conn.old end pass.new clock.new conn.new) }
@@ -66,9 +68,11 @@ fn serve_one<R: Wait + Sync, C: Duplex, K: Clock, I: HubId, G: Gate>(
 {
     let desk = shared.hub.seat(shared.rt, pass)?;
     let seat = desk.number();
-    let mut gated = GatedDesk::new(desk, shared.gate, seat);
+    let mut gated = GatedDesk::new(desk, shared.gate, reserve.take(), seat);
     let end = session(shared.alloc, &mut gated, conn, clock);
-    gated.into_desk().end(pass);
+    let (desk, kept) = gated.into_parts();
+    *reserve = kept;
+    desk.end(pass);
     Ok(end)
 }
 
@@ -91,7 +95,7 @@ fn wake<E: Ear>(ear: &mut E, others: usize) -> Result<(), Failed>
 
 // How a loop ends where there was no seat.
 fn end_at(fault: HubFault) -> LoopEnd
-    ensures spent { result ≡ LoopEnd.Spent → fault ≡ hub_fault.Spent }
+    ensures is { result ≡ end_of fault }
     ensures failed { result ≢ LoopEnd.Failed }
     ensures cause { result ≢ LoopEnd.Done }
 {
@@ -137,7 +141,11 @@ impl<E: Ear, K: Clock, I: HubId> AcceptLoop<E, K, I> {
     }
 
     // Waits for the next connection and serves it. False where the loop has ended.
-    fn step<R: Wait + Sync, G: Gate>(&mut self, shared: &Shared<'_, R, I, G>) -> bool
+    fn step<R: Wait + Sync, G: Gate>(
+        &mut self,
+        shared: &Shared<'_, R, I, G>,
+        reserve: &mut Reserve,
+    ) -> bool
         requires { self.old.end ≡ LoopEnd.Done }
         ensures { Runs E.Ear E.Conn.Source E.Conn.Sink K.Clock shared.now.others self.old self.new }
     {
@@ -149,7 +157,7 @@ impl<E: Ear, K: Clock, I: HubId> AcceptLoop<E, K, I> {
             self.ear.leave(conn);
             return false;
         }
-        let served = serve_one(shared, &mut self.pass, &mut conn, &mut self.clock);
+        let served = serve_one(shared, &mut self.pass, &mut conn, &mut self.clock, reserve);
         self.ear.leave(conn);
         match served {
             Ok(SessionEnd::Shutdown) => {
@@ -180,8 +188,9 @@ impl<E: Ear, K: Clock, I: HubId> AcceptLoop<E, K, I> {
     pub fn run<R: Wait + Sync, G: Gate>(&mut self, shared: &Shared<'_, R, I, G>)
         ensures { Runs E.Ear E.Conn.Source E.Conn.Sink K.Clock shared.now.others self.old self.new }
     {
+        let mut reserve = Reserve::new(shared.alloc);
         for _ in shared.rt.forever() {
-            if self.is_over(shared.sessions) || !self.step(shared) {
+            if self.is_over(shared.sessions) || !self.step(shared, &mut reserve) {
                 return;
             }
         }
@@ -196,7 +205,7 @@ impl<E: Ear, K: Clock, I: HubId> AcceptLoop<E, K, I> {
     // Its pass was used up.
     #[tactic(auto, using(crate::proofs::Loops::all_used))]
     pub fn is_spent(&self) -> bool
-        ensures end { IsTrue result → self.now.end ≡ LoopEnd.Spent }
+        ensures end { IsTrue result ↔ self.now.end ≡ LoopEnd.Spent }
         ensures all { IsTrue result → self.now.served ≡ self.now.numbers }
     {
         self.end == LoopEnd::Spent

@@ -1,9 +1,10 @@
-// What holds a session back before each call of its desk, for tests.
+// What stands before each call of a session's desk: a gate that holds it back, for tests, and the loop's reserve of memory.
 ghost use Rattle.std.specs.Prelude.{◌≡◌};
 
-use sk_cmd::Command;
+use crate::reserve::Reserve;
+use sk_cmd::{Command, PlainCommand};
 use sk_desk::Desk;
-use sk_resp::{Reply, Words};
+use sk_resp::{Reply, Say, Words};
 
 /// Is passed before each call of a desk.
 pub trait Gate: Sync {
@@ -19,38 +20,66 @@ impl Gate for OpenGate {
     fn pass(&self, _seat: u32, _turn: u64) {}
 }
 
-/// A desk behind a gate.
+// Whether the command keeps no memory: it only reads, or takes something away, or ends the session.
+fn keeps_nothing(command: &Command) -> bool {
+    command.is_read()
+        || matches!(
+            command,
+            Command::Plain(
+                PlainCommand::Shutdown
+                    | PlainCommand::Flushall
+                    | PlainCommand::Del(..)
+                    | PlainCommand::Lrem(..)
+                    | PlainCommand::Srem(..)
+                    | PlainCommand::Hdel(..)
+                    | PlainCommand::Zrem(..)
+                    | PlainCommand::Zremrangebyrank(..)
+                    | PlainCommand::Zremrangebyscore(..)
+            )
+        )
+}
+
+fn is_oom(reply: &Reply) -> bool {
+    matches!(reply, Reply::Say(Say::Oom))
+}
+
+/// A desk behind a gate, and a reserve. Where memory is used up, a command that keeps some is answered so without a call, unless the reserve is whole.
 #[derive(Drop)]
 pub struct GatedDesk<'g, D: Desk + Drop, G: Gate> {
     desk: D,
     gate: &'g G,
+    reserve: Reserve,
     seat: u32,
     // how many calls were made
     calls: u64,
 }
 
 impl<'g, D: Desk + Drop, G: Gate> GatedDesk<'g, D, G> {
-    pub fn new(desk: D, gate: &'g G, seat: u32) -> GatedDesk<'g, D, G>
+    pub fn new(desk: D, gate: &'g G, mut reserve: Reserve, seat: u32) -> GatedDesk<'g, D, G>
         ensures { result.desk ≡ desk }
     {
+        reserve.settle();
         GatedDesk {
             desk,
             gate,
+            reserve,
             seat,
             calls: 0,
         }
     }
 
-    pub fn into_desk(self) -> D
-        ensures { result ≡ self.entry.desk }
+    /// The desk, and the reserve.
+    pub fn into_parts(self) -> (D, Reserve)
+        ensures { result.0 ≡ self.entry.desk }
     {
         let GatedDesk {
             desk,
             gate: _,
+            reserve,
             seat: _,
             calls: _,
         } = self;
-        desk
+        (desk, reserve)
     }
 }
 
@@ -68,7 +97,14 @@ impl<'g, D: Desk + Drop, G: Gate> Desk for GatedDesk<'g, D, G> {
     fn call(&mut self, words: &Words, command: Command, now: u64) -> Reply {
         self.calls = self.calls.saturating_add(1);
         self.gate.pass(self.seat, self.calls);
-        self.desk.call(words, command, now)
+        if !self.desk.wants_words() && !keeps_nothing(&command) && !self.reserve.hold() {
+            return Reply::Say(Say::Oom);
+        }
+        let reply = self.desk.call(words, command, now);
+        if !self.reserve.is_whole() || is_oom(&reply) {
+            self.reserve.settle();
+        }
+        reply
     }
 
     ghost untold = { λ d none. D.untold d.desk none };

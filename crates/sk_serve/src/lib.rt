@@ -4,6 +4,7 @@
 mod accept_loop;
 mod driver;
 mod gate;
+mod reserve;
 mod serve_end;
 mod server;
 mod shared;

@@ -1,8 +1,8 @@
 // A server: accept loops in threads over one store, each with an ear, a clock and a pass of its own. Once they have ended their passes are joined, the
 // ears go back to the door, and the store is closed.
-ghost use Rattle.std.specs.Prelude.{◌≡◌, ◌+◌, ◌-◌, ◌*◌, ◌/◌, ◌<◌, ◌≤◌, ℕ, OnOk, Some, Err, true, map, reverse, vec_len, vec_capacity, All};
+ghost use Rattle.std.specs.Prelude.{◌≡◌, ◌+◌, ◌-◌, ◌*◌, ◌/◌, ◌<◌, ◌≤◌, ℕ, OnOk, Some, Err, true, false, map, reverse, vec_len, vec_capacity, All};
 ghost use Rattle.std.specs.List.{AllZip, Any, sum_by};
-ghost use Rattle.sk_serve.specs.Server.{HasEnded, HaveEnded, IsFresh, IsSettled, IsUsed, Runs};
+ghost use Rattle.sk_serve.specs.Server.{HasEnded, HaveEnded, IsFresh, IsGravest, IsSettled, IsUsed, NoneAt, Runs};
 
 use crate::accept_loop::{AcceptLoop, LoopEnd};
 use crate::gate::Gate;
@@ -89,21 +89,29 @@ fn run_all<
 }
 
 fn some_failed<E: Ear, K: Clock, I: HubId>(loops: &[AcceptLoop<E, K, I>]) -> bool
-    ensures { result ≡ true → Any (λ it. it.end ≡ LoopEnd.Failed) loops.now }
+    ensures some { result ≡ true → Any (λ it. it.end ≡ LoopEnd.Failed) loops.now }
+    ensures none { result ≡ false → NoneAt LoopEnd.Failed loops.now }
 {
     loops.iter().any(|it| it.is_at(LoopEnd::Failed))
 }
 
 fn some_spent<E: Ear, K: Clock, I: HubId>(loops: &[AcceptLoop<E, K, I>]) -> bool
-    ensures { result ≡ true → Any (λ it. IsUsed it) loops.now }
+    ensures some { result ≡ true → Any (λ it. IsUsed it) loops.now }
+    ensures none { result ≡ false → NoneAt LoopEnd.Spent loops.now }
 {
     loops.iter().any(|it| it.is_spent())
 }
 
+fn some_starved<E: Ear, K: Clock, I: HubId>(loops: &[AcceptLoop<E, K, I>]) -> bool
+    ensures some { result ≡ true → Any (λ it. it.end ≡ LoopEnd.Memory) loops.now }
+    ensures none { result ≡ false → NoneAt LoopEnd.Memory loops.now }
+{
+    loops.iter().any(|it| it.is_at(LoopEnd::Memory))
+}
+
 // The loops' gravest fault.
 fn fault_of<E: Ear, K: Clock, I: HubId>(loops: &[AcceptLoop<E, K, I>]) -> Option<ServeFault>
-    ensures failed { result ≡ Some ServeFault.Failed → Any (λ it. it.end ≡ LoopEnd.Failed) loops.now }
-    ensures spent { result ≡ Some ServeFault.Spent → Any (λ it. IsUsed it) loops.now }
+    ensures { IsGravest loops.now result }
 {
     if some_failed(loops) {
         return Some(ServeFault::Failed);
@@ -111,7 +119,7 @@ fn fault_of<E: Ear, K: Clock, I: HubId>(loops: &[AcceptLoop<E, K, I>]) -> Option
     if some_spent(loops) {
         return Some(ServeFault::Spent);
     }
-    if loops.iter().any(|it| it.is_at(LoopEnd::Memory)) {
+    if some_starved(loops) {
         return Some(ServeFault::Memory);
     }
     None

@@ -17,6 +17,6 @@ returns-clause-served g c =
           read_fault = c.session-end.ensures.read_fault;
           write_fault = c.session-end.ensures.write_fault;
         },
-        omega (arith, ap (λ (p : PassView). p.amount) ended, ap (λ (p : PassView). p.amount) c.in_ok-desk.ensures.pass, ap (λ (d : DeskView). d.amount) c.into_desk.ensures),
+        omega (arith, ap (λ (p : PassView). p.amount) ended, ap (λ (p : PassView). p.amount) c.in_ok-desk.ensures.pass, ap (λ (d : DeskView). d.amount) c.into_parts-desk.ensures),
       ),
     )

@@ -1,8 +1,8 @@
 use Rattle.std.proofs.Common.{arith}
 use Rattle.sk_edge.specs.RequestLine.{Lacks, StandsFirst}
 use Rattle.sk_edge.proofs.Requests.{begins_at, passes_at, passes_long, passes_star}
-use Rattle.sk_edge.proofs.first_line.stage_of.Goals as goal
-use Rattle.sk_edge.proofs.first_line.stage_of.Goals.{else-at-le-LONGEST_INLINE-via-then-at-le-LONGEST_INLINE+else-is_request, else-at-le-LONGEST_INLINE-via-else-at-le-LONGEST_INLINE}
+use Rattle.sk_edge.proofs.first_line.line_stage.Goals as goal
+use Rattle.sk_edge.proofs.first_line.line_stage.Goals.{else-at-le-LONGEST_INLINE-via-then-at-le-LONGEST_INLINE+else-is_request, else-at-le-LONGEST_INLINE-via-else-at-le-LONGEST_INLINE}
 
 pub returns-then-is_array-clause-passed : goal.returns-then-is_array-clause-passed
 returns-then-is_array-clause-passed c =
