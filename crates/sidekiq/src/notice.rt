@@ -1,6 +1,7 @@
 // What the program tells people on standard error: what it is about to do, and why it ended, where its output doesn't say so.
 use sk_line::{
-    Address, ServeLine, WorkLine, help_of, read_push, read_serve, read_status, read_work,
+    Address, DrillLine, ServeLine, WorkLine, help_of, read_drill, read_iterate, read_limit,
+    read_push, read_serve, read_status, read_work,
 };
 use sk_policy::QueueOrder;
 use std::alloc::{AllocError, Global};
@@ -8,12 +9,15 @@ use std::io;
 use std::net::ToSocketAddrs;
 
 /// What is told where the words begin with no program's name.
-const USAGE: &str = "usage: sidekiq pipe | serve | work | push | status | soak | drill\n\n\
+const USAGE: &str =
+    "usage: sidekiq pipe | serve | work | push | status | limit | iterate | soak | drill | --version\n\n\
     pipe    commands on standard input, replies on standard output\n\
     serve   a server for Redis's clients\n\
     work    workers and a poller for a server\n\
     push    pushes one job to a server\n\
     status  asks a server for its page\n\
+    limit   asks a limiter of a server for a slot or a grant\n\
+    iterate runs items from the cursor that a server keeps\n\
     soak    makes a large run from a number\n\
     drill   the same in threads, with crashes, beside its journal\n\n\
     `sidekiq COMMAND --help` shows the options of one.";
@@ -23,8 +27,9 @@ const USAGE: &str = "usage: sidekiq pipe | serve | work | push | status | soak |
 pub enum Notice {
     Serve(ServeLine),
     Work(WorkLine),
-    /// `push` or `status`, of this store.
+    /// `push`, `status`, `limit` or `iterate`, of this store.
     Ask(Address),
+    Drill(DrillLine),
     /// Other words, and words that are refused.
     Other,
 }
@@ -43,7 +48,7 @@ fn names(alloc: Global, order: &QueueOrder) -> Result<String, AllocError> {
 
 fn serving(rt: &HostRuntime, line: &ServeLine) -> io::Result<()> {
     eprintln!(rt;
-        "sidekiq: serving at 127.0.0.1:{}, {} connections at a time; further ones wait",
+        "sidekiq: going to serve at 127.0.0.1:{}, {} connections at a time; further ones wait",
         line.port, line.loops
     )?;
     eprintln!(rt;
@@ -71,7 +76,7 @@ fn unreachable(rt: &HostRuntime, address: &Address) -> io::Result<()> {
     match (host, address.port).to_socket_addrs(rt) {
         Ok(_) => {
             eprintln!(rt;
-                "sidekiq: no server at {host}:{}, or the connection was lost",
+                "sidekiq: no server at {host}:{}, or the connection was lost, or nothing came from it",
                 address.port
             )
         }
@@ -79,11 +84,30 @@ fn unreachable(rt: &HostRuntime, address: &Address) -> io::Result<()> {
     }
 }
 
-// Tells why words were refused, or the help that they ask for, as clap says it.
+// Why there is no server, or no longer one.
+fn unserved(rt: &HostRuntime, line: &ServeLine, cause: Option<&io::Error>) -> io::Result<()> {
+    match cause {
+        Some(error) => eprintln!(rt;
+            "sidekiq: can't serve at port {} with {} loops: {error}",
+            line.port, line.loops
+        ),
+        None => eprintln!(rt; "sidekiq: the server at port {} has failed", line.port),
+    }
+}
+
+// Tells of words that begin with no program's name, or with one that takes no others.
+fn unknown(rt: &HostRuntime, words: &[String]) -> io::Result<()> {
+    match words {
+        [] => eprintln!(rt; "sidekiq: bad command line\n{USAGE}"),
+        [name, ..] => eprintln!(rt; "sidekiq: bad command line: {name}\n{USAGE}"),
+    }
+}
+
+// Tells why words were refused, or the help that they ask for.
 fn refused(rt: &HostRuntime, words: &[String]) -> io::Result<()> {
     match help_of(rt.alloc(), words) {
         Ok(Some(text)) => eprintln!(rt; "{text}"),
-        _ => eprintln!(rt; "sidekiq: bad command line\n{USAGE}"),
+        _ => unknown(rt, words),
     }
 }
 
@@ -115,8 +139,40 @@ impl Notice {
                 Ok(line) => Notice::Ask(line.address),
                 Err(_) => Notice::Other,
             },
+            "limit" => match read_limit(alloc, words) {
+                Ok(line) => Notice::Ask(line.address),
+                Err(_) => Notice::Other,
+            },
+            "iterate" => match read_iterate(alloc, words) {
+                Ok(line) => Notice::Ask(line.address),
+                Err(_) => Notice::Other,
+            },
+            "drill" => match read_drill(alloc, words, teams) {
+                Ok(line) => Notice::Drill(line),
+                Err(_) => Notice::Other,
+            },
             _ => Notice::Other,
         }
+    }
+
+    /// How many threads the program starts beside its own, which takes part: none where it starts none at all.
+    pub fn threads(&self) -> Option<usize> {
+        match self {
+            // a loop each
+            Notice::Serve(line) => Some((line.loops as usize).saturating_sub(1)),
+            // the poller, and a worker each
+            Notice::Work(line) => Some(line.threads as usize),
+            // who pushes, the poller, and a worker each
+            Notice::Drill(line) => Some((line.workers as usize).saturating_add(1)),
+            Notice::Ask(_) | Notice::Other => None,
+        }
+    }
+
+    /// Tells that the system doesn't give the program so many threads.
+    pub fn crowded(&self, rt: &HostRuntime, threads: usize) -> io::Result<()> {
+        eprintln!(rt;
+            "sidekiq: the system doesn't give {threads} threads (see ulimit -u for their number, and ulimit -v for their stacks)"
+        )
     }
 
     /// Tells what a server or workers are about to do.
@@ -124,18 +180,22 @@ impl Notice {
         match self {
             Notice::Serve(line) => serving(rt, line),
             Notice::Work(line) => working(rt, line),
-            Notice::Ask(_) | Notice::Other => Ok(()),
+            Notice::Ask(_) | Notice::Drill(_) | Notice::Other => Ok(()),
         }
     }
 
-    /// Tells why the program ended so.
-    pub fn after(&self, rt: &HostRuntime, words: &[String], status: u8) -> io::Result<()> {
+    /// Tells why the program ended so, with this last error of its door.
+    pub fn after(
+        &self,
+        rt: &HostRuntime,
+        words: &[String],
+        status: u8,
+        cause: Option<&io::Error>,
+    ) -> io::Result<()> {
         match (status, self) {
             (2, _) => refused(rt, words),
             (5, _) => eprintln!(rt; "sidekiq: out of memory"),
-            (6, Notice::Serve(line)) => {
-                eprintln!(rt; "sidekiq: can't serve at port {}: is it taken?", line.port)
-            }
+            (6, Notice::Serve(line)) => unserved(rt, line, cause),
             (6, Notice::Work(line)) => unreachable(rt, &line.address),
             (6, Notice::Ask(address)) => unreachable(rt, address),
             (0, Notice::Serve(_)) => eprintln!(rt; "sidekiq: the server has ended"),

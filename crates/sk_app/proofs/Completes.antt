@@ -1,32 +1,26 @@
 -- That a program whose words are a line of it is done to its end, where nothing hinders it.
 use Rattle.std.proofs.Common.{◌≡◌, ◌≢◌, ◌⊎◌, inl, inr, ◌-◌, ℕ, true, false, List, Option, Result, Ok, Err, refl, sym, subst, ◌∙◌}
-use Rattle.std.proofs.lemmas.Bool.{true≢false}
 use Rattle.clap.specs.Words.{Text}
-use Rattle.sk_client.specs.declared.client_fault.ClientFault.{ClientFault}
-use Rattle.sk_client.specs.declared.client_fault.ClientFault.TheVariants as client
 use Rattle.sk_launcher.specs.declared.counts.Counts.{Counts}
 use Rattle.sk_launcher.specs.declared.launch_fault.LaunchFault.{LaunchFault}
 use Rattle.sk_launcher.specs.declared.launch_fault.LaunchFault.TheVariants as launch
-use Rattle.sk_line.specs.Lines.{IsServe, IsStatus}
+use Rattle.sk_line.specs.Lines.{IsServe}
 use Rattle.sk_line.specs.Soak as line
 use Rattle.sk_line.specs.Work.{IsWork}
 use Rattle.sk_line.specs.declared.serve_line.ServeLine.{ServeLine}
 use Rattle.sk_line.specs.declared.soak_line.SoakLine.{SoakLine}
 use Rattle.sk_line.specs.declared.status_line.StatusLine.{StatusLine}
 use Rattle.sk_line.specs.declared.work_line.WorkLine.{WorkLine}
-use Rattle.sk_link.specs.Asking.{answers}
 use Rattle.sk_link.specs.Call.{Call}
 use Rattle.sk_link.specs.Wire.{WireState}
 use Rattle.sk_link.specs.declared.link.LinkFault.TheVariants as link
 use Rattle.sk_middle.specs.declared.chain.Through.{Through}
 use Rattle.sk_payload.specs.declared.draft.JobDraft.{JobDraft}
-use Rattle.sk_payload.specs.declared.draft_fault.DraftFault.TheVariants as draft_
 use Rattle.sk_resp.specs.Spelling.{Bytes}
-use Rattle.sk_resp.specs.declared.reply.Reply.{Reply}
-use Rattle.sk_resp.specs.declared.reply.Reply.TheVariants as reply
 use Rattle.sk_serve.specs.declared.serve_end.ServeEnd.{ServeEnd}
 use Rattle.sk_serve.specs.declared.serve_end.ServeEnd.TheVariants as end
-use Rattle.sk_app.specs.Completing.{DoneOr, IsBroken, IsSpoilt, ServeHindered, WorkHindered, closed, refused as got_another, spoilt, unanswered}
+use Rattle.sk_app.specs.Completing.{DoneOr, IsBroken, ServeHindered, WorkHindered, closed, spoilt}
+use Rattle.sk_app.specs.Hindering.{FailsOver, Hinders, IsHindered}
 use Rattle.sk_compare.specs.declared.difference.Difference.{Difference}
 use Rattle.sk_drill.specs.declared.drill_end.DrillEnd.{DrillEnd}
 use Rattle.sk_drill.specs.declared.drill_end.DrillEnd.TheVariants as drill_end
@@ -37,9 +31,10 @@ use Rattle.sk_app.specs.Drilling as drilling
 use Rattle.sk_app.specs.Dialogue.{Dialogue, DoorTells, fresh}
 use Rattle.sk_app.specs.Dialogue as dialogue
 use Rattle.sk_app.specs.Ending.{Concludes}
-use Rattle.sk_app.specs.Paging.{Asks, StatusRun, page_of, status_words}
-use Rattle.sk_app.specs.Paging as paging
-use Rattle.sk_app.specs.Pushing.{PushRun, Pushes, Sends, request}
+use Rattle.sk_app.specs.Paging.{Asks, IsPageSpoilt}
+use Rattle.sk_app.specs.Questions.{QuestionRun}
+use Rattle.sk_app.specs.Questions as questions
+use Rattle.sk_app.specs.Pushing.{IsPushSpoilt, PushRun, Pushes}
 use Rattle.sk_app.specs.Pushing as pushing
 use Rattle.sk_app.specs.Serving.{IsOutcome, ServeRun, Serves}
 use Rattle.sk_app.specs.Serving as serving
@@ -50,29 +45,11 @@ use Rattle.sk_app.specs.Working as working
 use Rattle.sk_app.specs.declared.failure.Failure.{Failure}
 use Rattle.sk_app.specs.declared.failure.Failure.TheVariants as failure
 use Rattle.sk_app.specs.declared.job.PushJob.{PushJob}
+use Rattle.sk_app.proofs.Spoilt.{asks_spoilt, pushes_spoilt}
 
 -- ## Outcomes
 
--- The failure is no want of memory.
-abbrev pub Hinders : Failure → Type 0
-Hinders failure.Memory = ⊥
-Hinders (failure.Link link.Memory) = ⊥
-Hinders failure.Line = Unit {0}
-Hinders failure.Door = Unit {0}
-Hinders failure.Seats = Unit {0}
-Hinders (failure.Link link.Failed) = Unit {0}
-Hinders (failure.Link link.Ended) = Unit {0}
-Hinders (failure.Link (link.Unreadable bytes)) = Unit {0}
-Hinders (failure.Refused r) = Unit {0}
-Hinders failure.GenLimit = Unit {0}
-Hinders (failure.Differs d) = Unit {0}
-
--- The outcome is a failure, and no want of memory.
-abbrev pub IsHindered : Result Bytes Failure → Type 0
-IsHindered (Ok output) = ⊥
-IsHindered (Err f) = Hinders f
-
-concluded : (outcome : Result Bytes Failure) (status : ℕ) (before after : Option Bytes) → Concludes outcome status before after → status ≢ 4 → DoneOr (IsHindered outcome) status
+pub concluded : (outcome : Result Bytes Failure) (status : ℕ) (before after : Option Bytes) → Concludes outcome status before after → status ≢ 4 → DoneOr (IsHindered outcome) status
 concluded (Ok output) status before after (inl all) whole = inl all.0
 concluded (Ok output) status before after (inr (inl some)) whole = absurd (whole some.0)
 concluded (Ok output) status before after (inr (inr none)) whole = inr (inl none.0)
@@ -85,10 +62,11 @@ concluded (Err (failure.Link link.Failed)) status before after told whole = inr 
 concluded (Err (failure.Link link.Ended)) status before after told whole = inr (inr tt)
 concluded (Err (failure.Link (link.Unreadable bytes))) status before after told whole = inr (inr tt)
 concluded (Err (failure.Refused r)) status before after told whole = inr (inr tt)
+concluded (Err (failure.Cursor bytes)) status before after told whole = inr (inr tt)
 concluded (Err failure.GenLimit) status before after told whole = inr (inr tt)
 concluded (Err (failure.Differs d)) status before after told whole = inr (inr tt)
 
-or_else : (A B : Type 0) (status : ℕ) → DoneOr A status → (A → B) → DoneOr B status
+pub or_else : (A B : Type 0) (status : ℕ) → DoneOr A status → (A → B) → DoneOr B status
 or_else A B status (inl done) f = inl done
 or_else A B status (inr (inl starved)) f = inr (inl starved)
 or_else A B status (inr (inr a)) f = inr (inr (f a))
@@ -139,63 +117,45 @@ pub serve_completes : (words : List Text) (Untouched : Type 0) (Ended : ServeLin
 serve_completes words Untouched Ended asked outcome status before after is came told whole =
     or_else (IsHindered outcome) (ServeHindered words Ended) status (concluded outcome status before after told whole) (serve_ran words Untouched Ended asked outcome is came)
 
--- ## status
-
-no_page : (r : Reply) (f : Failure) → Err f ≡ page_of r → ((page : Bytes) × (page_of r ≡ Ok page)) → ⊥
-no_page r f is page = absurd (cc (is ∙ page.1))
-
-asks_spoilt : (Carried : List Call → Type 0) (f : Failure) → Asks Carried (Err f) → Hinders f → IsSpoilt Carried status_words (λ r. (page : Bytes) × (page_of r ≡ Ok page))
-asks_spoilt Carried (failure.Link link.Memory) asks hindered = absurd hindered
-asks_spoilt Carried (failure.Link link.Failed) asks hindered = unanswered link.Failed (λ e. absurd (cc e)) asks
-asks_spoilt Carried (failure.Link link.Ended) asks hindered = unanswered link.Ended (λ e. absurd (cc e)) asks
-asks_spoilt Carried (failure.Link (link.Unreadable bytes)) asks hindered = unanswered (link.Unreadable bytes) (λ e. absurd (cc e)) asks
-asks_spoilt Carried failure.Line asks hindered = got_another asks.0 (no_page asks.0 failure.Line asks.2) asks.1
-asks_spoilt Carried failure.Memory asks hindered = absurd hindered
-asks_spoilt Carried failure.Door asks hindered = got_another asks.0 (no_page asks.0 failure.Door asks.2) asks.1
-asks_spoilt Carried failure.Seats asks hindered = got_another asks.0 (no_page asks.0 failure.Seats asks.2) asks.1
-asks_spoilt Carried (failure.Refused r) asks hindered = got_another asks.0 (no_page asks.0 (failure.Refused r) asks.2) asks.1
-asks_spoilt Carried failure.GenLimit asks hindered = got_another asks.0 (no_page asks.0 failure.GenLimit asks.2) asks.1
-asks_spoilt Carried (failure.Differs d) asks hindered = got_another asks.0 (no_page asks.0 (failure.Differs d) asks.2) asks.1
+-- ## Programs that ask a store one thing
 
 module _ {Conn : Type 0} (before after : DoorTells Conn) (Carries : WireState Conn → WireState Conn → List Call → Type 0) where
-  page_broken : (outcome : Result Bytes Failure) → Dialogue before after (λ a b outcome. Asks (Carries a b) outcome) outcome → IsHindered outcome →
-      IsBroken before after Carries status_words (λ r. (page : Bytes) × (page_of r ≡ Ok page))
-  page_broken outcome (dialogue.closed rose) hindered = closed rose
-  page_broken outcome dialogue.starved hindered = absurd hindered
-  page_broken (Ok page) (dialogue.held conn end outcome0 visits asks) hindered = absurd hindered
-  page_broken (Err f) (dialogue.held conn end outcome0 visits asks) hindered = spoilt conn end (asks_spoilt (Carries (fresh conn) end) f asks hindered)
+  module _ {Line : Type 0} (Asks : Line → (List Call → Type 0) → Result Bytes Failure → Type 0) where
+    pub asked_broken : (line : Line) (outcome : Result Bytes Failure) → Dialogue before after (λ a b outcome. Asks line (Carries a b) outcome) outcome →
+        IsHindered outcome → IsBroken before after Carries (FailsOver (Asks line))
+    asked_broken line outcome (dialogue.closed rose) hindered = closed rose
+    asked_broken line outcome dialogue.starved hindered = absurd hindered
+    asked_broken line (Ok output) (dialogue.held conn end outcome0 visits asks) hindered = absurd hindered
+    asked_broken line (Err f) (dialogue.held conn end outcome0 visits asks) hindered = spoilt conn end (f, hindered, asks)
 
-  status_ran : (words : List Text) (Untouched : Type 0) (asked : StatusLine) (outcome : Result Bytes Failure) → IsStatus words asked →
-      StatusRun words Untouched (Dialogue before after (λ a b outcome. Asks (Carries a b) outcome)) outcome → IsHindered outcome →
-      IsBroken before after Carries status_words (λ r. (page : Bytes) × (page_of r ≡ Ok page))
-  status_ran words Untouched asked outcome is (paging.refused none untouched) hindered = absurd (none asked is)
-  status_ran words Untouched asked outcome is paging.starved hindered = absurd hindered
-  status_ran words Untouched asked outcome is (paging.spoke asked0 outcome0 is0 speaks) hindered = page_broken outcome speaks hindered
+    module _ (IsLine : Line → Type 0) (Untouched : Type 0) where
+      asked_ran : (line : Line) (outcome : Result Bytes Failure) → IsLine line →
+          QuestionRun IsLine Untouched (λ line outcome. Dialogue before after (λ a b outcome. Asks line (Carries a b) outcome) outcome) outcome → IsHindered outcome →
+          (asked : Line) × IsLine asked × IsBroken before after Carries (FailsOver (Asks asked))
+      asked_ran line outcome is (questions.refused none untouched) hindered = absurd (none line is)
+      asked_ran line outcome is questions.starved hindered = absurd hindered
+      asked_ran line outcome is (questions.spoke asked outcome0 is0 speaks) hindered = (asked, is0, asked_broken asked outcome speaks hindered)
 
-  pub status_completes : (words : List Text) (Untouched : Type 0) (asked : StatusLine) (outcome : Result Bytes Failure) (status : ℕ) (taken taken' : Option Bytes) → IsStatus words asked →
-      StatusRun words Untouched (Dialogue before after (λ a b outcome. Asks (Carries a b) outcome)) outcome → Concludes outcome status taken taken' → status ≢ 4 →
-      DoneOr (IsBroken before after Carries status_words (λ r. (page : Bytes) × (page_of r ≡ Ok page))) status
-  status_completes words Untouched asked outcome status taken taken' is came told whole =
-      or_else (IsHindered outcome) _ status (concluded outcome status taken taken' told whole) (status_ran words Untouched asked outcome is came)
+      pub asked_completes : (line : Line) (outcome : Result Bytes Failure) (status : ℕ) (taken taken' : Option Bytes) → IsLine line →
+          QuestionRun IsLine Untouched (λ line outcome. Dialogue before after (λ a b outcome. Asks line (Carries a b) outcome) outcome) outcome →
+          Concludes outcome status taken taken' → status ≢ 4 → DoneOr ((asked : Line) × IsLine asked × IsBroken before after Carries (FailsOver (Asks asked))) status
+      asked_completes line outcome status taken taken' is came told whole =
+          or_else (IsHindered outcome) _ status (concluded outcome status taken taken' told whole) (asked_ran line outcome is came)
+
+  -- ## status
+
+  page_broken : IsBroken before after Carries (FailsOver Asks) → IsBroken before after Carries IsPageSpoilt
+  page_broken (closed rose) = closed rose
+  page_broken (spoilt conn end fails) = spoilt conn end (asks_spoilt (Carries (fresh conn) end) fails.0 fails.2 fails.1)
+
+  pub page_done : (status : ℕ) (IsLine : StatusLine → Type 0) →
+      DoneOr ((asked : StatusLine) × IsLine asked × IsBroken before after Carries (FailsOver Asks)) status → DoneOr (IsBroken before after Carries IsPageSpoilt) status
+  page_done status IsLine done = or_else _ _ status done (λ asked. page_broken asked.2)
 
   -- ## push
 
-  pushes_spoilt : (Carried : List Call → Type 0) (job : PushJob) (pushed : Result (Unit {0}) ClientFault) (outcome : Result Bytes Failure) → Sends Carried (request job) pushed →
-      outcome ≡ pushing.outcome_of job.draft.jid pushed → IsHindered outcome → outcome ≢ Err failure.Line →
-      IsSpoilt Carried (request job).words (λ r. answers (request job).wanted r ≡ true)
-  pushes_spoilt Carried job (Ok all) outcome sent is hindered line = absurd (subst IsHindered is hindered)
-  pushes_spoilt Carried job (Err (client.Held holder)) outcome sent is hindered line = absurd (subst IsHindered is hindered)
-  pushes_spoilt Carried job (Err (client.Refused r)) outcome sent is hindered line = got_another r (λ e. true≢false (sym e ∙ sent.2)) sent.1
-  pushes_spoilt Carried job (Err (client.Link link.Memory)) outcome sent is hindered line = absurd (subst IsHindered is hindered)
-  pushes_spoilt Carried job (Err (client.Link link.Failed)) outcome sent is hindered line = unanswered link.Failed (λ e. absurd (cc e)) sent.1
-  pushes_spoilt Carried job (Err (client.Link link.Ended)) outcome sent is hindered line = unanswered link.Ended (λ e. absurd (cc e)) sent.1
-  pushes_spoilt Carried job (Err (client.Link (link.Unreadable bytes))) outcome sent is hindered line = unanswered (link.Unreadable bytes) (λ e. absurd (cc e)) sent.1
-  pushes_spoilt Carried job (Err client.Memory) outcome sent is hindered line = absurd (subst IsHindered is hindered)
-  pushes_spoilt Carried job (Err (client.Draft draft_.Memory)) outcome sent is hindered line = absurd (subst IsHindered is hindered)
-  pushes_spoilt Carried job (Err (client.Draft f)) outcome sent is hindered line = absurd (line is)
-
   push_broken : (job : PushJob) (outcome : Result Bytes Failure) → Dialogue before after (λ a b outcome. Pushes (Carries a b) job outcome) outcome → IsHindered outcome →
-      outcome ≢ Err failure.Line → IsBroken before after Carries (request job).words (λ r. answers (request job).wanted r ≡ true)
+      outcome ≢ Err failure.Line → IsBroken before after Carries (IsPushSpoilt job)
   push_broken job outcome (dialogue.closed rose) hindered line = closed rose
   push_broken job outcome dialogue.starved hindered line = absurd hindered
   push_broken job outcome (dialogue.held conn end outcome0 visits pushes) hindered line =
@@ -203,7 +163,7 @@ module _ {Conn : Type 0} (before after : DoorTells Conn) (Carries : WireState Co
 
   push_ran : (words : List Text) (Untouched : Type 0) (Drawn : ℕ → ℕ → ℕ → Type 0) (Applied : JobDraft → Through → Type 0) (outcome : Result Bytes Failure) →
       PushRun words Untouched Drawn Applied (λ job outcome. Dialogue before after (λ a b outcome. Pushes (Carries a b) job outcome) outcome) outcome → IsHindered outcome →
-      outcome ≢ Err failure.Line → (job : PushJob) × IsBroken before after Carries (request job).words (λ r. answers (request job).wanted r ≡ true)
+      outcome ≢ Err failure.Line → (job : PushJob) × IsBroken before after Carries (IsPushSpoilt job)
   push_ran words Untouched Drawn Applied outcome (pushing.refused none untouched) hindered line = absurd (line refl)
   push_ran words Untouched Drawn Applied outcome (pushing.unwritten job wanted faulty untouched) hindered line = absurd (line refl)
   push_ran words Untouched Drawn Applied outcome (pushing.halted wanted untouched) hindered line = absurd hindered
@@ -214,7 +174,7 @@ module _ {Conn : Type 0} (before after : DoorTells Conn) (Carries : WireState Co
       (status : ℕ) (taken taken' : Option Bytes) →
       PushRun words Untouched Drawn Applied (λ job outcome. Dialogue before after (λ a b outcome. Pushes (Carries a b) job outcome) outcome) outcome →
       Concludes outcome status taken taken' → status ≢ 2 → status ≢ 4 →
-      DoneOr ((job : PushJob) × IsBroken before after Carries (request job).words (λ r. answers (request job).wanted r ≡ true)) status
+      DoneOr ((job : PushJob) × IsBroken before after Carries (IsPushSpoilt job)) status
   push_completes words Untouched Drawn Applied outcome status taken taken' came told lined whole =
       or_else (IsHindered outcome) _ status (concluded outcome status taken taken' told whole)
       (λ hindered. push_ran words Untouched Drawn Applied outcome came hindered (λ e. lined (refused_status outcome status taken taken' e told)))
@@ -250,6 +210,13 @@ pub work_completes : (teams : ℕ) (words : List Text) (Untouched : Type 0) (Lau
     DoneOr (WorkHindered teams words Launches) status
 work_completes teams words Untouched Launches asked outcome status taken taken' is came told whole =
     or_else (IsHindered outcome) (WorkHindered teams words Launches) status (concluded outcome status taken taken' told whole) (work_ran teams words Untouched Launches asked outcome is came)
+
+-- a launcher that did it with these rules did it with some
+pub with_some : {Rules : Type 0} (teams : ℕ) (words : List Text) (Launches : Rules → WorkLine → Result Counts LaunchFault → Type 0) (rules : Rules) (status : ℕ) →
+    DoneOr (WorkHindered teams words (Launches rules)) status → DoneOr (WorkHindered teams words (λ line how. (rs : Rules) × Launches rs line how)) status
+with_some teams words Launches rules status (inl done) = inl done
+with_some teams words Launches rules status (inr (inl starved)) = inr (inl starved)
+with_some teams words Launches rules status (inr (inr (line, is, fault, sound, launched))) = inr (inr (line, is, fault, sound, (rules, launched)))
 
 -- ## drill
 

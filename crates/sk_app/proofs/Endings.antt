@@ -23,5 +23,6 @@ line_alone (Err (failure.Link (link.Unreadable bytes))) status before after w e 
 line_alone (Err (failure.Link link.Ended)) status before after w e = absurd (omega (arith, w.0, e))
 line_alone (Err (failure.Link link.Memory)) status before after w e = absurd (omega (arith, w.0, e))
 line_alone (Err (failure.Refused r)) status before after w e = absurd (not_two _ 7 status before after (λ z. omega (arith, z)) w e)
+line_alone (Err (failure.Cursor bytes)) status before after w e = absurd (not_two _ 7 status before after (λ z. omega (arith, z)) w e)
 line_alone (Err failure.GenLimit) status before after w e = absurd (not_two _ 7 status before after (λ z. omega (arith, z)) w e)
 line_alone (Err (failure.Differs d)) status before after w e = absurd (not_two _ 8 status before after (λ z. omega (arith, z)) w e)

@@ -1,9 +1,12 @@
 pub mod Dialogues
 pub mod Endings
 pub mod PushRuns
-pub mod StatusRuns
+pub mod QuestionRuns
 pub mod SoakRuns
 pub mod DrillRuns
 pub mod ServeRuns
 pub mod WorkRuns
+pub mod Spoilt
 pub mod Completes
+pub mod Tokens
+pub mod LimitRuns

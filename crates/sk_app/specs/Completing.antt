@@ -1,5 +1,5 @@
 -- What alone may keep a program whose words are a line of it from status 0, besides its sink and want of memory.
-use Rattle.std.specs.Prelude.{◌≡◌, ◌≢◌, ◌⊎◌, ℕ, true, List, [], ◌∷◌, Result, Ok, Err}
+use Rattle.std.specs.Prelude.{◌≡◌, ◌≢◌, ◌⊎◌, ℕ, List, Result, Err}
 use Rattle.clap.specs.Words.{Text}
 use Rattle.sk_base.specs.Outside.{Rose}
 use Rattle.sk_base.specs.declared.sink.Sink as a_sink
@@ -12,18 +12,13 @@ use Rattle.sk_line.specs.Lines.{IsServe}
 use Rattle.sk_line.specs.Work.{IsWork}
 use Rattle.sk_line.specs.declared.serve_line.ServeLine.{ServeLine}
 use Rattle.sk_line.specs.declared.work_line.WorkLine.{WorkLine}
-use Rattle.sk_link.specs.Asking.{answers}
-use Rattle.sk_link.specs.Call.{Call, answered, lost}
+use Rattle.sk_link.specs.Call.{Call}
 use Rattle.sk_link.specs.Wire.{WireCarries, WireState}
-use Rattle.sk_link.specs.declared.link.LinkFault.{LinkFault}
-use Rattle.sk_link.specs.declared.link.LinkFault.TheVariants as link
-use Rattle.sk_resp.specs.Spelling.{Bytes}
-use Rattle.sk_resp.specs.declared.reply.Reply.{Reply}
 use Rattle.sk_serve.specs.declared.serve_end.ServeEnd.{ServeEnd}
 use Rattle.sk_serve.specs.declared.serve_end.ServeEnd.TheVariants as serve_end
 use Rattle.sk_app.specs.Dialogue.{DoorTells, door_tells, fresh}
-use Rattle.sk_app.specs.Paging.{page_of, status_words}
-use Rattle.sk_app.specs.Pushing.{request}
+use Rattle.sk_app.specs.Paging.{IsPageSpoilt}
+use Rattle.sk_app.specs.Pushing.{IsPushSpoilt}
 use Rattle.sk_app.specs.declared.job.PushJob.{PushJob}
 
 -- All was done; or there was no memory; or this hindered it.
@@ -34,30 +29,23 @@ DoneOr Hindered status = (status ≡ 0) ⊎ (status ≡ 5) ⊎ Hindered
 abbrev pub ServeHindered : List Text → (ServeLine → ServeEnd → Type 0) → Type 0
 ServeHindered words Ended = (line : ServeLine) × IsServe words line × (Ended line serve_end.Failed ⊎ Ended line serve_end.Spent)
 
--- A request was lost for another cause than want of memory, or got another reply than it wants.
-pub data IsSpoilt (Carried : List Call → Type 0) (words : List Bytes) (Wanted : Reply → Type 0) : Type 0 where
-  unanswered : (f : LinkFault) → f ≢ link.Memory → Carried (lost words f ∷ []) → IsSpoilt Carried words Wanted
-  refused : (r : Reply) → (Wanted r → ⊥) → Carried (answered words r ∷ []) → IsSpoilt Carried words Wanted
-
--- The door gave no connection, or a request over the one that it gave was spoilt.
+-- The door gave no connection, or what was asked over the one that it gave was spoilt.
 pub data IsBroken {Conn : Type 0} (before after : DoorTells Conn) (Carries : WireState Conn → WireState Conn → List Call → Type 0)
-    (words : List Bytes) (Wanted : Reply → Type 0) : Type 0 where
-  closed : Rose before.faults after.faults → IsBroken before after Carries words Wanted
-  spoilt : (conn : Conn) (end : WireState Conn) → IsSpoilt (Carries (fresh conn) end) words Wanted → IsBroken before after Carries words Wanted
+    (Spoilt : (List Call → Type 0) → Type 0) : Type 0 where
+  closed : Rose before.faults after.faults → IsBroken before after Carries Spoilt
+  spoilt : (conn : Conn) (end : WireState Conn) → Spoilt (Carries (fresh conn) end) → IsBroken before after Carries Spoilt
 
 -- The same of a door and its connections, by what these tell.
 abbrev pub Breaks : {N Conn Ear : Type 0} → a_door.Ghosts N Conn Ear → a_source.Ghosts Conn → a_sink.Ghosts Conn → N → N →
-    List Bytes → (Reply → Type 0) → Type 0
-Breaks OfDoor OfSource OfSink net net_after words Wanted = IsBroken (door_tells OfDoor net) (door_tells OfDoor net_after)
-    (WireCarries OfSink.taken OfSource.left OfSource.read_faults OfSink.write_faults) words Wanted
+    ((List Call → Type 0) → Type 0) → Type 0
+Breaks OfDoor OfSource OfSink net net_after Spoilt = IsBroken (door_tells OfDoor net) (door_tells OfDoor net_after)
+    (WireCarries OfSink.taken OfSource.left OfSource.read_faults OfSink.write_faults) Spoilt
 
 abbrev pub StatusHindered : {N Conn Ear : Type 0} → a_door.Ghosts N Conn Ear → a_source.Ghosts Conn → a_sink.Ghosts Conn → N → N → Type 0
-StatusHindered OfDoor OfSource OfSink net net_after =
-    Breaks OfDoor OfSource OfSink net net_after status_words (λ r. (page : Bytes) × (page_of r ≡ Ok page))
+StatusHindered OfDoor OfSource OfSink net net_after = Breaks OfDoor OfSource OfSink net net_after IsPageSpoilt
 
 abbrev pub PushHindered : {N Conn Ear : Type 0} → a_door.Ghosts N Conn Ear → a_source.Ghosts Conn → a_sink.Ghosts Conn → N → N → Type 0
-PushHindered OfDoor OfSource OfSink net net_after =
-    (job : PushJob) × Breaks OfDoor OfSource OfSink net net_after (request job).words (λ r. answers (request job).wanted r ≡ true)
+PushHindered OfDoor OfSource OfSink net net_after = (job : PushJob) × Breaks OfDoor OfSource OfSink net net_after (IsPushSpoilt job)
 
 -- A launcher met a fault that is no want of memory.
 abbrev pub WorkHindered : ℕ → List Text → (WorkLine → Result Counts LaunchFault → Type 0) → Type 0

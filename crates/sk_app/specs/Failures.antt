@@ -13,7 +13,7 @@ use Rattle.sk_line.specs.declared.fault.LineFault.{LineFault}
 use Rattle.sk_line.specs.declared.fault.LineFault.TheVariants as line
 use Rattle.sk_link.specs.declared.link.LinkFault.TheVariants as link
 use Rattle.sk_app.specs.declared.failure.Failure.{Failure}
-use Rattle.sk_app.specs.declared.failure.Failure.TheVariants.{Line, Memory, Door, Seats, Link, Refused, GenLimit, Differs}
+use Rattle.sk_app.specs.declared.failure.Failure.TheVariants.{Line, Memory, Door, Seats, Link, Refused, Cursor, GenLimit, Differs}
 
 -- The status, by the cause.
 abbrev pub status_of : Failure → ℕ
@@ -26,6 +26,7 @@ status_of (Link link.Failed) = 6
 status_of (Link link.Ended) = 6
 status_of (Link (link.Unreadable bytes)) = 6
 status_of (Refused r) = 7
+status_of (Cursor bytes) = 7
 status_of GenLimit = 7
 status_of (Differs d) = 8
 
@@ -37,6 +38,7 @@ reply_line r = drop 1 (take (length (wire r) - 2) (wire r))
 abbrev pub line_of : Failure → Option Bytes
 line_of (Link (link.Unreadable bytes)) = Some (codes "unreadable " ++ encode_lower bytes)
 line_of (Refused r) = Some (reply_line r)
+line_of (Cursor bytes) = Some (codes "cursor " ++ encode_lower bytes)
 line_of GenLimit = Some (codes "gen limit")
 line_of Seats = Some (codes "seats spent")
 line_of (Differs d) = Some (difference_text d)

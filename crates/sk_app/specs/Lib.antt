@@ -3,8 +3,13 @@ pub mod Ending
 pub mod Jobs
 pub mod Capping
 pub mod Dialogue
+pub mod Hindering
+pub mod Questions
 pub mod Pushing
 pub mod Paging
+pub mod Limiting
+pub mod Iterating
+pub mod IterateLaws
 pub mod Classes
 pub mod Serving
 pub mod Soaking

@@ -3,7 +3,7 @@ use Rattle.std.specs.Prelude.{List, [], ◌∷◌, Option, Some, None, codes, co
 use Rattle.std.specs.Str.{bytes_eq}
 use Rattle.sk_resp.specs.Spelling.{Bytes}
 use Rattle.sk_app.specs.declared.program.Program.{Program}
-use Rattle.sk_app.specs.declared.program.Program.TheVariants.{Serve, Work, Push, Status, Soak, Drill}
+use Rattle.sk_app.specs.declared.program.Program.TheVariants.{Serve, Work, Push, Status, Soak, Drill, Limit, Iterate}
 
 abbrev pub named : Bytes → Option Program
 named name = cond (bytes_eq name (codes "serve")) (Some Serve)
@@ -11,7 +11,9 @@ named name = cond (bytes_eq name (codes "serve")) (Some Serve)
     (cond (bytes_eq name (codes "push")) (Some Push)
     (cond (bytes_eq name (codes "status")) (Some Status)
     (cond (bytes_eq name (codes "soak")) (Some Soak)
-    (cond (bytes_eq name (codes "drill")) (Some Drill) None)))))
+    (cond (bytes_eq name (codes "drill")) (Some Drill)
+    (cond (bytes_eq name (codes "limit")) (Some Limit)
+    (cond (bytes_eq name (codes "iterate")) (Some Iterate) None)))))))
 
 -- the first word names it
 abbrev pub program_of : List Bytes → Option Program

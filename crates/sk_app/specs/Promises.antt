@@ -13,11 +13,17 @@ use Rattle.sk_base.specs.declared.source.Source as a_source
 use Rattle.sk_edge.specs.declared.door.Door as a_door
 use Rattle.sk_edge.specs.declared.door.Ear as an_ear
 use Rattle.sk_resp.specs.Spelling.{Bytes}
-use Rattle.sk_launcher.specs.Promises.{Launches}
+use Rattle.sk_link.specs.Call.{Call}
+use Rattle.sk_launcher.specs.Promises.{LaunchesBy}
+use Rattle.sk_launcher.specs.declared.counts.Counts.{Counts}
+use Rattle.sk_launcher.specs.declared.launch_fault.LaunchFault.{LaunchFault}
 use Rattle.sk_line.specs.Drill.{IsDrill}
+use Rattle.sk_line.specs.Iterate.{IsIterate}
+use Rattle.sk_line.specs.Limit.{IsLimit}
 use Rattle.sk_line.specs.Lines.{IsServe, IsStatus}
 use Rattle.sk_line.specs.Work.{IsWork}
 use Rattle.sk_line.specs.declared.drill_line.DrillLine.{DrillLine}
+use Rattle.sk_line.specs.declared.limit_line.LimitLine.{LimitLine}
 use Rattle.sk_line.specs.declared.push_line.PushLine.{PushLine}
 use Rattle.sk_line.specs.declared.serve_line.ServeLine.{ServeLine}
 use Rattle.sk_line.specs.declared.status_line.StatusLine.{StatusLine}
@@ -26,21 +32,29 @@ use Rattle.sk_middle.specs.declared.chain.Through.{Through}
 use Rattle.sk_payload.specs.declared.draft.JobDraft.{JobDraft}
 use Rattle.sk_pipe.specs.Run.{Completes, IsPiped, shipped, status_of}
 use Rattle.sk_pipe.specs.declared.pipe_end.PipeEnd.{PipeEnd}
+use Rattle.sk_policy.specs.declared.delay.DelayRule.{DelayRule}
 use Rattle.sk_serve.specs.Server.{HasEnded}
 use Rattle.sk_serve.specs.declared.serve_end.ServeEnd.{ServeEnd}
 use Rattle.sk_worker.specs.Run.{Run}
 use Rattle.sk_worker.specs.declared.registry.Registry.{Registry}
-use Rattle.sk_app.specs.Completing.{DoneOr, PushHindered, ServeHindered, StatusHindered, WorkHindered}
+use Rattle.sk_app.specs.Completing.{Breaks, DoneOr, PushHindered, ServeHindered, StatusHindered, WorkHindered}
 use Rattle.sk_app.specs.Dialogue.{Dials}
+use Rattle.sk_app.specs.Ending.{Ends}
 use Rattle.sk_app.specs.Jobs.{Draws, IsJob}
-use Rattle.sk_app.specs.Paging.{Asks, StatusRun}
+use Rattle.sk_app.specs.Hindering.{FailsOver}
+use Rattle.sk_app.specs.Iterating.{Runs}
+use Rattle.sk_app.specs.Limiting.{LimitRun, Limits}
+use Rattle.sk_app.specs.Paging.{Asks}
 use Rattle.sk_app.specs.Programs.{program_of}
 use Rattle.sk_app.specs.Pushing.{PushRun, Pushes}
+use Rattle.sk_app.specs.Questions.{QuestionRun}
 use Rattle.sk_app.specs.Serving.{ServeRun}
 use Rattle.sk_app.specs.Working.{WorkRun}
 use Rattle.sk_app.specs.declared.failure.Failure.{Failure}
 use Rattle.sk_app.specs.declared.job.PushJob.{PushJob}
+use Rattle.sk_app.specs.declared.limit.Asked.{Asked}
 use Rattle.sk_app.specs.declared.program.Program.{Program}
+use Rattle.sk_app.specs.declared.program.Program.TheVariants.{Limit}
 
 -- ## The words of a command line
 
@@ -83,13 +97,28 @@ module _ {N Conn Ear C : Type 0} (Door : a_door.Ghosts N Conn Ear) (OfEar : an_e
 -- ## work
 
 module _ {Rule Job : Type 0} {OfRule : Rule → Type 0} {OfJob : Job → Type 0} {Delays : Mut ((rule : Rule) × OfRule rule) (ℕ × Unit {0}) ℕ} where
-  -- What `work` did for these words with a door and teams, and came to.
+  -- What a launcher did for a line with a door and teams, and with these plain rules, whatever words its dice was going to give.
+  abbrev pub LaunchesTeams : {N Conn Ear : Type 0} → a_door.Ghosts N Conn Ear → a_source.Ghosts Conn → a_sink.Ghosts Conn →
+      ((job : Job) × OfJob job → Option (List Run)) → Vec (DelayRule Rule OfRule Delays) Global →
+      N → Vec (Registry Job Rule OfJob OfRule Delays) Global → N → Vec (Registry Job Rule OfJob OfRule Delays) Global →
+      WorkLine → Result Counts LaunchFault → Type 0
+  LaunchesTeams Door Source Sink runs rules net teams net_after teams_after line how = (words words_after : Option (ℕ → ℕ))
+      × LaunchesBy Door Source Sink runs words words_after rules net teams net_after teams_after line how
+
+  -- What `work` did for these words with a door and teams, and with these plain rules, and came to.
   abbrev pub DoWork : {N Conn Ear A : Type 0} → a_door.Ghosts N Conn Ear → a_source.Ghosts Conn → a_sink.Ghosts Conn →
-      ((job : Job) × OfJob job → Option (List Run)) → List (String A) → N → Vec (Registry Job Rule OfJob OfRule Delays) Global →
-      N → Vec (Registry Job Rule OfJob OfRule Delays) Global → Result Bytes Failure → Type 0
-  DoWork Door Source Sink runs words net teams net_after teams_after outcome =
+      ((job : Job) × OfJob job → Option (List Run)) → List (String A) → Vec (DelayRule Rule OfRule Delays) Global →
+      N → Vec (Registry Job Rule OfJob OfRule Delays) Global → N → Vec (Registry Job Rule OfJob OfRule Delays) Global → Result Bytes Failure → Type 0
+  DoWork Door Source Sink runs words rules net teams net_after teams_after outcome =
       WorkRun (vec_len teams) (texts words) ((net_after ≡ net) × (teams_after ≡ teams))
-      (λ line how. Launches Door Source Sink runs net teams net_after teams_after line how) outcome
+      (λ line how. LaunchesTeams Door Source Sink runs rules net teams net_after teams_after line how) outcome
+
+  -- It did that, and so the program ended.
+  abbrev pub WorkEnds : {N Conn Ear K A : Type 0} → a_sink.Ghosts K → a_door.Ghosts N Conn Ear → a_source.Ghosts Conn → a_sink.Ghosts Conn →
+      ((job : Job) × OfJob job → Option (List Run)) → List (String A) → Vec (DelayRule Rule OfRule Delays) Global →
+      K → N → Vec (Registry Job Rule OfJob OfRule Delays) Global → K → N → Vec (Registry Job Rule OfJob OfRule Delays) Global → ℕ → Type 0
+  WorkEnds OfSink Door Source Sink runs words rules sink net teams sink_after net_after teams_after status =
+      Ends OfSink sink sink_after status (DoWork Door Source Sink runs words rules net teams net_after teams_after)
 
   -- A line of `work` is done, unless a fault ends its turns, where the sink takes the counts.
   abbrev pub WorkDone : {N Conn Ear A : Type 0} → a_door.Ghosts N Conn Ear → a_source.Ghosts Conn → a_sink.Ghosts Conn →
@@ -97,7 +126,7 @@ module _ {Rule Job : Type 0} {OfRule : Rule → Type 0} {OfJob : Job → Type 0}
       N → Vec (Registry Job Rule OfJob OfRule Delays) Global → ℕ → Type 0
   WorkDone Door Source Sink runs words net teams net_after teams_after status = (line : WorkLine) → IsWork (vec_len teams) (texts words) line →
       status ≢ 4 → DoneOr (WorkHindered (vec_len teams) (texts words)
-      (λ line how. Launches Door Source Sink runs net teams net_after teams_after line how)) status
+      (λ line how. (rules : _) × LaunchesTeams Door Source Sink runs rules net teams net_after teams_after line how)) status
 
 -- ## push
 
@@ -118,18 +147,70 @@ DoPush Door Source Sink Clock Dice words Applied net clock dice net_after clock_
 abbrev pub PushDone : {N Conn Ear : Type 0} → a_door.Ghosts N Conn Ear → a_source.Ghosts Conn → a_sink.Ghosts Conn → N → N → ℕ → Type 0
 PushDone Door Source Sink net net_after status = status ≢ 2 → status ≢ 4 → DoneOr (PushHindered Door Source Sink net net_after) status
 
--- ## status
+-- ## Programs that ask a store one thing
+
+module _ {N Conn Ear Line : Type 0} (Door : a_door.Ghosts N Conn Ear) (Source : a_source.Ghosts Conn) (Sink : a_sink.Ghosts Conn) (IsLine : Line → Type 0) where
+  -- What such a program did, and came to.
+  abbrev pub DoAsk : (Line → (List Call → Type 0) → Result Bytes Failure → Type 0) → N → N → Result Bytes Failure → Type 0
+  DoAsk Asks net net_after outcome = QuestionRun IsLine (net_after ≡ net) (λ line outcome. Dials Door Source Sink net net_after (Asks line) outcome) outcome
+
+  -- A line of it is done, unless the door fails or its question does, where the sink takes what is told.
+  abbrev pub AskDone : (Line → (List Call → Type 0) → Result Bytes Failure → Type 0) → N → N → ℕ → Type 0
+  AskDone Asks net net_after status = (line : Line) → IsLine line → status ≢ 4 →
+      DoneOr ((asked : Line) × IsLine asked × Breaks Door Source Sink net net_after (FailsOver (Asks asked))) status
 
 -- What `status` did for these words, and came to.
 abbrev pub DoStatus : {N Conn Ear A : Type 0} → a_door.Ghosts N Conn Ear → a_source.Ghosts Conn → a_sink.Ghosts Conn → List (String A) → N → N →
     Result Bytes Failure → Type 0
-DoStatus Door Source Sink words net net_after outcome = StatusRun (texts words) (net_after ≡ net) (Dials Door Source Sink net net_after Asks) outcome
+DoStatus Door Source Sink words net net_after outcome = DoAsk Door Source Sink (IsStatus (texts words)) (λ line. Asks) net net_after outcome
 
 -- A line of `status` is done, unless the door fails or its request gets no page, where the sink takes the page.
 abbrev pub StatusDone : {N Conn Ear A : Type 0} → a_door.Ghosts N Conn Ear → a_source.Ghosts Conn → a_sink.Ghosts Conn → List (String A) → N → N →
     ℕ → Type 0
 StatusDone Door Source Sink words net net_after status = (line : StatusLine) → IsStatus (texts words) line → status ≢ 4 →
     DoneOr (StatusHindered Door Source Sink net net_after) status
+
+-- ## limit
+
+-- The dice gave these two words.
+abbrev pub DrawsTwo : {D : Type 0} → a_dice.Ghosts D → D → D → ℕ → ℕ → Type 0
+DrawsTwo Dice dice dice_after first second = YieldsAll (Dice.words dice) (first ∷ second ∷ []) (Dice.words dice_after)
+
+-- What `limit` did for these words, and came to.
+abbrev pub DoLimit : {N Conn Ear D A : Type 0} → a_door.Ghosts N Conn Ear → a_source.Ghosts Conn → a_sink.Ghosts Conn → a_dice.Ghosts D →
+    List (String A) → N → D → N → D → Result Bytes Failure → Type 0
+DoLimit Door Source Sink Dice words net dice net_after dice_after outcome = LimitRun (texts words) (net_after ≡ net) (DrawsTwo Dice dice dice_after)
+    (λ asked outcome. Dials Door Source Sink net net_after (Limits asked) outcome) outcome
+
+-- It did that, and so the program ended.
+abbrev pub LimitEnds : {K N Conn Ear D A : Type 0} → a_sink.Ghosts K → a_door.Ghosts N Conn Ear → a_source.Ghosts Conn → a_sink.Ghosts Conn →
+    a_dice.Ghosts D → List (String A) → K → N → D → K → N → D → ℕ → Type 0
+LimitEnds OfSink Door Source Sink Dice words sink net dice sink_after net_after dice_after status =
+    Ends OfSink sink sink_after status (DoLimit Door Source Sink Dice words net dice net_after dice_after)
+
+-- Where the words name `limit`, it ended so.
+abbrev pub Limited : {K N Conn Ear D A : Type 0} → a_sink.Ghosts K → a_door.Ghosts N Conn Ear → a_source.Ghosts Conn → a_sink.Ghosts Conn →
+    a_dice.Ghosts D → List (String A) → K → N → D → K → N → D → ℕ → Type 0
+Limited OfSink Door Source Sink Dice words sink net dice sink_after net_after dice_after status =
+    Names words Limit → LimitEnds OfSink Door Source Sink Dice words sink net dice sink_after net_after dice_after status
+
+-- A line of `limit` is done, unless the door fails or one of its requests does, where the sink takes what is told.
+abbrev pub LimitDone : {N Conn Ear A : Type 0} → a_door.Ghosts N Conn Ear → a_source.Ghosts Conn → a_sink.Ghosts Conn → List (String A) → N → N →
+    ℕ → Type 0
+LimitDone Door Source Sink words net net_after status = (line : LimitLine) → IsLimit (texts words) line → status ≢ 4 →
+    DoneOr ((asked : Asked) × IsLimit (texts words) asked.line × Breaks Door Source Sink net net_after (FailsOver (Limits asked))) status
+
+-- ## iterate
+
+-- What `iterate` did for these words, and came to.
+abbrev pub DoIterate : {N Conn Ear A : Type 0} → a_door.Ghosts N Conn Ear → a_source.Ghosts Conn → a_sink.Ghosts Conn → List (String A) → N → N →
+    Result Bytes Failure → Type 0
+DoIterate Door Source Sink words net net_after outcome = DoAsk Door Source Sink (IsIterate (texts words)) Runs net net_after outcome
+
+-- A line of `iterate` is done, unless the door fails, a request is spoilt, or the cursor is no number of an item, where the sink takes what is told.
+abbrev pub IterateDone : {N Conn Ear A : Type 0} → a_door.Ghosts N Conn Ear → a_source.Ghosts Conn → a_sink.Ghosts Conn → List (String A) → N → N →
+    ℕ → Type 0
+IterateDone Door Source Sink words net net_after status = AskDone Door Source Sink (IsIterate (texts words)) Runs net net_after status
 
 -- ## drill
 

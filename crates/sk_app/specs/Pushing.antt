@@ -1,5 +1,5 @@
 -- The program `push`.
-use Rattle.std.specs.Prelude.{◌≡◌, ◌++◌, ℕ, ℤ, List, Option, Some, None, Result, Ok, Err, codes}
+use Rattle.std.specs.Prelude.{◌≡◌, ◌++◌, ℕ, ℤ, true, List, Option, Some, None, Result, Ok, Err, codes}
 use Rattle.sk_resp.specs.Spelling.{Bytes}
 use Rattle.sk_client.specs.Push.{Accepted, Fails, Push}
 use Rattle.sk_client.specs.Requests.{lpush, upush, zadd}
@@ -7,6 +7,7 @@ use Rattle.sk_client.specs.declared.client_fault.ClientFault.{ClientFault}
 use Rattle.sk_client.specs.declared.client_fault.ClientFault.TheVariants as fault
 use Rattle.sk_line.specs.Push.{IsPush}
 use Rattle.sk_line.specs.declared.push_line.PushLine.{PushLine}
+use Rattle.sk_link.specs.Asking.{answers}
 use Rattle.sk_link.specs.Call.{Call}
 use Rattle.sk_middle.specs.Identity.{KeepsIdentity}
 use Rattle.sk_middle.specs.declared.chain.Through.{Through}
@@ -17,6 +18,7 @@ use Rattle.sk_payload.specs.declared.draft_fault.DraftFault.TheVariants as draft
 use Rattle.sk_payload.specs.declared.head.Lock.{Lock}
 use Rattle.clap.specs.Words.{Text}
 use Rattle.sk_app.specs.Ending.{ended}
+use Rattle.sk_app.specs.Hindering.{IsSpoilt}
 use Rattle.sk_app.specs.Jobs.{IsJob}
 use Rattle.sk_app.specs.declared.failure.Failure.{Failure}
 use Rattle.sk_app.specs.declared.job.PushJob.{PushJob}
@@ -51,6 +53,10 @@ pub record Pushes (Carried : List Call → Type 0) (job : PushJob) (outcome : Re
   pub pushed : Result (Unit {0}) ClientFault
   pub sent : Sends Carried (request job) pushed
   pub told : outcome ≡ outcome_of job.draft.jid pushed
+
+-- The request was lost for another cause than want of memory, or got another reply than it wants.
+abbrev pub IsPushSpoilt : PushJob → (List Call → Type 0) → Type 0
+IsPushSpoilt job Carried = IsSpoilt Carried (request job).words (λ r. answers (request job).wanted r ≡ true)
 
 -- ## The chain
 

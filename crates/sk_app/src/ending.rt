@@ -38,12 +38,12 @@ fn reply_text(alloc: Global, reply: &Reply) -> Result<Word, AllocError>
     line(alloc, text.get(1..).unwrap_or(&[]), b"")
 }
 
-// The bytes that an unreadable stream left, in hex.
-fn unreadable(alloc: Global, bytes: &Word) -> Result<Word, AllocError>
-    ensures { IfOk result (λ text. text ≡ ended (codes "unreadable " ++ encode_lower bytes.now)) }
+// A name, and bytes in hex.
+fn shown(alloc: Global, name: &[u8], bytes: &Word) -> Result<Word, AllocError>
+    ensures { IfOk result (λ text. text ≡ ended (name.now ++ encode_lower bytes.now)) }
 {
     let text = hex::encode(alloc, bytes.bytes())?;
-    line(alloc, b"unreadable ", text.as_bytes())
+    line(alloc, name, text.as_bytes())
 }
 
 // What a failure prints, with LF; none where it prints nothing.
@@ -52,7 +52,10 @@ fn failure_text(alloc: Global, failure: &Failure) -> Result<Option<Word>, AllocE
     ensures err { OnErr result (IsSome (line_of failure.now)) }
 {
     match failure {
-        Failure::Link(LinkFault::Unreadable(bytes)) => Ok(Some(unreadable(alloc, bytes)?)),
+        Failure::Link(LinkFault::Unreadable(bytes)) => {
+            Ok(Some(shown(alloc, b"unreadable ", bytes)?))
+        }
+        Failure::Cursor(bytes) => Ok(Some(shown(alloc, b"cursor ", bytes)?)),
         Failure::Refused(reply) => Ok(Some(reply_text(alloc, reply)?)),
         Failure::GenLimit => Ok(Some(line(alloc, b"gen limit", b"")?)),
         Failure::Seats => Ok(Some(line(alloc, b"seats spent", b"")?)),

@@ -8,7 +8,7 @@ use sk_edge::DoorFault;
 use sk_launcher::LaunchFault;
 use sk_line::LineFault;
 use sk_link::LinkFault;
-use sk_resp::Reply;
+use sk_resp::{Reply, Word};
 use std::alloc::{AllocError, AllocFailed};
 
 /// Why a program ends before it has done what its words ask for.
@@ -26,6 +26,8 @@ pub enum Failure {
     Link(LinkFault),
     /// The store answered an error, or a reply of another kind than the request wants.
     Refused(Reply),
+    /// Under the key of a cursor stands this text, which is no number of an item.
+    Cursor(Word),
     /// A worker held a job whose count of failures can't rise, 999,999,999.
     GenLimit,
     /// The journal of a drill has another ask at a place of a seat than the threads tell, or only one of them has an ask there.
@@ -34,7 +36,8 @@ pub enum Failure {
 
 impl Failure {
     /// The exit status: 2 for words that are no command line, 5 for want of memory, 6 for a connection that failed or was unreadable and for
-    /// seats that were used up, 7 for a reply that refuses and for a count that can't rise, and 8 where a drill's journal differs from what is told.
+    /// seats that were used up, 7 for a reply that refuses, for a cursor that is none and for a count that can't rise, and 8 where a drill's journal
+    /// differs from what is told.
     pub fn status(&self) -> u8
         ensures { result ≡ status_of self.now }
     {
@@ -42,7 +45,7 @@ impl Failure {
             Failure::Line => 2,
             Failure::Memory | Failure::Link(LinkFault::Memory) => 5,
             Failure::Door | Failure::Seats | Failure::Link(_) => 6,
-            Failure::Refused(_) | Failure::GenLimit => 7,
+            Failure::Refused(_) | Failure::Cursor(_) | Failure::GenLimit => 7,
             Failure::Differs(_) => 8,
         }
     }

@@ -17,6 +17,10 @@ pub enum Program {
     Soak,
     /// Threads at one store, with crashes.
     Drill,
+    /// A limiter is asked for a slot or a grant.
+    Limit,
+    /// Items are run from a cursor on.
+    Iterate,
 }
 
 // The program with this name.
@@ -40,6 +44,12 @@ fn named(name: &str) -> Option<Program>
     }
     if name == "drill" {
         return Some(Program::Drill);
+    }
+    if name == "limit" {
+        return Some(Program::Limit);
+    }
+    if name == "iterate" {
+        return Some(Program::Iterate);
     }
     None
 }

@@ -4,7 +4,6 @@ ghost use Rattle.std.specs.Prelude.{◌≡◌, ◌⊎◌, None, Err, IfErr, OnOk
 ghost use Rattle.sk_base.specs.Outside.{Rose};
 ghost use Rattle.sk_client.specs.Push.{Accepted, Fails};
 ghost use Rattle.sk_payload.specs.Draft.{draft_fault};
-ghost use Rattle.sk_app.specs.Dialogue.{Dials};
 ghost use Rattle.sk_app.specs.Ending.{Ends};
 ghost use Rattle.sk_middle.specs.Applied.{applied};
 ghost use Rattle.sk_app.specs.Pushing.{Hands, Pushes, outcome_of, request};
@@ -14,11 +13,12 @@ ghost use Rattle.sk_app.specs.Promises.{DoPush, PushDone};
 use crate::Failure;
 use crate::ending::{self, conclude, line};
 use crate::job::{PushJob, job_of};
+use crate::question::{Question, dial};
 use sk_base::{Clock, Dice, Sink};
 use sk_client::{ClientFault, push, push_at, push_unique};
 use sk_edge::Door;
-use sk_line::read_push;
-use sk_link::{Link, WireLink};
+use sk_line::{Address, read_push};
+use sk_link::Link;
 use sk_middle::{ClientChain, Through};
 use sk_payload::DraftFault;
 use sk_resp::{Text, Word};
@@ -52,27 +52,20 @@ fn send<L: Link>(alloc: Global, link: &mut L, job: &PushJob) -> Result<(), Clien
     }
 }
 
-// Pushes the job over the link.
-fn push_over<L: Link>(alloc: Global, link: &mut L, job: &PushJob) -> Result<Word, Failure>
-    requires { draft_fault job.now.draft ≡ None }
-    ensures told { (result ≡ Err Memory) ⊎ Pushes (L.carried link.old link.new) job.now result }
-    ensures never { result ≡ Err Line → ⊥ }
-{
-    let pushed = send(alloc, link, job);
-    outcome_of(alloc, &job.draft.jid, pushed)
-}
+/// The job is pushed. It has to be one that can be written.
+impl Question for PushJob {
+    ghost is_ready = { λ job. draft_fault job.draft ≡ None };
 
-// Pushes the job over a connection of its own.
-fn push_to<N: Door>(alloc: Global, net: &mut N, job: &PushJob) -> Result<Word, Failure>
-    requires { draft_fault job.now.draft ≡ None }
-    ensures told { Dials N.Door N.Conn.Source N.Conn.Sink net.old net.new (λ carried. Pushes carried job.now) result }
-    ensures never { result ≡ Err Line → ⊥ }
-{
-    let conn = net.connect(job.address.host.text(), job.address.port)?;
-    let mut link = WireLink::new(alloc, conn);
-    let outcome = push_over(alloc, &mut link, job);
-    net.leave(link.into_conn());
-    outcome
+    ghost asks = { λ job Carried. Pushes Carried job };
+
+    fn address(&self) -> &Address {
+        &self.address
+    }
+
+    fn ask<L: Link>(&self, alloc: Global, link: &mut L) -> Result<Word, Failure> {
+        let pushed = send(alloc, link, self);
+        outcome_of(alloc, &self.draft.jid, pushed)
+    }
 }
 
 // The job that is pushed for this one: one that goes to its queue now goes through the chain, which may stop it. Others are pushed as they are.
@@ -119,7 +112,7 @@ fn outcome_by<N: Door, C: Clock, D: Dice>(
         return Ok(ending::line(alloc, b"stopped", b"")?);
     };
     try_draft(alloc, &job)?;
-    push_to(alloc, net, &job)
+    dial(alloc, net, &job)
 }
 
 /// Pushes the job that the words, which begin with `push`, ask for, and writes its id and LF; or, where the lock of a unique job is held, `held`, a space,

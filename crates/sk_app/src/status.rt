@@ -1,19 +1,17 @@
-// The program `status`: its words are read, a connection is made, the store is asked for its page, the connection is left to the door, and the page is
-// written.
-ghost use Rattle.std.specs.Prelude.{◌≡◌, ◌⊎◌, Err, IfOk};
+// The program `status`: the store is asked for its page, which is written.
+ghost use Rattle.std.specs.Prelude.{◌≡◌, IfOk};
 ghost use Rattle.sk_base.specs.Outside.{Rose};
-ghost use Rattle.sk_app.specs.Dialogue.{Dials};
+ghost use Rattle.sk_line.specs.Lines.{IsStatus};
 ghost use Rattle.sk_app.specs.Ending.{Ends};
 ghost use Rattle.sk_app.specs.Paging.{Asks, page_of, status_words};
-ghost use Rattle.sk_app.specs.declared.failure.Failure.TheVariants.{Line, Memory};
 ghost use Rattle.sk_app.specs.Promises.{DoStatus, StatusDone};
 
 use crate::Failure;
-use crate::ending::conclude;
+use crate::question::{AskingLine, Question, run_question};
 use sk_base::Sink;
 use sk_edge::Door;
-use sk_line::{Address, read_status};
-use sk_link::{Link, WireLink, words_of};
+use sk_line::{Address, LineFault, StatusLine, read_status};
+use sk_link::{Link, words_of};
 use sk_resp::{Reply, Word, Words};
 use std::alloc::{AllocError, Global};
 
@@ -34,37 +32,33 @@ fn page_of(reply: Reply) -> Result<Word, Failure>
     }
 }
 
-// Asks for the page over the link.
-fn ask_over<L: Link>(alloc: Global, link: &mut L) -> Result<Word, Failure>
-    ensures told { (result ≡ Err Memory) ⊎ Asks (L.carried link.old link.new) result }
-    ensures never { result ≡ Err Line → ⊥ }
-{
-    let words = status_words(alloc)?;
-    match link.call(alloc, &words) {
-        Ok(reply) => page_of(reply),
-        Err(fault) => Err(Failure::Link(fault)),
+/// The store is asked for its page.
+impl Question for StatusLine {
+    ghost is_ready = { λ _. Unit {0} };
+
+    ghost asks = { λ _. Asks };
+
+    fn address(&self) -> &Address {
+        &self.address
+    }
+
+    fn ask<L: Link>(&self, alloc: Global, link: &mut L) -> Result<Word, Failure> {
+        let words = status_words(alloc)?;
+        match link.call(alloc, &words) {
+            Ok(reply) => page_of(reply),
+            Err(fault) => Err(Failure::Link(fault)),
+        }
     }
 }
 
-// Asks for the page over a connection of its own.
-fn ask<N: Door>(alloc: Global, net: &mut N, address: &Address) -> Result<Word, Failure>
-    ensures told { Dials N.Door N.Conn.Source N.Conn.Sink net.old net.new Asks result }
-    ensures never { result ≡ Err Line → ⊥ }
-{
-    let conn = net.connect(address.host.text(), address.port)?;
-    let mut link = WireLink::new(alloc, conn);
-    let outcome = ask_over(alloc, &mut link);
-    net.leave(link.into_conn());
-    outcome
-}
+impl AskingLine for StatusLine {
+    ghost is_line = { IsStatus };
 
-// What `status` comes to.
-fn outcome_by<N: Door>(alloc: Global, words: &[String], net: &mut N) -> Result<Word, Failure>
-    ensures told { DoStatus N.Door N.Conn.Source N.Conn.Sink words.now net.old net.new result }
-    ensures untouched { result ≡ Err Line → net.new ≡ net.old }
-{
-    let line = read_status(alloc, words)?;
-    ask(alloc, net, &line.address)
+    fn read(alloc: Global, words: &[String]) -> Result<Self, LineFault> {
+        read_status(alloc, words)
+    }
+
+    ghost ready = { λ _ _ _. tt };
 }
 
 /// Writes the page of the store that the words, which begin with `status`, name. Answers the status: 0, or what [`Failure::status`] says, or 4 where the
@@ -86,6 +80,5 @@ pub fn run_status<K: Sink, N: Door>(
     // With status 2 nothing was written, and no connection was made.
     ensures untouched { result ≡ 2 → (sink.new ≡ sink.old) × (net.new ≡ net.old) }
 {
-    let outcome = outcome_by(alloc, words, net);
-    conclude(alloc, sink, outcome)
+    run_question::<K, N, StatusLine>(alloc, words, sink, net)
 }

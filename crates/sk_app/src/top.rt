@@ -11,13 +11,16 @@ ghost use Rattle.sk_app.specs.Drilling.{RunsDrill};
 ghost use Rattle.sk_app.specs.Ending.{Ends};
 ghost use Rattle.sk_app.specs.Programs.{program_of};
 ghost use Rattle.sk_app.specs.Soaking.{SoakRun};
-ghost use Rattle.sk_app.specs.declared.program.Program.TheVariants.{Drill, Push, Serve, Soak, Status, Work};
-ghost use Rattle.sk_app.specs.Promises.{DoPush, DoServe, DoStatus, DoWork, DrillDone, Names, PipeDone, Pipes, PushDone, ServeDone, StatusDone, WorkDone, texts};
+ghost use Rattle.sk_app.specs.declared.program.Program.TheVariants.{Drill, Iterate, Limit, Push, Serve, Soak, Status, Work};
+ghost use Rattle.sk_app.specs.Promises.{DoIterate, DoPush, DoServe, DoStatus, DrillDone, IterateDone, LimitDone, Limited, Names, PipeDone, Pipes, PushDone, ServeDone, StatusDone, WorkDone, WorkEnds, texts};
 
 use crate::program::{Program, program_of};
-use crate::{run_drill, run_push, run_serve, run_soak, run_status, run_work};
+use crate::{
+    run_drill, run_limit, run_push, run_question, run_serve, run_soak, run_status, run_work,
+};
 use sk_base::{Clock, Dice, Sink, Source};
 use sk_edge::Door;
+use sk_line::IterateLine;
 use sk_middle::ClientChain;
 use sk_pipe::run as run_pipe;
 use sk_policy::DelayRule;
@@ -34,13 +37,15 @@ use std::thread::Threads;
 /// - `work ..`: workers and a poller for a server ([`run_work`]), which have these teams and rules.
 /// - `push ..`: one job is pushed to a server ([`run_push`]), as this chain makes it, which may stop it.
 /// - `status ..`: the page of a server ([`run_status`]).
+/// - `limit ..`: a limiter of a server is asked for a slot or a grant ([`run_limit`]).
+/// - `iterate ..`: items that do nothing are run from the cursor that a server keeps ([`run_question`]).
 /// - `soak ..`: a large run of a store of its own ([`run_soak`]).
 /// - `drill ..`: threads at a store of its own, with crashes, whose stories are compared with its journal ([`run_drill`]). It has these teams and rules.
 ///
-/// Status 0: all was done. 1: the input of `pipe` has a fault or ends inside a command. 2: the words are no command line; nothing was read, written or
-/// opened. 3, 4: the source, the sink failed. 5: there was no memory. 6: a connection failed or was unreadable, or seats were used up. 7: the store
-/// answered an error, or a worker held a job whose count of failures can't rise. 8: what a drill's threads tell differs from its journal. 9: 2^40 bytes
-/// were read.
+/// Status 0: all was done. 1: the input of `pipe` has a fault or ends inside a command. 2: the words are no command line; nothing was read, written
+/// or opened. 3, 4: the source, the sink failed. 5: there was no memory. 6: a connection failed or was unreadable, or seats were used up. 7: the
+/// store answered an error, a cursor is no number of an item, or a worker held a job whose count of failures can't rise. 8: what a drill's threads
+/// tell differs from its journal. 9: 2^40 bytes were read.
 pub fn run<R: Threads + Wait + Sync, S: Source, K: Sink, N: Door, C: Clock + Send, D: Dice>(
     rt: &R,
     alloc: Global,
@@ -69,9 +74,9 @@ where
     // A server.
     ensures served { Names words.now Serve → Ends K.Sink sink.old sink.new result (DoServe N.Door N.Ear.Ear N.Conn.Source N.Conn.Sink C.Clock words.now net.old net.new) }
 
-    // Workers.
-    ensures worked { Names words.now Work → Ends K.Sink sink.old sink.new result
-        (DoWork N.Door N.Conn.Source N.Conn.Sink runs words.now net.old teams.old net.new teams.new) }
+    // Workers: the i-th has the i-th of the teams, with their rules, and the i-th of the plain rules.
+    ensures worked { Names words.now Work → WorkEnds K.Sink N.Door N.Conn.Source N.Conn.Sink runs words.now rules
+        sink.old net.old teams.old sink.new net.new teams.new result }
 
     // A push.
     ensures pushed { Names words.now Push → Ends K.Sink sink.old sink.new result
@@ -79,6 +84,13 @@ where
 
     // A page.
     ensures paged { Names words.now Status → Ends K.Sink sink.old sink.new result (DoStatus N.Door N.Conn.Source N.Conn.Sink words.now net.old net.new) }
+
+    // A slot or a grant of a limiter.
+    ensures limited { Limited K.Sink N.Door N.Conn.Source N.Conn.Sink D.Dice words.now sink.old net.old dice.old sink.new net.new dice.new result }
+
+    // An iteration.
+    ensures ran { Names words.now Iterate → Ends K.Sink sink.old sink.new result
+        (DoIterate N.Door N.Conn.Source N.Conn.Sink words.now net.old net.new) }
 
     // A large run.
     ensures soaked { Names words.now Soak → Ends K.Sink sink.old sink.new result (SoakRun (texts words.now)) }
@@ -91,6 +103,8 @@ where
     ensures work_completes { Names words.now Work → WorkDone N.Door N.Conn.Source N.Conn.Sink runs words.now net.old teams.old net.new teams.new result }
     ensures push_completes { Names words.now Push → PushDone N.Door N.Conn.Source N.Conn.Sink net.old net.new result }
     ensures status_completes { Names words.now Status → StatusDone N.Door N.Conn.Source N.Conn.Sink words.now net.old net.new result }
+    ensures limit_completes { Names words.now Limit → LimitDone N.Door N.Conn.Source N.Conn.Sink words.now net.old net.new result }
+    ensures iterate_completes { Names words.now Iterate → IterateDone N.Door N.Conn.Source N.Conn.Sink words.now net.old net.new result }
     ensures soak_completes { Names words.now Soak → (line : SoakLine) → IsSoak (texts words.now) line → result ≢ 4 → (result ≡ 0) ⊎ (result ≡ 5) }
     ensures drill_completes { Names words.now Drill → DrillDone (vec_len teams.old) words.now result }
 
@@ -117,6 +131,8 @@ where
         Some(Program::Push) => run_push(alloc, words, chain, sink, net, clock, dice),
         Some(Program::Status) => run_status(alloc, words, sink, net),
         Some(Program::Soak) => run_soak(alloc, words, sink),
+        Some(Program::Limit) => run_limit(alloc, words, sink, net, dice),
+        Some(Program::Iterate) => run_question::<K, N, IterateLine>(alloc, words, sink, net),
         Some(Program::Drill) => run_drill(rt, alloc, words, teams, rules, sink),
         None => run_pipe(alloc, words, source, sink),
     }

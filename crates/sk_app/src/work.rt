@@ -2,11 +2,10 @@
 ghost use Rattle.std.specs.Prelude.{◌≡◌, ◌≤◌, Err, IfOk, vec_len};
 ghost use Rattle.sk_base.specs.Outside.{Rose};
 ghost use Rattle.sk_base.specs.declared.limits.TheConstants.{MOST_WORKERS};
-ghost use Rattle.sk_app.specs.Ending.{Ends};
 ghost use Rattle.sk_app.specs.Working.{IsOutcome, summary_text};
-ghost use Rattle.sk_launcher.specs.Connections.{classes_of};
+ghost use Rattle.sk_launcher.specs.Connections.{classes_of, rules_of};
 ghost use Rattle.sk_app.specs.declared.failure.Failure.TheVariants.{Line};
-ghost use Rattle.sk_app.specs.Promises.{DoWork, WorkDone};
+ghost use Rattle.sk_app.specs.Promises.{DoWork, WorkDone, WorkEnds};
 
 use crate::Failure;
 use crate::ending::conclude;
@@ -54,8 +53,9 @@ fn outcome_by<R: Threads + Wait + Sync, N: Door, C: Clock + Send, D: Dice>(
 ) -> Result<Word, Failure>
     requires rules { vec_len rules ≡ vec_len teams.old }
     requires few { vec_len teams.old ≤ MOST_WORKERS }
-    ensures told { DoWork N.Door N.Conn.Source N.Conn.Sink runs words.now net.old teams.old net.new teams.new result }
+    ensures told { DoWork N.Door N.Conn.Source N.Conn.Sink runs words.now rules net.old teams.old net.new teams.new result }
     ensures teams { classes_of teams.new.items ≡ classes_of teams.old.items }
+    ensures rules { rules_of teams.new.items ≡ rules_of teams.old.items }
     ensures untouched { result ≡ Err Line → (net.new ≡ net.old) × (teams.new ≡ teams.old) }
 {
     let line = read_work(alloc, words, teams.len() as u32)?;
@@ -80,10 +80,11 @@ pub fn run_work<R: Threads + Wait + Sync, K: Sink, N: Door, C: Clock + Send, D: 
 ) -> u8
     requires rules { vec_len rules ≡ vec_len teams.old }
     requires few { vec_len teams.old ≤ MOST_WORKERS }
-    ensures told { Ends K.Sink sink.old sink.new result (DoWork N.Door N.Conn.Source N.Conn.Sink runs words.now net.old teams.old net.new teams.new) }
+    ensures told { WorkEnds K.Sink N.Door N.Conn.Source N.Conn.Sink runs words.now rules sink.old net.old teams.old sink.new net.new teams.new result }
 
-    // The teams stand in their order again.
+    // The teams stand in their order again, with their rules.
     ensures teams { classes_of teams.new.items ≡ classes_of teams.old.items }
+    ensures rules { rules_of teams.new.items ≡ rules_of teams.old.items }
 
     // A line of `work` is done, unless a fault ends its turns, where the sink takes the counts.
     ensures completes { WorkDone N.Door N.Conn.Source N.Conn.Sink runs words.now net.old teams.old net.new teams.new result }

@@ -128,52 +128,35 @@ teams_now now before gone others mid is grown empty = is ∙ ap (λ ts. ts ++ ot
 
 -- ## A worker without a fault hasn't ended
 
-abbrev pub Tells : {Link : Type 0} → WorkState Link → Type 0
+abbrev pub Tells : {Link Delay Dice : Type 0} → WorkState Link Delay Dice → Type 0
 Tells w = w.fault ≡ None → w.ended ≡ false
 
-joined_tells : {Link : Type 0} (a b : WorkState Link) (result : Result (Unit {0}) WorkFault) →
+joined_tells : {Link Delay Dice : Type 0} (a b : WorkState Link Delay Dice) (result : Result (Unit {0}) WorkFault) →
     b ≡ record a { link = b.link; ended = is_err result; fault = kept_fault a.fault result } → Tells b
-joined_tells a b (Ok done) is no_fault = ap (λ (w : WorkState _). w.ended) is
-joined_tells a b (Err f) is no_fault = absurd (cc (sym no_fault ∙ ap (λ (w : WorkState _). w.fault) is))
+joined_tells a b (Ok done) is no_fault = ap (λ (w : WorkState _ _ _). w.ended) is
+joined_tells a b (Err f) is no_fault = absurd (cc (sym no_fault ∙ ap (λ (w : WorkState _ _ _). w.fault) is))
 
-noted_tells : {Link : Type 0} (a b : WorkState Link) (r : Result Turn WorkFault) → IsNoted a r b → Tells b
+noted_tells : {Link Delay Dice : Type 0} (a b : WorkState Link Delay Dice) (r : Result Turn WorkFault) → IsNoted a r b → Tells b
 noted_tells a b (Ok t) noted no_fault = noted.0
 noted_tells a b (Err f) noted no_fault = absurd (cc (sym no_fault ∙ noted.1))
 
-module _ {Link : Type 0} (Carried : Link → Link → List Call → Type 0) where
-  turns_tell : (answers : List Turn) (a b : WorkState Link) → Tells a → Turns (WorkerTurn Carried) a answers b → Tells b
-  turns_tell [] a b tells none = tells
-  turns_tell (t ∷ answers) a b tells (one_more answers' mid to t' before last) = noted_tells mid b (Ok t) last.noted
-
-  pub went_on_tells : (a b : WorkState Link) → WentOn (WorkerTurn Carried) a b → Tells a → Tells b
-  went_on_tells a b (whole answers turns) tells = turns_tell answers a b tells turns
-  went_on_tells a b (broken answers last f turns broke) tells = noted_tells last b (Err f) broke.noted
-
-  -- It hadn't ended before either.
-  turns_began : (answers : List Turn) (a b : WorkState Link) → Turns (WorkerTurn Carried) a answers b → b.ended ≡ false → a.ended ≡ false
-  turns_began [] a b none goes_on = goes_on
-  turns_began (t ∷ answers) a b (one_more answers' mid to t' before last) goes_on = turns_began answers a mid before last.whole
-
-  pub went_on_began : (a b : WorkState Link) → WentOn (WorkerTurn Carried) a b → b.ended ≡ false → a.ended ≡ false
-  went_on_began a b (whole answers turns) goes_on = turns_began answers a b turns goes_on
-  went_on_began a b (broken answers last f turns broke) goes_on = turns_began answers a last turns broke.whole
-
-  leaves_by : (a b : WorkState Link) (ended : Bool) → a.ended ≡ ended → MatchBool ended (b ≡ a) (HasLeft Carried a b) → Tells a → b.fault ≡ None → a.ended ≡ false
+module _ {Link Delay Dice : Type 0} (Carried : Link → Link → List Call → Type 0) where
+  leaves_by : (a b : WorkState Link Delay Dice) (ended : Bool) → a.ended ≡ ended → MatchBool ended (b ≡ a) (HasLeft Carried a b) → Tells a → b.fault ≡ None → a.ended ≡ false
   leaves_by a b false is left tells no_fault = is
-  leaves_by a b true is left tells no_fault = tells (ap (λ (w : WorkState _). w.fault) (sym left) ∙ no_fault)
+  leaves_by a b true is left tells no_fault = tells (ap (λ (w : WorkState _ _ _). w.fault) (sym left) ∙ no_fault)
 
-  tally_by : (a b : WorkState Link) (ended : Bool) → MatchBool ended (b ≡ a) (HasLeft Carried a b) → b.tally ≡ a.tally
-  tally_by a b false left = ap (λ (w : WorkState _). w.tally) left.becomes
-  tally_by a b true left = ap (λ (w : WorkState _). w.tally) left
+  tally_by : (a b : WorkState Link Delay Dice) (ended : Bool) → MatchBool ended (b ≡ a) (HasLeft Carried a b) → b.tally ≡ a.tally
+  tally_by a b false left = ap (λ (w : WorkState _ _ _). w.tally) left.becomes
+  tally_by a b true left = ap (λ (w : WorkState _ _ _). w.tally) left
 
   -- One that left without a fault hadn't ended before.
-  leaves_whole : (a b : WorkState Link) → Leaves Carried a b → Tells a → b.fault ≡ None → a.ended ≡ false
+  leaves_whole : (a b : WorkState Link Delay Dice) → Leaves Carried a b → Tells a → b.fault ≡ None → a.ended ≡ false
   leaves_whole a b left tells no_fault = leaves_by a b a.ended refl left tells no_fault
 
-  pub leaves_tally : (a b : WorkState Link) → Leaves Carried a b → b.tally ≡ a.tally
+  pub leaves_tally : (a b : WorkState Link Delay Dice) → Leaves Carried a b → b.tally ≡ a.tally
   leaves_tally a b left = tally_by a b a.ended left
 
-  pub all_left_whole : (worked gone : List (WorkState Link)) → AllZip (Leaves Carried) worked gone → AllByRecursion Tells worked → work_faults gone ≡ [] →
+  pub all_left_whole : (worked gone : List (WorkState Link Delay Dice)) → AllZip (Leaves Carried) worked gone → AllByRecursion Tells worked → work_faults gone ≡ [] →
       AllByRecursion (λ w. w.ended ≡ false) worked
   all_left_whole [] [] zip tells no_fault = tt
   all_left_whole (w ∷ worked) (g ∷ gone) zip tells no_fault = (
@@ -183,142 +166,184 @@ module _ {Link : Type 0} (Carried : Link → Link → List Call → Type 0) wher
   all_left_whole [] (g ∷ gone) zip tells no_fault = absurd zip
   all_left_whole (w ∷ worked) [] zip tells no_fault = absurd zip
 
-  turns_settle : (answers : List Turn) (a b : WorkState Link) → Turns (WorkerTurn Carried) a answers b → b.settings ≡ a.settings
-  turns_settle [] a b none = refl
-  turns_settle (t ∷ answers) a b (one_more answers' mid to t' before last) = last.settings_same ∙ turns_settle answers a mid before
+  settings_by : (a b : WorkState Link Delay Dice) (ended : Bool) → MatchBool ended (b ≡ a) (HasLeft Carried a b) → b.settings ≡ a.settings
+  settings_by a b false left = ap (λ (w : WorkState _ _ _). w.settings) left.becomes
+  settings_by a b true left = ap (λ (w : WorkState _ _ _). w.settings) left
 
-  pub went_on_settles : (a b : WorkState Link) → WentOn (WorkerTurn Carried) a b → b.settings ≡ a.settings
-  went_on_settles a b (whole answers turns) = turns_settle answers a b turns
-  went_on_settles a b (broken answers last f turns broke) = broke.settings_same ∙ turns_settle answers a last turns
-
-  settings_by : (a b : WorkState Link) (ended : Bool) → MatchBool ended (b ≡ a) (HasLeft Carried a b) → b.settings ≡ a.settings
-  settings_by a b false left = ap (λ (w : WorkState _). w.settings) left.becomes
-  settings_by a b true left = ap (λ (w : WorkState _). w.settings) left
-
-  leaves_settled : (a b : WorkState Link) → Leaves Carried a b → b.settings ≡ a.settings
+  leaves_settled : (a b : WorkState Link Delay Dice) → Leaves Carried a b → b.settings ≡ a.settings
   leaves_settled a b left = settings_by a b a.ended left
 
-  -- Nobody took a turn.
-  pub stood_still : (poller : PollState Link) (workers : List (WorkState Link)) → InThreads Carried poller poller workers workers
-  stood_still poller workers = record {
-    polled = went_on_none (PollerTurn Carried) poller;
-    worked = all_same (WentOn (WorkerTurn Carried)) (went_on_none (WorkerTurn Carried)) workers;
-  }
+  rules_by : (a b : WorkState Link Delay Dice) (ended : Bool) → MatchBool ended (b ≡ a) (HasLeft Carried a b) → b.rules ≡ a.rules
+  rules_by a b false left = ap (λ (w : WorkState _ _ _). w.rules) left.becomes
+  rules_by a b true left = ap (λ (w : WorkState _ _ _). w.rules) left
+
+  leaves_ruled : (a b : WorkState Link Delay Dice) → Leaves Carried a b → b.rules ≡ a.rules
+  leaves_ruled a b left = rules_by a b a.ended left
+
+  module _ (Answers : Delay → ℕ → ℕ → Type 0) where
+    turns_tell : (answers : List Turn) (a b : WorkState Link Delay Dice) → Tells a → Turns (WorkerTurn Carried Answers) a answers b → Tells b
+    turns_tell [] a b tells none = tells
+    turns_tell (t ∷ answers) a b tells (one_more answers' mid to t' before last) = noted_tells mid b (Ok t) last.noted
+
+    pub went_on_tells : (a b : WorkState Link Delay Dice) → WentOn (WorkerTurn Carried Answers) a b → Tells a → Tells b
+    went_on_tells a b (whole answers turns) tells = turns_tell answers a b tells turns
+    went_on_tells a b (broken answers last f turns broke) tells = noted_tells last b (Err f) broke.noted
+
+    -- It hadn't ended before either.
+    turns_began : (answers : List Turn) (a b : WorkState Link Delay Dice) → Turns (WorkerTurn Carried Answers) a answers b → b.ended ≡ false → a.ended ≡ false
+    turns_began [] a b none goes_on = goes_on
+    turns_began (t ∷ answers) a b (one_more answers' mid to t' before last) goes_on = turns_began answers a mid before last.whole
+
+    pub went_on_began : (a b : WorkState Link Delay Dice) → WentOn (WorkerTurn Carried Answers) a b → b.ended ≡ false → a.ended ≡ false
+    went_on_began a b (whole answers turns) goes_on = turns_began answers a b turns goes_on
+    went_on_began a b (broken answers last f turns broke) goes_on = turns_began answers a last turns broke.whole
+
+    turns_settle : (answers : List Turn) (a b : WorkState Link Delay Dice) → Turns (WorkerTurn Carried Answers) a answers b → b.settings ≡ a.settings
+    turns_settle [] a b none = refl
+    turns_settle (t ∷ answers) a b (one_more answers' mid to t' before last) = last.settings_same ∙ turns_settle answers a mid before
+
+    pub went_on_settles : (a b : WorkState Link Delay Dice) → WentOn (WorkerTurn Carried Answers) a b → b.settings ≡ a.settings
+    went_on_settles a b (whole answers turns) = turns_settle answers a b turns
+    went_on_settles a b (broken answers last f turns broke) = broke.settings_same ∙ turns_settle answers a last turns
+
+    turns_rule : (answers : List Turn) (a b : WorkState Link Delay Dice) → Turns (WorkerTurn Carried Answers) a answers b → b.rules ≡ a.rules
+    turns_rule [] a b none = refl
+    turns_rule (t ∷ answers) a b (one_more answers' mid to t' before last) = last.rules_same ∙ turns_rule answers a mid before
+
+    pub went_on_rules : (a b : WorkState Link Delay Dice) → WentOn (WorkerTurn Carried Answers) a b → b.rules ≡ a.rules
+    went_on_rules a b (whole answers turns) = turns_rule answers a b turns
+    went_on_rules a b (broken answers last f turns broke) = broke.rules_same ∙ turns_rule answers a last turns
+
+    -- Nobody took a turn.
+    pub stood_still : (poller : PollState Link Dice) (workers : List (WorkState Link Delay Dice)) → InThreads Carried Answers poller poller workers workers
+    stood_still poller workers = record {
+      polled = went_on_none (PollerTurn Carried) poller;
+      worked = all_same (WentOn (WorkerTurn Carried Answers)) (went_on_none (WorkerTurn Carried Answers)) workers;
+    }
+
+no_hindrance : (T : Type 0) (hired : Result (Unit {0}) LaunchFault) → hindrance_of hired ≡ [] → OnOk hired T → T
+no_hindrance T (Ok done) is t = t
+no_hindrance T (Err f) is t = absurd (cc is)
+
+-- ## What is seen of a team
+
+abbrev pub seen_classes : {Delay : Type 0} → Team Delay → List Bytes
+seen_classes t = t.classes
+
+abbrev pub seen_rules : {Delay : Type 0} → Team Delay → List Delay
+seen_rules t = t.rules
 
 -- ## Those who were hired
 
-module _ {Conn : Type 0} (Carried : WireState Conn → WireState Conn → List Call → Type 0) (own : List Bytes → Settings) where
-  each_hired : (P : WorkState (WireState Conn) → Type 0) → ((a b : Office Conn) (h : Hire (WireState Conn)) → Hires Carried own a h b → P h.joined) →
-      (a b : Office Conn) (hires : List (Hire (WireState Conn))) → Each (Hires Carried own) a hires b → AllByRecursion P (map (λ h. h.joined) hires)
+module _ {Conn Delay Dice : Type 0} (Carried : WireState Conn → WireState Conn → List Call → Type 0) (own : List Bytes → Settings) where
+  each_hired : (P : WorkState (WireState Conn) Delay Dice → Type 0) → ((a b : Office Conn Delay Dice) (h : Hire (WireState Conn) Delay Dice) → Hires Carried own a h b → P h.joined) →
+      (a b : Office Conn Delay Dice) (hires : List (Hire (WireState Conn) Delay Dice)) → Each (Hires Carried own) a hires b → AllByRecursion P (map (λ h. h.joined) hires)
   each_hired P one a b hires none_hired = tt
   each_hired P one a b hires (one_hired xs mid to h before last) =
-      subst (AllByRecursion P) (sym (map_end (λ (z : Hire (WireState Conn)). z.joined) xs h)) (all_end P (map (λ z. z.joined) xs) h.joined (each_hired P one a mid xs before) (one mid b h last))
+      subst (AllByRecursion P) (sym (map_end (λ (z : Hire (WireState Conn) Delay Dice). z.joined) xs h)) (all_end P (map (λ z. z.joined) xs) h.joined (each_hired P one a mid xs before) (one mid b h last))
 
-  tells_hired : (a b : Office Conn) (h : Hire (WireState Conn)) → Hires Carried own a h b → Tells h.joined
+  tells_hired : (a b : Office Conn Delay Dice) (h : Hire (WireState Conn) Delay Dice) → Hires Carried own a h b → Tells h.joined
   tells_hired a b h hires = let joins = hires.starts.joins in joined_tells h.fresh h.joined joins.result joins.becomes
 
-  taken_hired : (a b : Office Conn) (h : Hire (WireState Conn)) → Hires Carried own a h b → h.joined.tally.taken ≤ 0
+  taken_hired : (a b : Office Conn Delay Dice) (h : Hire (WireState Conn) Delay Dice) → Hires Carried own a h b → h.joined.tally.taken ≤ 0
   taken_hired a b h hires =
-      let same = ap (λ (w : WorkState _). w.tally.taken) hires.starts.joins.becomes in
+      let same = ap (λ (w : WorkState _ _ _). w.tally.taken) hires.starts.joins.becomes in
       let none_yet = ap (λ (t : _). t.taken) hires.starts.tally in
       omega (arith, same, none_yet)
 
-  pub all_tell : (a b : Office Conn) (workers : List (WorkState (WireState Conn))) → HiresAll Carried own a workers b → AllByRecursion Tells workers
+  pub all_tell : (a b : Office Conn Delay Dice) (workers : List (WorkState (WireState Conn) Delay Dice)) → HiresAll Carried own a workers b → AllByRecursion Tells workers
   all_tell a b workers (hires, chain, is) = subst (AllByRecursion Tells) (sym is) (each_hired Tells tells_hired a b hires chain)
 
-  pub none_taken : (a b : Office Conn) (workers : List (WorkState (WireState Conn))) → HiresAll Carried own a workers b → AllByRecursion (λ w. w.tally.taken ≤ 0) workers
+  pub none_taken : (a b : Office Conn Delay Dice) (workers : List (WorkState (WireState Conn) Delay Dice)) → HiresAll Carried own a workers b → AllByRecursion (λ w. w.tally.taken ≤ 0) workers
   none_taken a b workers (hires, chain, is) =
       subst (AllByRecursion (λ w. w.tally.taken ≤ 0)) (sym is) (each_hired (λ w. w.tally.taken ≤ 0) taken_hired a b hires chain)
 
-  -- ## All took their turns
-
-  turns_same : (turns : ℕ) (a b : WorkState (WireState Conn)) → Leaves Carried a b → a.tally.taken ≡ turns → b.tally.taken ≡ turns
-  turns_same turns a b left taken = ap (λ (t : _). t.taken) (leaves_tally Carried a b left) ∙ taken
-
-  no_hindrance : (T : Type 0) (hired : Result (Unit {0}) LaunchFault) → hindrance_of hired ≡ [] → OnOk hired T → T
-  no_hindrance T (Ok done) is t = t
-  no_hindrance T (Err f) is t = absurd (cc is)
-
-  pub all_worked : (threads turns : ℕ) (poller done : PollState (WireState Conn)) (before after : Office Conn) (worked gone : List (WorkState (WireState Conn)))
-      (hired : Result (Unit {0}) LaunchFault) (faults : List LaunchFault) → Employs Carried own poller done before after worked → AllZip (Leaves Carried) worked gone →
-      faults ≡ option_to_list (option_map by_poll done.fault) ++ (work_faults gone ++ hindrance_of hired) →
-      OnOk hired (0 < turns → AreWhole done worked → AllWorked threads turns done worked) → 0 < turns → faults ≡ [] → AllWorked threads turns done gone
-  all_worked threads turns poller done before after worked gone hired faults e left are worked_all some empty =
-      let polls = option_to_list (option_map by_poll done.fault) in
-      let others = work_faults gone ++ hindrance_of hired in
-      let nothing : polls ++ others ≡ [] = sym are ∙ empty in
-      let no_others : others ≡ [] = none_right polls others nothing in
-      let tells : AllByRecursion Tells worked = along (WentOn (WorkerTurn Carried)) Tells Tells (went_on_tells Carried) e.hired worked e.working.worked
-      (all_tell before after e.hired e.hiring) in
-      let unended = all_left_whole Carried worked gone left tells (none_left (work_faults gone) (hindrance_of hired) no_others) in
-      let all : AllWorked threads turns done worked = no_hindrance _ hired (none_right (work_faults gone) (hindrance_of hired) no_others) worked_all some
-      (no_option by_poll done.fault (none_left polls others nothing), unended) in
-      record {
-        some = some;
-        all = same_length (Leaves Carried) worked gone left ∙ all.all;
-        taken = (all.taken.0, along (Leaves Carried) (λ w. w.tally.taken ≡ turns) (λ w. w.tally.taken ≡ turns) (turns_same turns) worked gone left all.taken.1);
-      }
-
-  -- ## The teams
-
-  -- one that met a fault only in joining or leaving told nothing
-  fresh_team : (a b : Office Conn) (h : Hire (WireState Conn)) (hires : Hires Carried own a h b) → a.teams ≡ own_team h.fresh ∷ b.teams
-  fresh_team a b h hires = hires.next ∙ ap (λ t. t ∷ b.teams) (sym hires.starts.team_is)
-
-  teams_used : (a b : Office Conn) (hires : List (Hire (WireState Conn))) → Each (Hires Carried own) a hires b → a.teams ≡ map (λ h. own_team h.fresh) hires ++ b.teams
+  teams_used : (a b : Office Conn Delay Dice) (hires : List (Hire (WireState Conn) Delay Dice)) → Each (Hires Carried own) a hires b → a.teams ≡ map (λ h. own_team h.fresh) hires ++ b.teams
   teams_used a b hires none_hired = refl
   teams_used a b hires (one_hired xs mid to h before last) =
-      let used = map (λ (z : Hire (WireState Conn)). own_team z.fresh) xs in
-      teams_used a mid xs before ∙ ap (λ ts. used ++ ts) (fresh_team mid b h last) ∙ sym (append_assoc used (own_team h.fresh ∷ []) b.teams)
-      ∙ ap (λ ts. ts ++ b.teams) (sym (map_end (λ (z : Hire (WireState Conn)). own_team z.fresh) xs h))
+      let used = map (λ (z : Hire (WireState Conn) Delay Dice). own_team z.fresh) xs in
+      teams_used a mid xs before ∙ ap (λ ts. used ++ ts) last.next_team ∙ sym (append_assoc used (own_team h.fresh ∷ []) b.teams)
+      ∙ ap (λ ts. ts ++ b.teams) (sym (map_end (λ (z : Hire (WireState Conn) Delay Dice). own_team z.fresh) xs h))
 
-  hired_ran : (a b : Office Conn) (h : Hire (WireState Conn)) → Hires Carried own a h b → Ran h.fresh h.joined
-  hired_ran a b h hires = ran_alike h.fresh h.joined (ap (λ (w : WorkState _). w.settings) hires.starts.joins.becomes)
-      (ap (λ (w : WorkState _). w.told) hires.starts.joins.becomes) (ap (λ (w : WorkState _). w.tally) hires.starts.joins.becomes)
+  hired_ran : (a b : Office Conn Delay Dice) (h : Hire (WireState Conn) Delay Dice) → Hires Carried own a h b → Ran h.fresh h.joined
+  hired_ran a b h hires = ran_alike h.fresh h.joined (ap (λ (w : WorkState _ _ _). w.settings) hires.starts.joins.becomes)
+      (ap (λ (w : WorkState _ _ _). w.rules) hires.starts.joins.becomes) (ap (λ (w : WorkState _ _ _). w.told) hires.starts.joins.becomes) (ap (λ (w : WorkState _ _ _). w.tally) hires.starts.joins.becomes)
 
-  hired_none : (a b : Office Conn) (h : Hire (WireState Conn)) → Hires Carried own a h b → h.fresh.tally.counts.done ≡ 0
+  hired_none : (a b : Office Conn Delay Dice) (h : Hire (WireState Conn) Delay Dice) → Hires Carried own a h b → h.fresh.tally.counts.done ≡ 0
   hired_none a b h hires = ap (λ (t : TallyView). t.counts.done) hires.starts.tally
 
-  each_of : (P : Hire (WireState Conn) → Type 0) → ((a b : Office Conn) (h : Hire (WireState Conn)) → Hires Carried own a h b → P h) →
-      (a b : Office Conn) (hires : List (Hire (WireState Conn))) → Each (Hires Carried own) a hires b → AllByRecursion P hires
+  each_of : (P : Hire (WireState Conn) Delay Dice → Type 0) → ((a b : Office Conn Delay Dice) (h : Hire (WireState Conn) Delay Dice) → Hires Carried own a h b → P h) →
+      (a b : Office Conn Delay Dice) (hires : List (Hire (WireState Conn) Delay Dice)) → Each (Hires Carried own) a hires b → AllByRecursion P hires
   each_of P one a b hires none_hired = tt
   each_of P one a b hires (one_hired xs mid to h before last) = all_end P xs h (each_of P one a mid xs before) (one mid b h last)
 
-  -- Where none had a fault, the workers did what the runs of their teams returned.
-  pub teams_returned : (poller done : PollState (WireState Conn)) (before after : Office Conn) (worked gone : List (WorkState (WireState Conn))) →
-      Employs Carried own poller done before after worked → AllZip (Leaves Carried) worked gone → work_faults gone ≡ [] →
-      HaveReturned before.teams (map own_team gone ++ after.teams) (done_in (map (λ w. w.tally.counts) gone))
-  teams_returned poller done before after worked gone e left no_fault =
-      let hires = e.hiring.0 in
-      let fresh = λ (h : Hire (WireState Conn)). h.fresh in
-      let joined = λ (h : Hire (WireState Conn)). h.joined in
-      let tells : AllByRecursion Tells worked = along (WentOn (WorkerTurn Carried)) Tells Tells (went_on_tells Carried) e.hired worked e.working.worked
-      (all_tell before after e.hired e.hiring) in
-      let unended = all_left_whole Carried worked gone left tells no_fault in
-      let first : AllZip Ran (map fresh hires) (map joined hires) = zip_by Ran fresh joined hires (each_of (λ h. Ran h.fresh h.joined) hired_ran before after hires e.hiring.1) in
-      let second : AllZip Ran (map joined hires) worked = subst (λ ws. AllZip Ran ws worked) e.hiring.2
-      (zip_if (WentOn (WorkerTurn Carried)) Ran (λ w. w.ended ≡ false) (went_on_ran Carried) e.hired worked e.working.worked unended) in
-      let third : AllZip Ran worked gone = zip_along (Leaves Carried) Ran (leaves_ran Carried) worked gone left in
-      let all : AllZip Ran (map fresh hires) gone = all_on Ran ran_then (map fresh hires) worked gone (all_on Ran ran_then (map fresh hires) (map joined hires) worked first second) third in
-      let none : AllByRecursion (λ w. w.tally.counts.done ≡ 0) (map fresh hires) = all_of fresh (λ w. w.tally.counts.done ≡ 0) hires
-      (each_of (λ h. h.fresh.tally.counts.done ≡ 0) hired_none before after hires e.hiring.1) in
-      subst (λ ts. HaveReturned ts (map own_team gone ++ after.teams) (done_in (map (λ w. w.tally.counts) gone)))
-      (sym (teams_used before after hires e.hiring.1 ∙ ap (λ ts. ts ++ after.teams) (sym (mapped fresh own_team hires))))
-      (with_others after.teams (map own_team (map fresh hires)) (map own_team gone) (done_in (map (λ w. w.tally.counts) gone)) (all_returned (map fresh hires) gone all none))
+  module _ (Answers : Delay → ℕ → ℕ → Type 0) where
+    -- ## All took their turns
 
-  module _ (keeps : (classes : List Bytes) → (own classes).classes ≡ classes) where
-    -- Who left had the teams that are used up.
-    pub teams_back : (poller done : PollState (WireState Conn)) (before after : Office Conn) (worked gone : List (WorkState (WireState Conn))) →
-        Employs Carried own poller done before after worked → AllZip (Leaves Carried) worked gone →
-        map (λ t. t.classes) (map own_team gone ++ after.teams) ≡ map (λ t. t.classes) before.teams
-    teams_back poller done before after worked gone e left =
-        let classes = λ (w : WorkState (WireState Conn)). w.settings.classes in
-        let of_team = λ (t : Team). t.classes in
-        let worked_same = same_map (Leaves Carried) classes classes (λ x y p. ap (λ (s : Settings). s.classes) (leaves_settled Carried x y p)) worked gone left in
-        let hired_same = same_map (WentOn (WorkerTurn Carried)) classes classes (λ x y p. ap (λ (s : Settings). s.classes) (went_on_settles Carried x y p)) e.hired worked e.working.worked in
-        let joined_same = all_alike (λ (h : Hire (WireState Conn)). h.fresh.settings.classes) (λ (h : Hire (WireState Conn)). h.joined.settings.classes) e.hiring.0
-        (each_of (λ h. h.joined.settings.classes ≡ h.fresh.settings.classes) (λ a b h hires. ap (λ (w : WorkState _). w.settings.classes) hires.starts.joins.becomes) before after e.hiring.0 e.hiring.1) in
-        map_both of_team (map own_team gone) after.teams
-        ∙ ap (λ cs. cs ++ map of_team after.teams) (mapped own_team of_team gone ∙ worked_same ∙ hired_same ∙ ap (map classes) e.hiring.2 ∙ mapped (λ h. h.joined) classes e.hiring.0 ∙ joined_same
-        ∙ sym (mapped (λ h. own_team h.fresh) of_team e.hiring.0))
-        ∙ sym (map_both of_team (map (λ h. own_team h.fresh) e.hiring.0) after.teams) ∙ ap (map of_team) (sym (teams_used before after e.hiring.0 e.hiring.1))
+    turns_same : (turns : ℕ) (a b : WorkState (WireState Conn) Delay Dice) → Leaves Carried a b → a.tally.taken ≡ turns → b.tally.taken ≡ turns
+    turns_same turns a b left taken = ap (λ (t : _). t.taken) (leaves_tally Carried a b left) ∙ taken
+
+    pub all_worked : (threads turns : ℕ) (poller done : PollState (WireState Conn) Dice) (before after : Office Conn Delay Dice) (worked gone : List (WorkState (WireState Conn) Delay Dice))
+        (hired : Result (Unit {0}) LaunchFault) (faults : List LaunchFault) → Employs Carried Answers own poller done before after worked → AllZip (Leaves Carried) worked gone →
+        faults ≡ option_to_list (option_map by_poll done.fault) ++ (work_faults gone ++ hindrance_of hired) →
+        OnOk hired (0 < turns → AreWhole done worked → AllWorked threads turns done worked) → 0 < turns → faults ≡ [] → AllWorked threads turns done gone
+    all_worked threads turns poller done before after worked gone hired faults e left are worked_all some empty =
+        let polls = option_to_list (option_map by_poll done.fault) in
+        let others = work_faults gone ++ hindrance_of hired in
+        let nothing : polls ++ others ≡ [] = sym are ∙ empty in
+        let no_others : others ≡ [] = none_right polls others nothing in
+        let tells : AllByRecursion Tells worked = along (WentOn (WorkerTurn Carried Answers)) Tells Tells (went_on_tells Carried Answers) e.hired worked e.working.worked
+        (all_tell before after e.hired e.hiring) in
+        let unended = all_left_whole Carried worked gone left tells (none_left (work_faults gone) (hindrance_of hired) no_others) in
+        let all : AllWorked threads turns done worked = no_hindrance _ hired (none_right (work_faults gone) (hindrance_of hired) no_others) worked_all some
+        (no_option by_poll done.fault (none_left polls others nothing), unended) in
+        record {
+          some = some;
+          all = same_length (Leaves Carried) worked gone left ∙ all.all;
+          taken = (all.taken.0, along (Leaves Carried) (λ w. w.tally.taken ≡ turns) (λ w. w.tally.taken ≡ turns) (turns_same turns) worked gone left all.taken.1);
+        }
+
+    -- ## The teams
+
+    -- Where none had a fault, the workers did what the runs of their teams returned.
+    pub teams_returned : (poller done : PollState (WireState Conn) Dice) (before after : Office Conn Delay Dice) (worked gone : List (WorkState (WireState Conn) Delay Dice)) →
+        Employs Carried Answers own poller done before after worked → AllZip (Leaves Carried) worked gone → work_faults gone ≡ [] →
+        HaveReturned before.teams (map own_team gone ++ after.teams) (done_in (map (λ w. w.tally.counts) gone))
+    teams_returned poller done before after worked gone e left no_fault =
+        let hires = e.hiring.0 in
+        let fresh = λ (h : Hire (WireState Conn) Delay Dice). h.fresh in
+        let joined = λ (h : Hire (WireState Conn) Delay Dice). h.joined in
+        let tells : AllByRecursion Tells worked = along (WentOn (WorkerTurn Carried Answers)) Tells Tells (went_on_tells Carried Answers) e.hired worked e.working.worked
+        (all_tell before after e.hired e.hiring) in
+        let unended = all_left_whole Carried worked gone left tells no_fault in
+        let first : AllZip Ran (map fresh hires) (map joined hires) = zip_by Ran fresh joined hires (each_of (λ h. Ran h.fresh h.joined) hired_ran before after hires e.hiring.1) in
+        let second : AllZip Ran (map joined hires) worked = subst (λ ws. AllZip Ran ws worked) e.hiring.2
+        (zip_if (WentOn (WorkerTurn Carried Answers)) Ran (λ w. w.ended ≡ false) (went_on_ran Carried Answers) e.hired worked e.working.worked unended) in
+        let third : AllZip Ran worked gone = zip_along (Leaves Carried) Ran (leaves_ran Carried) worked gone left in
+        let all : AllZip Ran (map fresh hires) gone = all_on Ran ran_then (map fresh hires) worked gone (all_on Ran ran_then (map fresh hires) (map joined hires) worked first second) third in
+        let none : AllByRecursion (λ w. w.tally.counts.done ≡ 0) (map fresh hires) = all_of fresh (λ w. w.tally.counts.done ≡ 0) hires
+        (each_of (λ h. h.fresh.tally.counts.done ≡ 0) hired_none before after hires e.hiring.1) in
+        subst (λ ts. HaveReturned ts (map own_team gone ++ after.teams) (done_in (map (λ w. w.tally.counts) gone)))
+        (sym (teams_used before after hires e.hiring.1 ∙ ap (λ ts. ts ++ after.teams) (sym (mapped fresh own_team hires))))
+        (with_others after.teams (map own_team (map fresh hires)) (map own_team gone) (done_in (map (λ w. w.tally.counts) gone)) (all_returned (map fresh hires) gone all none))
+
+    -- Whatever is seen of a team by its classes and its rules.
+    module _ {X : Type 0} (seen : Team Delay → X) (alike : (a b : Team Delay) → b.classes ≡ a.classes → b.rules ≡ a.rules → seen b ≡ seen a) where
+      seen_alike : (a b : WorkState (WireState Conn) Delay Dice) → b.settings ≡ a.settings → b.rules ≡ a.rules → seen (own_team b) ≡ seen (own_team a)
+      seen_alike a b settled ruled = alike (own_team a) (own_team b) (ap (λ (s : Settings). s.classes) settled) ruled
+
+      -- Who left had the teams that are used up.
+      pub teams_back : (poller done : PollState (WireState Conn) Dice) (before after : Office Conn Delay Dice) (worked gone : List (WorkState (WireState Conn) Delay Dice)) →
+          Employs Carried Answers own poller done before after worked → AllZip (Leaves Carried) worked gone →
+          map seen (map own_team gone ++ after.teams) ≡ map seen before.teams
+      teams_back poller done before after worked gone e left =
+          let own_seen = λ (w : WorkState (WireState Conn) Delay Dice). seen (own_team w) in
+          let worked_same = same_map (Leaves Carried) own_seen own_seen (λ x y p. seen_alike x y (leaves_settled Carried x y p) (leaves_ruled Carried x y p)) worked gone left in
+          let hired_same = same_map (WentOn (WorkerTurn Carried Answers)) own_seen own_seen
+          (λ x y p. seen_alike x y (went_on_settles Carried Answers x y p) (went_on_rules Carried Answers x y p)) e.hired worked e.working.worked in
+          let joined_same = all_alike (λ (h : Hire (WireState Conn) Delay Dice). seen (own_team h.fresh)) (λ (h : Hire (WireState Conn) Delay Dice). seen (own_team h.joined)) e.hiring.0
+          (each_of (λ h. seen (own_team h.joined) ≡ seen (own_team h.fresh)) (λ a b h hires. ap (λ (w : WorkState _ _ _). seen (own_team w)) hires.starts.joins.becomes) before after e.hiring.0 e.hiring.1) in
+          map_both seen (map own_team gone) after.teams
+          ∙ ap (λ cs. cs ++ map seen after.teams) (mapped own_team seen gone ∙ worked_same ∙ hired_same ∙ ap (map own_seen) e.hiring.2 ∙ mapped (λ h. h.joined) own_seen e.hiring.0 ∙ joined_same
+          ∙ sym (mapped (λ h. own_team h.fresh) seen e.hiring.0))
+          ∙ sym (map_both seen (map (λ h. own_team h.fresh) e.hiring.0) after.teams) ∙ ap (map seen) (sym (teams_used before after e.hiring.0 e.hiring.1))

@@ -14,40 +14,47 @@ use Rattle.sk_launcher.specs.Teams.{Team}
 use Rattle.sk_launcher.specs.Working.{WorkState, own_team, settings}
 use Rattle.sk_launcher.proofs.Employed.{all_listed, map_end}
 
-module _ {Conn : Type 0} (Carried : WireState Conn → WireState Conn → List Call → Type 0) where
-  pub started_by : (conn : Conn) (own : Settings) (team : Team) (a b : WorkState (WireState Conn)) → a.link ≡ record { conn = conn; pending = []; ended = false } →
-      a.settings ≡ own → own_team a ≡ team → a.held ≡ [] → a.ended ≡ false → a.fault ≡ None → a.tally ≡ record { taken = 0; counts = no_turns } → HasJoined Carried a b →
-      (h : Hire (WireState Conn)) × IsStarted Carried conn own team h × (b ≡ h.joined)
-  started_by conn own team a b link settled teamed held whole fault tally joins = (
+module _ {Conn Delay Dice : Type 0} (Carried : WireState Conn → WireState Conn → List Call → Type 0) where
+  pub started_by : (conn : Conn) (own : List Bytes → Settings) (team : Team Delay) (plain : Delay) (dice : Dice) (a b : WorkState (WireState Conn) Delay Dice) →
+      a.link ≡ record { conn = conn; pending = []; ended = false } → a.settings ≡ own a.settings.classes → own_team a ≡ team → a.plain ≡ plain → a.dice ≡ dice →
+      a.held ≡ [] → a.ended ≡ false → a.fault ≡ None → a.tally ≡ record { taken = 0; counts = no_turns } → HasJoined Carried a b →
+      (h : Hire (WireState Conn) Delay Dice) × IsStarted Carried conn own h × (own_team h.fresh ≡ team) × (h.fresh.plain ≡ plain) × (h.fresh.dice ≡ dice) × (b ≡ h.joined)
+  started_by conn own team plain dice a b link settled teamed ruled diced held whole fault tally joins = (
     record { fresh = a; joined = b },
-    record { link = link; settings_are = settled; team_is = teamed; held = held; whole = whole; fault = fault; tally = tally; joins = joins },
+    record { link = link; settings_are = settled; held = held; whole = whole; fault = fault; tally = tally; joins = joins },
+    teamed,
+    ruled,
+    diced,
     refl,
   )
 
-  pub hires_by : (ident' : Bytes) (order' : Order) (prefetch : ℕ) (a b : Office Conn) (conn : Conn) (ident : Bytes) (order : Order) (team : Team)
-      (w : WorkState (WireState Conn)) → Gives a.door conn b.door → a.teams ≡ team ∷ b.teams → ident ≡ ident' → order ≡ order' →
-      ((h : Hire (WireState Conn)) × IsStarted Carried conn (settings ident order prefetch team.classes) team h × (w ≡ h.joined)) →
+  pub hires_by : (ident' : Bytes) (order' : Order) (prefetch : ℕ) (a b : Office Conn Delay Dice) (conn : Conn) (ident : Bytes) (order : Order) (team : Team Delay)
+      (plain : Delay) (dice : Dice) (w : WorkState (WireState Conn) Delay Dice) → Gives a.door conn b.door → a.teams ≡ team ∷ b.teams → a.rules ≡ plain ∷ b.rules →
+      a.dice ≡ dice ∷ b.dice → ident ≡ ident' → order ≡ order' →
+      ((h : Hire (WireState Conn) Delay Dice) × IsStarted Carried conn (settings ident order prefetch) h × (own_team h.fresh ≡ team) × (h.fresh.plain ≡ plain)
+      × (h.fresh.dice ≡ dice) × (w ≡ h.joined)) →
       HiresOne Carried (settings ident' order' prefetch) a w b
-  hires_by ident' order' prefetch a b conn ident order team w gives next ident_is order_is (h, started, is) = (
+  hires_by ident' order' prefetch a b conn ident order team plain dice w gives teams rules dices ident_is order_is (h, started, teamed, ruled, diced, is) = (
     h,
     record {
       conn = conn;
-      team = team;
       gives = gives;
-      next = next;
-      starts = subst (λ z. IsStarted Carried conn (settings z order' prefetch team.classes) team h) ident_is
-          (subst (λ z. IsStarted Carried conn (settings ident z prefetch team.classes) team h) order_is started);
+      next_team = teams ∙ ap (λ t. t ∷ b.teams) (sym teamed);
+      next_rule = rules ∙ ap (λ r. r ∷ b.rules) (sym ruled);
+      next_dice = dices ∙ ap (λ d. d ∷ b.dice) (sym diced);
+      starts = subst (λ z. IsStarted Carried conn (settings z order' prefetch) h) ident_is
+          (subst (λ z. IsStarted Carried conn (settings ident z prefetch) h) order_is started);
     },
     is,
   )
 
   -- one more was hired
-  pub hired_more : (own : List Bytes → Settings) (from mid to : Office Conn) (workers workers' : List (WorkState (WireState Conn))) (w : WorkState (WireState Conn)) →
+  pub hired_more : (own : List Bytes → Settings) (from mid to : Office Conn Delay Dice) (workers workers' : List (WorkState (WireState Conn) Delay Dice)) (w : WorkState (WireState Conn) Delay Dice) →
       HiresAll Carried own from workers mid → HiresOne Carried own mid w to → workers' ≡ workers ++ w ∷ [] → HiresAll Carried own from workers' to
   hired_more own from mid to workers workers' w (hires, chain, are) (h, one, is) grown = (
     hires ++ h ∷ [],
     one_more hires mid to h chain one,
-    grown ∙ ap (λ xs. xs ++ w ∷ []) are ∙ ap (λ z. map (λ (g : Hire _). g.joined) hires ++ z ∷ []) is ∙ sym (map_end (λ (g : Hire _). g.joined) hires h),
+    grown ∙ ap (λ xs. xs ++ w ∷ []) are ∙ ap (λ z. map (λ (g : Hire _ _ _). g.joined) hires ++ z ∷ []) is ∙ sym (map_end (λ (g : Hire _ _ _). g.joined) hires h),
   )
 
 -- a map over one more

@@ -11,7 +11,7 @@ use Rattle.sk_poller.specs.Stage.{Watch}
 use Rattle.sk_poller.specs.declared.poller.Loop.{Loop}
 use Rattle.sk_worker.specs.Stage.{Settings}
 use Rattle.sk_launcher.specs.Connections.{DoorTells}
-use Rattle.sk_launcher.specs.Launching.{Hindered, IsAnswer, Launched, Office, Process, closed, starved}
+use Rattle.sk_launcher.specs.Launching.{Given, Hindered, IsAnswer, Launched, Office, Process, closed, starved}
 use Rattle.sk_launcher.specs.Polling.{PollState}
 use Rattle.sk_launcher.specs.Counting.{no_turns, total_from}
 use Rattle.sk_launcher.specs.Teams.{AreDone, HaveReturned, Team, done_in}
@@ -32,39 +32,40 @@ pub rose_within : (before mid now : ℕ) → before ≤ mid → Rose mid now →
 rose_within before mid now le (inl lt) = inl (omega (arith, le, lt))
 rose_within before mid now le (inr top) = inr top
 
-module _ {Conn : Type 0} (Carried : WireState Conn → WireState Conn → List Call → Type 0) where
-  by_cause : (DoorFailed : Type 0) (line : WorkLine) (before after : DoorTells Conn) (teams teams' : List Team) (f : LaunchFault) → Hindered DoorFailed (f ∷ []) →
-      after ≡ before → Launched Carried DoorFailed line before after teams teams' (Err f)
-  by_cause DoorFailed line before after teams teams' fault.Memory h same = starved same
-  by_cause DoorFailed line before after teams teams' fault.Door h same = closed h same
-  by_cause DoorFailed line before after teams teams' (fault.Link f) h same = absurd h
-  by_cause DoorFailed line before after teams teams' (fault.Refused r) h same = absurd h
-  by_cause DoorFailed line before after teams teams' fault.GenLimit h same = absurd h
+module _ {Conn Delay : Type 0} (Carried : WireState Conn → WireState Conn → List Call → Type 0) (Answers : Delay → ℕ → ℕ → Type 0) where
+  by_cause : (DoorFailed : Type 0) (line : WorkLine) (rules : List Delay) (before after : Given Conn Delay) (f : LaunchFault) → Hindered DoorFailed (f ∷ []) →
+      after.door ≡ before.door → Launched Carried Answers DoorFailed line rules before after (Err f)
+  by_cause DoorFailed line rules before after fault.Memory h same = starved same
+  by_cause DoorFailed line rules before after fault.Door h same = closed h same
+  by_cause DoorFailed line rules before after (fault.Link f) h same = absurd h
+  by_cause DoorFailed line rules before after (fault.Refused r) h same = absurd h
+  by_cause DoorFailed line rules before after fault.GenLimit h same = absurd h
 
   -- There was no connection for the poller, or no memory.
-  pub not_ready : (DoorFailed : Type 0) (line : WorkLine) (before after : DoorTells Conn) (teams teams' : List Team) (f : LaunchFault) (r : Result Counts LaunchFault) →
-      IsErrAnd r (λ e. e ≡ f) → Hindered DoorFailed (f ∷ []) → after ≡ before → Launched Carried DoorFailed line before after teams teams' r
-  not_ready DoorFailed line before after teams teams' f (Ok counts) is h same = absurd is
-  not_ready DoorFailed line before after teams teams' f (Err e) is h same =
-      subst (λ z. Launched Carried DoorFailed line before after teams teams' (Err z)) (sym is) (by_cause DoorFailed line before after teams teams' f h same)
+  pub not_ready : (DoorFailed : Type 0) (line : WorkLine) (rules : List Delay) (before after : Given Conn Delay) (f : LaunchFault) (r : Result Counts LaunchFault) →
+      IsErrAnd r (λ e. e ≡ f) → Hindered DoorFailed (f ∷ []) → after.door ≡ before.door → Launched Carried Answers DoorFailed line rules before after r
+  not_ready DoorFailed line rules before after f (Ok counts) is h same = absurd is
+  not_ready DoorFailed line rules before after f (Err e) is h same =
+      subst (λ z. Launched Carried Answers DoorFailed line rules before after (Err z)) (sym is) (by_cause DoorFailed line rules before after f h same)
 
-  hindered_also : (A B : Type 0) → (A → B) → (faults : List LaunchFault) → Hindered A faults → Hindered B faults
-  hindered_also A B f [] h = tt
-  hindered_also A B f (fault.Door ∷ []) h = f h
-  hindered_also A B f (fault.Memory ∷ []) h = tt
-  hindered_also A B f (fault.Link l ∷ []) h = absurd h
-  hindered_also A B f (fault.Refused r ∷ []) h = absurd h
-  hindered_also A B f (fault.GenLimit ∷ []) h = absurd h
-  hindered_also A B f (fault.Door ∷ x ∷ xs) h = absurd h
-  hindered_also A B f (fault.Memory ∷ x ∷ xs) h = absurd h
-  hindered_also A B f (fault.Link l ∷ x ∷ xs) h = absurd h
-  hindered_also A B f (fault.Refused r ∷ x ∷ xs) h = absurd h
-  hindered_also A B f (fault.GenLimit ∷ x ∷ xs) h = absurd h
+hindered_also : (A B : Type 0) → (A → B) → (faults : List LaunchFault) → Hindered A faults → Hindered B faults
+hindered_also A B f [] h = tt
+hindered_also A B f (fault.Door ∷ []) h = f h
+hindered_also A B f (fault.Memory ∷ []) h = tt
+hindered_also A B f (fault.Link l ∷ []) h = absurd h
+hindered_also A B f (fault.Refused r ∷ []) h = absurd h
+hindered_also A B f (fault.GenLimit ∷ []) h = absurd h
+hindered_also A B f (fault.Door ∷ x ∷ xs) h = absurd h
+hindered_also A B f (fault.Memory ∷ x ∷ xs) h = absurd h
+hindered_also A B f (fault.Link l ∷ x ∷ xs) h = absurd h
+hindered_also A B f (fault.Refused r ∷ x ∷ xs) h = absurd h
+hindered_also A B f (fault.GenLimit ∷ x ∷ xs) h = absurd h
 
+module _ {Conn Delay Dice : Type 0} (Carried : WireState Conn → WireState Conn → List Call → Type 0) (Answers : Delay → ℕ → ℕ → Type 0) where
   -- A door that failed during the process failed during the launch.
-  pub process_within : (A B : Type 0) → (A → B) → (own : List Bytes → Settings) (threads turns : ℕ) (poller : PollState (WireState Conn)) (before : Office Conn)
-      (after : DoorTells Conn) (faults : List LaunchFault) (counts : List Counts) → Process Carried A own threads turns poller before after faults counts →
-      Process Carried B own threads turns poller before after faults counts
+  pub process_within : (A B : Type 0) → (A → B) → (own : List Bytes → Settings) (threads turns : ℕ) (poller : PollState (WireState Conn) Dice) (before : Office Conn Delay Dice)
+      (after : DoorTells Conn) (faults : List LaunchFault) (counts : List Counts) → Process Carried Answers A own threads turns poller before after faults counts →
+      Process Carried Answers B own threads turns poller before after faults counts
   process_within A B f own threads turns poller before after faults counts p = record {
     office_then = p.office_then;
     done = p.done;
@@ -86,7 +87,7 @@ sum_done : (counts : List Counts) → (total_from no_turns counts).done ≡ min 
 sum_done counts = let is = total_done counts no_turns 0 (omega arith) in omega (arith, is)
 
 -- The counts of a launch without a fault are those of all workers.
-pub are_done : (before after : List Team) (faults : List LaunchFault) (counts : List Counts) (answered result : Result Counts LaunchFault) → IsAnswer faults counts answered →
+pub are_done : {Delay : Type 0} (before after : List (Team Delay)) (faults : List LaunchFault) (counts : List Counts) (answered result : Result Counts LaunchFault) → IsAnswer faults counts answered →
     result ≡ answered → (faults ≡ [] → HaveReturned before after (done_in counts)) → IfOk result (λ sum. AreDone before after sum.done)
 are_done before after faults counts answered (Ok sum) is same returned =
     let one = subst (λ r. IsAnswer faults counts r) (sym same) is in

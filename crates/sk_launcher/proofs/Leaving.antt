@@ -18,31 +18,31 @@ zip_end R (a ∷ xs) (b ∷ ys) x y all one = (all.0, zip_end R xs ys x y all.1 
 zip_end R [] (b ∷ ys) x y all one = absurd all
 zip_end R (a ∷ xs) [] x y all one = absurd all
 
-work_faults_end : {Link : Type 0} (gone : List (WorkState Link)) (one : WorkState Link)
+work_faults_end : {Link Delay Dice : Type 0} (gone : List (WorkState Link Delay Dice)) (one : WorkState Link Delay Dice)
     → work_faults (gone ++ one ∷ []) ≡ work_faults gone ++ option_to_list (option_map by_work one.fault)
 work_faults_end [] one = append-nil (option_to_list (option_map by_work one.fault))
 work_faults_end (w ∷ gone) one =
     ap (λ z. option_to_list (option_map by_work w.fault) ++ z) (work_faults_end gone one)
     ∙ sym (append_assoc (option_to_list (option_map by_work w.fault)) (work_faults gone) (option_to_list (option_map by_work one.fault)))
 
-returned_more : {Link : Type 0} (gone : List (WorkState Link)) (one : WorkState Link) (first before after : Returns) → AllReturned gone first before →
+returned_more : {Link Delay Dice : Type 0} (gone : List (WorkState Link Delay Dice)) (one : WorkState Link Delay Dice) (first before after : Returns Delay) → AllReturned gone first before →
     Returned one before after → AllReturned (gone ++ one ∷ []) first after
 returned_more gone one first before after p q = record {
   teams = grow first.teams before.teams after.teams (map own_team gone) _ (own_team one ∷ []) p.teams q.teams (map_end own_team gone one);
-  tallies = grow first.tallies before.tallies after.tallies (map (λ w. w.tally) gone) _ (one.tally ∷ []) p.tallies q.tallies (map_end (λ (w : WorkState _). w.tally) gone one);
+  tallies = grow first.tallies before.tallies after.tallies (map (λ w. w.tally) gone) _ (one.tally ∷ []) p.tallies q.tallies (map_end (λ (w : WorkState _ _ _). w.tally) gone one);
   faults = grow first.faults before.faults after.faults (work_faults gone) _ (option_to_list (option_map by_work one.fault)) p.faults q.faults (work_faults_end gone one);
 }
 
-pub nobody_returned : {Link : Type 0} (r : Returns) → AllReturned {Link = Link} [] r r
+pub nobody_returned : {Link Delay Dice : Type 0} (r : Returns Delay) → AllReturned {Link = Link} {Dice = Dice} [] r r
 nobody_returned r = record { teams = sym (append-nil r.teams); tallies = sym (append-nil r.tallies); faults = sym (append-nil r.faults) }
 
 -- one more left
-pub gone_more : {Conn Row : Type 0} (Leaving : Row → WorkState (WireState Conn) → Type 0) (from mid to : DoorTells Conn) (rows : List Row) (row : Row)
-    (first before after : Returns)
-    → ((gone : List (WorkState (WireState Conn))) × AllZip Leaving rows gone × Each (λ a gone b. Keeping a gone.link.conn b) from gone mid
+pub gone_more : {Conn Delay Dice Row : Type 0} (Leaving : Row → WorkState (WireState Conn) Delay Dice → Type 0) (from mid to : DoorTells Conn) (rows : List Row) (row : Row)
+    (first before after : Returns Delay)
+    → ((gone : List (WorkState (WireState Conn) Delay Dice)) × AllZip Leaving rows gone × Each (λ a gone b. Keeping a gone.link.conn b) from gone mid
     × AllReturned gone first before)
-    → ((one : WorkState (WireState Conn)) × Leaving row one × Keeping mid one.link.conn to × Returned one before after)
-    → (gone : List (WorkState (WireState Conn))) × AllZip Leaving (rows ++ row ∷ []) gone
+    → ((one : WorkState (WireState Conn) Delay Dice) × Leaving row one × Keeping mid one.link.conn to × Returned one before after)
+    → (gone : List (WorkState (WireState Conn) Delay Dice)) × AllZip Leaving (rows ++ row ∷ []) gone
     × Each (λ a gone b. Keeping a gone.link.conn b) from gone to × AllReturned gone first after
 gone_more Leaving from mid to rows row first before after (gone, zipped, chain, returned) (one, left, kept, more) = (
   gone ++ one ∷ [],

@@ -4,6 +4,7 @@ use Rattle.std.specs.Prelude.{◌≡◌, ◌++◌, ℕ, List, [], ◌∷◌, map
 use Rattle.sk_edge.specs.Collected.{Collected, Keeps, MakesRoom}
 use Rattle.sk_edge.specs.Doors.{GivesFirst}
 use Rattle.sk_resp.specs.Spelling.{Bytes}
+use Rattle.sk_policy.specs.declared.delay.DelayRule.{DelayRule}
 use Rattle.sk_worker.specs.declared.registry.Registry.{Registry}
 
 -- Each of these in turn led from one state to the next.
@@ -23,6 +24,11 @@ door_tells dialled kept = record { dialled = dialled; kept = kept }
 abbrev pub classes_of : {Job Rule : Type 0} {OfJob : Job → Type 0} {OfRule : Rule → Type 0} {Delays : Mut ((rule : Rule) × OfRule rule) (ℕ × Unit {0}) ℕ} →
     List (Registry Job Rule OfJob OfRule Delays) → List (List Bytes)
 classes_of teams = map (λ team. team.classes) teams
+
+-- the delay rules of each team's classes
+abbrev pub rules_of : {Job Rule : Type 0} {OfJob : Job → Type 0} {OfRule : Rule → Type 0} {Delays : Mut ((rule : Rule) × OfRule rule) (ℕ × Unit {0}) ℕ} →
+    List (Registry Job Rule OfJob OfRule Delays) → List (List (DelayRule Rule OfRule Delays))
+rules_of teams = map (λ team. team.rules.items) teams
 
 -- The door gave this connection, and made room to keep one.
 abbrev pub Gives : {Conn : Type 0} → DoorTells Conn → Conn → DoorTells Conn → Type 0

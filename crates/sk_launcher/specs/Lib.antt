@@ -6,5 +6,6 @@ pub mod Working
 pub mod Polling
 pub mod Faults
 pub mod Connections
+pub mod Seeding
 pub mod Launching
 pub mod Promises

@@ -1,11 +1,13 @@
--- What the functions of a launcher promise, by the traits of the door, of its connections, and of the clock.
+-- What the functions of a launcher promise, by the traits of the door, of its connections, of the clock and of the dice.
 use denote.Param.Members.{Mut}
 use Rattle.std.specs.Prelude.{◌≡◌, ◌+◌, ◌<◌, ◌≤◌, ℕ, false, All, List, [], Option, None, Result, length, map, vec_capacity}
 use Rattle.std.specs.List.{AllZip}
 use Rattle.std.specs.declared.alloc.Global.{Global}
 use Rattle.std.specs.declared.vec.Vec.{Vec}
+use Rattle.rand_pcg.specs.Lcg.{Lcg}
 use Rattle.sk_base.specs.Outside.{Rose}
 use Rattle.sk_base.specs.declared.clock.Clock as a_clock
+use Rattle.sk_base.specs.declared.dice.Dice as a_dice
 use Rattle.sk_base.specs.declared.sink.Sink as a_sink
 use Rattle.sk_base.specs.declared.source.Source as a_source
 use Rattle.sk_edge.specs.declared.door.Door as a_door
@@ -13,17 +15,19 @@ use Rattle.sk_resp.specs.Spelling.{Bytes}
 use Rattle.sk_line.specs.declared.work_line.WorkLine.{WorkLine}
 use Rattle.sk_link.specs.Call.{Call}
 use Rattle.sk_link.specs.Wire.{WireCarries, WireState}
+use Rattle.sk_policy.specs.declared.delay.DelayRule.{DelayRule}
 use Rattle.sk_poller.specs.Stage.{Watch}
+use Rattle.sk_worker.specs.Promises.{Answers}
 use Rattle.sk_worker.specs.Run.{Run}
 use Rattle.sk_worker.specs.Stage.{Settings}
 use Rattle.sk_worker.specs.declared.registry.Registry.{Registry}
 use Rattle.sk_launcher.specs.Connections.{DoorTells, Each, Keeping, door_tells}
-use Rattle.sk_launcher.specs.Launching.{AllReturned, AllWorked, AreWhole, Employs, HaveAtMost, HaveTaken, Hire, HiresAll, HiresOne, InThreads, IsStarted, Launched, Leaves, Office, Process, Returned, office, returned}
+use Rattle.sk_launcher.specs.Launching.{AllReturned, AllWorked, AreWhole, Employs, HaveAtMost, HaveTaken, Hire, HiresAll, HiresOne, InThreads, IsStarted, Launched, Leaves, Office, Process, Returned, given, office, returned}
 use Rattle.sk_launcher.specs.Launching.{Returns as GivenBack}
 use Rattle.sk_launcher.specs.Polling.{PollState, PollerTurn, own_poller}
 use Rattle.sk_launcher.specs.Teams.{HaveReturned, done_in, team_of, teams_of}
 use Rattle.sk_launcher.specs.Turning.{WentOn}
-use Rattle.sk_launcher.specs.Working.{WorkState, WorkerAdvances, hired_worker, hired_workers, settings}
+use Rattle.sk_launcher.specs.Working.{WorkState, WorkerAdvances, hired_worker, hired_workers, own_team, settings}
 use Rattle.sk_launcher.specs.declared.counts.Counts.{Counts}
 use Rattle.sk_launcher.specs.declared.dismiss.Returns.{Returns}
 use Rattle.sk_launcher.specs.declared.hire.Outfit.{Outfit}
@@ -47,10 +51,11 @@ Wire Source Sink = WireCarries Sink.taken Source.left Source.read_faults Sink.wr
 
 -- ## The poller
 
--- A poller with this watch began over a link to this connection, and went on to where it is.
-abbrev pub Begins : {Conn : Type 0} → (WireState Conn → WireState Conn → List Call → Type 0) → Conn → Watch → PollState (WireState Conn) → Type 0
-Begins Carried conn watch poller = (fresh : PollState (WireState _)) × (fresh.link ≡ record { conn = conn; pending = []; ended = false })
-    × (fresh.watch ≡ watch) × (fresh.taken ≡ 0) × (fresh.fault ≡ None) × WentOn (PollerTurn Carried) fresh poller
+-- A poller with this watch and this dice began over a link to this connection, and went on to where it is.
+abbrev pub Begins : {Conn Dice : Type 0} → (WireState Conn → WireState Conn → List Call → Type 0) → Conn → Watch → Dice →
+    PollState (WireState Conn) Dice → Type 0
+Begins Carried conn watch dice poller = (fresh : PollState (WireState _) _) × (fresh.link ≡ record { conn = conn; pending = []; ended = false })
+    × (fresh.watch ≡ watch) × (fresh.dice ≡ dice) × (fresh.taken ≡ 0) × (fresh.fault ≡ None) × WentOn (PollerTurn Carried) fresh poller
 
 -- ## Workers
 
@@ -59,33 +64,34 @@ abbrev pub line_settings : WorkLine → List Bytes → Settings
 line_settings line = settings line.ident line.order line.prefetch
 
 module _ {Rule Job : Type 0} {OfRule : Rule → Type 0} {OfJob : Job → Type 0} {Delays : Mut ((rule : Rule) × OfRule rule) (ℕ × Unit {0}) ℕ} where
-  -- A worker with this team began over a link to this connection and joined, and this is it then.
+  -- A worker with this team, this plain rule and this dice began over a link to this connection and joined, and this is it then.
   abbrev pub Starts : {Conn C D : Type 0} → (WireState Conn → WireState Conn → List Call → Type 0) → a_clock.Ghosts C →
       ((job : Job) × OfJob job → Option (List Run)) → Conn → (List Bytes → Settings) → Registry Job Rule OfJob OfRule Delays →
-      WorkerThread (WireState Conn) C D Rule Job OfRule OfJob Delays → Type 0
-  Starts Carried Clock runs conn own registry worker = (h : Hire (WireState _))
-      × IsStarted Carried conn (own registry.classes) (team_of runs registry) h × (hired_worker Clock.moments runs worker ≡ h.joined)
+      DelayRule Rule OfRule Delays → D → WorkerThread (WireState Conn) C D Rule Job OfRule OfJob Delays → Type 0
+  Starts Carried Clock runs conn own registry plain dice worker = (h : Hire (WireState _) _ _) × IsStarted Carried conn own h
+      × (own_team h.fresh ≡ team_of runs registry) × (h.fresh.plain ≡ plain) × (h.fresh.dice ≡ dice)
+      × (hired_worker Clock.moments runs worker ≡ h.joined)
 
   -- There are so many teams, rules and dice.
   abbrev pub HasOutfits : ℕ → Outfit Job Rule OfJob OfRule Delays → Type 0
   HasOutfits n outfit = (n ≤ length outfit.teams.items) × (n ≤ length outfit.rules.items) × (n ≤ length outfit.dice.items)
 
-  -- a door, and the teams that have no worker yet
+  -- a door, and the teams, plain rules and dice that no worker has yet
   abbrev pub office_of : {N Conn Ear : Type 0} → a_door.Ghosts N Conn Ear → ((job : Job) × OfJob job → Option (List Run)) →
-      N → Outfit Job Rule OfJob OfRule Delays → Office Conn
-  office_of Door runs net outfit = office (told_by Door net) (teams_of runs outfit.teams.items)
+      N → Outfit Job Rule OfJob OfRule Delays → Office Conn (DelayRule Rule OfRule Delays) Lcg
+  office_of Door runs net outfit = office (told_by Door net) (teams_of runs outfit.teams.items) outfit.rules.items outfit.dice.items
 
   -- The next worker of the line was hired over a connection of the door, and this is it once it joined.
-  abbrev pub HiresNext : {N Conn Ear C D : Type 0} → a_door.Ghosts N Conn Ear → a_source.Ghosts Conn → a_sink.Ghosts Conn → a_clock.Ghosts C →
+  abbrev pub HiresNext : {N Conn Ear C : Type 0} → a_door.Ghosts N Conn Ear → a_source.Ghosts Conn → a_sink.Ghosts Conn → a_clock.Ghosts C →
       ((job : Job) × OfJob job → Option (List Run)) → WorkLine → N → Outfit Job Rule OfJob OfRule Delays →
-      WorkerThread (WireState Conn) C D Rule Job OfRule OfJob Delays → N → Outfit Job Rule OfJob OfRule Delays → Type 0
+      WorkerThread (WireState Conn) C Lcg Rule Job OfRule OfJob Delays → N → Outfit Job Rule OfJob OfRule Delays → Type 0
   HiresNext Door Source Sink Clock runs line net outfit worker net_after outfit_after = HiresOne (Wire Source Sink) (line_settings line)
       (office_of Door runs net outfit) (hired_worker Clock.moments runs worker) (office_of Door runs net_after outfit_after)
 
   -- Workers of the line were hired in order, and these are they once they joined.
-  abbrev pub HiresStaff : {N Conn Ear C D : Type 0} → a_door.Ghosts N Conn Ear → a_source.Ghosts Conn → a_sink.Ghosts Conn → a_clock.Ghosts C →
+  abbrev pub HiresStaff : {N Conn Ear C : Type 0} → a_door.Ghosts N Conn Ear → a_source.Ghosts Conn → a_sink.Ghosts Conn → a_clock.Ghosts C →
       ((job : Job) × OfJob job → Option (List Run)) → WorkLine → N → Outfit Job Rule OfJob OfRule Delays →
-      Vec (WorkerThread (WireState Conn) C D Rule Job OfRule OfJob Delays) Global → N → Outfit Job Rule OfJob OfRule Delays → Type 0
+      Vec (WorkerThread (WireState Conn) C Lcg Rule Job OfRule OfJob Delays) Global → N → Outfit Job Rule OfJob OfRule Delays → Type 0
   HiresStaff Door Source Sink Clock runs line net outfit staff net_after outfit_after = HiresAll (Wire Source Sink) (line_settings line)
       (office_of Door runs net outfit) (hired_workers Clock.moments runs staff.items) (office_of Door runs net_after outfit_after)
 
@@ -95,7 +101,7 @@ module _ {Rule Job : Type 0} {OfRule : Rule → Type 0} {OfJob : Job → Type 0}
   abbrev pub StaffAdvances : {L C D : Type 0} → (L → L → List Call → Type 0) → a_clock.Ghosts C → ((job : Job) × OfJob job → Option (List Run)) →
       ℕ → List (WorkerThread L C D Rule Job OfRule OfJob Delays) → List (WorkerThread L C D Rule Job OfRule OfJob Delays) → Type 0
   StaffAdvances Carried Clock runs turns staff staff_after =
-      AllZip (WorkerAdvances Carried turns) (hired_workers Clock.moments runs staff) (hired_workers Clock.moments runs staff_after)
+      AllZip (WorkerAdvances Carried Answers turns) (hired_workers Clock.moments runs staff) (hired_workers Clock.moments runs staff_after)
 
   -- Where none of them met a fault, the poller and the workers took at least so many turns.
   abbrev pub TookAll : {L C D E F G : Type 0} → ℕ → ℕ → PollerThread L C D → List (WorkerThread E F G Rule Job OfRule OfJob Delays) → Type 0
@@ -106,7 +112,7 @@ module _ {Rule Job : Type 0} {OfRule : Rule → Type 0} {OfJob : Job → Type 0}
   abbrev pub Works : {L C D : Type 0} → (L → L → List Call → Type 0) → a_clock.Ghosts C → ((job : Job) × OfJob job → Option (List Run)) →
       PollerThread L C D → Vec (WorkerThread L C D Rule Job OfRule OfJob Delays) Global →
       PollerThread L C D → Vec (WorkerThread L C D Rule Job OfRule OfJob Delays) Global → Type 0
-  Works Carried Clock runs poller staff poller_after staff_after = InThreads Carried (own_poller Clock.moments poller)
+  Works Carried Clock runs poller staff poller_after staff_after = InThreads Carried Answers (own_poller Clock.moments poller)
       (own_poller Clock.moments poller_after) (hired_workers Clock.moments runs staff.items) (hired_workers Clock.moments runs staff_after.items)
 
   -- Where they had taken no more than so many turns, and none met a fault, they have taken exactly so many.
@@ -128,13 +134,13 @@ module _ {Rule Job : Type 0} {OfRule : Rule → Type 0} {OfJob : Job → Type 0}
       HaveTaken (line.turns + 1) line.turns (own_poller Clock.moments poller_after) (hired_workers Clock.moments runs staff_after.items)
 
   -- Workers of the line were hired, and they and the poller took turns. These are they afterwards.
-  abbrev pub Employ : {N Conn Ear C D : Type 0} → a_door.Ghosts N Conn Ear → a_source.Ghosts Conn → a_sink.Ghosts Conn → a_clock.Ghosts C →
-      ((job : Job) × OfJob job → Option (List Run)) → WorkLine → PollerThread (WireState Conn) C D → PollerThread (WireState Conn) C D →
+  abbrev pub Employ : {N Conn Ear C : Type 0} → a_door.Ghosts N Conn Ear → a_source.Ghosts Conn → a_sink.Ghosts Conn → a_clock.Ghosts C →
+      ((job : Job) × OfJob job → Option (List Run)) → WorkLine → PollerThread (WireState Conn) C Lcg → PollerThread (WireState Conn) C Lcg →
       N → Outfit Job Rule OfJob OfRule Delays → N → Outfit Job Rule OfJob OfRule Delays →
-      Vec (WorkerThread (WireState Conn) C D Rule Job OfRule OfJob Delays) Global → Type 0
-  Employ Door Source Sink Clock runs line poller poller_after net outfit net_after outfit_after staff = Employs (Wire Source Sink) (line_settings line)
-      (own_poller Clock.moments poller) (own_poller Clock.moments poller_after) (office_of Door runs net outfit) (office_of Door runs net_after outfit_after)
-      (hired_workers Clock.moments runs staff.items)
+      Vec (WorkerThread (WireState Conn) C Lcg Rule Job OfRule OfJob Delays) Global → Type 0
+  Employ Door Source Sink Clock runs line poller poller_after net outfit net_after outfit_after staff =
+      Employs (Wire Source Sink) Answers (line_settings line) (own_poller Clock.moments poller) (own_poller Clock.moments poller_after)
+      (office_of Door runs net outfit) (office_of Door runs net_after outfit_after) (hired_workers Clock.moments runs staff.items)
 
   -- Where the line has a number of turns, and none of them met a fault, there are as many workers as it says, and all took their turns.
   abbrev pub WorksThrough : {L C D : Type 0} → WorkLine → a_clock.Ghosts C → ((job : Job) × OfJob job → Option (List Run)) →
@@ -156,7 +162,8 @@ module _ {Rule Job : Type 0} {OfRule : Rule → Type 0} {OfJob : Job → Type 0}
       × (vec_capacity returns_after.tallies ≡ vec_capacity returns.tallies) × (vec_capacity returns_after.faults ≡ vec_capacity returns.faults)
 
   -- what came back, the teams by what their jobs tell
-  abbrev pub returned_in : ((job : Job) × OfJob job → Option (List Run)) → Returns Job Rule OfJob OfRule Delays → GivenBack
+  abbrev pub returned_in : ((job : Job) × OfJob job → Option (List Run)) → Returns Job Rule OfJob OfRule Delays →
+      GivenBack (DelayRule Rule OfRule Delays)
   returned_in runs returns = returned (teams_of runs returns.teams.items) returns.tallies.items returns.faults.items
 
   -- the counts of each worker
@@ -167,7 +174,7 @@ module _ {Rule Job : Type 0} {OfRule : Rule → Type 0} {OfJob : Job → Type 0}
   abbrev pub Dismisses : {N Conn Ear C D : Type 0} → a_door.Ghosts N Conn Ear → a_source.Ghosts Conn → a_sink.Ghosts Conn → a_clock.Ghosts C →
       ((job : Job) × OfJob job → Option (List Run)) → WorkerThread (WireState Conn) C D Rule Job OfRule OfJob Delays →
       N → Returns Job Rule OfJob OfRule Delays → N → Returns Job Rule OfJob OfRule Delays → Type 0
-  Dismisses Door Source Sink Clock runs worker net returns net_after returns_after = (gone : WorkState (WireState _))
+  Dismisses Door Source Sink Clock runs worker net returns net_after returns_after = (gone : WorkState (WireState _) _ _)
       × Leaves (Wire Source Sink) (hired_worker Clock.moments runs worker) gone
       × Keeping (told_by Door net) gone.link.conn (told_by Door net_after)
       × Returned gone (returned_in runs returns) (returned_in runs returns_after)
@@ -176,7 +183,7 @@ module _ {Rule Job : Type 0} {OfRule : Rule → Type 0} {OfJob : Job → Type 0}
   abbrev pub DismissesAll : {N Conn Ear C D : Type 0} → a_door.Ghosts N Conn Ear → a_source.Ghosts Conn → a_sink.Ghosts Conn → a_clock.Ghosts C →
       ((job : Job) × OfJob job → Option (List Run)) → Vec (WorkerThread (WireState Conn) C D Rule Job OfRule OfJob Delays) Global →
       N → Returns Job Rule OfJob OfRule Delays → N → Returns Job Rule OfJob OfRule Delays → Type 0
-  DismissesAll Door Source Sink Clock runs staff net returns net_after returns_after = (gone : List (WorkState (WireState _)))
+  DismissesAll Door Source Sink Clock runs staff net returns net_after returns_after = (gone : List (WorkState (WireState _) _ _))
       × AllZip (λ w gone. Leaves (Wire Source Sink) (hired_worker Clock.moments runs w) gone) staff.items gone
       × Each (λ a gone b. Keeping a gone.link.conn b) (told_by Door net) gone (told_by Door net_after)
       × AllReturned gone (returned_in runs returns) (returned_in runs returns_after)
@@ -184,10 +191,10 @@ module _ {Rule Job : Type 0} {OfRule : Rule → Type 0} {OfJob : Job → Type 0}
   -- ## A process, and a launch
 
   -- What a process did for the line once its poller had taken its first turn.
-  abbrev pub RunsProcess : {N Conn Ear C D : Type 0} → a_door.Ghosts N Conn Ear → a_source.Ghosts Conn → a_sink.Ghosts Conn → a_clock.Ghosts C →
-      ((job : Job) × OfJob job → Option (List Run)) → WorkLine → PollerThread (WireState Conn) C D →
+  abbrev pub RunsProcess : {N Conn Ear C : Type 0} → a_door.Ghosts N Conn Ear → a_source.Ghosts Conn → a_sink.Ghosts Conn → a_clock.Ghosts C →
+      ((job : Job) × OfJob job → Option (List Run)) → WorkLine → PollerThread (WireState Conn) C Lcg →
       N → Outfit Job Rule OfJob OfRule Delays → N → Returns Job Rule OfJob OfRule Delays → Type 0
-  RunsProcess Door Source Sink Clock runs line poller net outfit net_after returns = Process (Wire Source Sink) (Failed Door net net_after)
+  RunsProcess Door Source Sink Clock runs line poller net outfit net_after returns = Process (Wire Source Sink) Answers (Failed Door net net_after)
       (line_settings line) line.threads line.turns (own_poller Clock.moments poller) (office_of Door runs net outfit) (told_by Door net_after)
       returns.faults.items (counts_in returns)
 
@@ -196,9 +203,20 @@ module _ {Rule Job : Type 0} {OfRule : Rule → Type 0} {OfJob : Job → Type 0}
   DoneByTeams runs outfit returns = returns.faults.items ≡ [] →
       HaveReturned (teams_of runs outfit.teams.items) (teams_of runs returns.teams.items) (done_in (counts_in returns))
 
-  -- What a launcher did with a door and teams, as they were before and after, for the line, and what it answered.
-  abbrev pub Launches : {N Conn Ear : Type 0} → a_door.Ghosts N Conn Ear → a_source.Ghosts Conn → a_sink.Ghosts Conn →
-      ((job : Job) × OfJob job → Option (List Run)) → N → Vec (Registry Job Rule OfJob OfRule Delays) Global →
-      N → Vec (Registry Job Rule OfJob OfRule Delays) Global → WorkLine → Result Counts LaunchFault → Type 0
-  Launches Door Source Sink runs net teams net_after teams_after line result = Launched (Wire Source Sink) (Failed Door net net_after) line
-      (told_by Door net) (told_by Door net_after) (teams_of runs teams.items) (teams_of runs teams_after.items) result
+  -- What a launcher did with a door and teams, as they were before and after, and with these plain rules, for the line, and what it answered. Its dice was
+  -- going to give the first words, and then the others.
+  abbrev pub LaunchesBy : {N Conn Ear : Type 0} → a_door.Ghosts N Conn Ear → a_source.Ghosts Conn → a_sink.Ghosts Conn →
+      ((job : Job) × OfJob job → Option (List Run)) → Option (ℕ → ℕ) → Option (ℕ → ℕ) → Vec (DelayRule Rule OfRule Delays) Global →
+      N → Vec (Registry Job Rule OfJob OfRule Delays) Global → N → Vec (Registry Job Rule OfJob OfRule Delays) Global →
+      WorkLine → Result Counts LaunchFault → Type 0
+  LaunchesBy Door Source Sink runs words words_after rules net teams net_after teams_after line result =
+      Launched (Wire Source Sink) Answers (Failed Door net net_after) line rules.items
+      (given (told_by Door net) (teams_of runs teams.items) words) (given (told_by Door net_after) (teams_of runs teams_after.items) words_after) result
+
+  -- The same, with this dice.
+  abbrev pub Launches : {N Conn Ear D : Type 0} → a_door.Ghosts N Conn Ear → a_source.Ghosts Conn → a_sink.Ghosts Conn → a_dice.Ghosts D →
+      ((job : Job) × OfJob job → Option (List Run)) → Vec (DelayRule Rule OfRule Delays) Global →
+      N → D → Vec (Registry Job Rule OfJob OfRule Delays) Global → N → D → Vec (Registry Job Rule OfJob OfRule Delays) Global →
+      WorkLine → Result Counts LaunchFault → Type 0
+  Launches Door Source Sink Dice runs rules net dice teams net_after dice_after teams_after line result =
+      LaunchesBy Door Source Sink runs (Dice.words dice) (Dice.words dice_after) rules net teams net_after teams_after line result

@@ -65,7 +65,7 @@ fn start<N: Door, C: Clock>(
     clock: &C,
 ) -> WorkerThread<WireLink<N::Conn>, C, PcgDice>
     requires { (1 ≤ prefetch) × (prefetch ≤ MOST_PREFETCH) }
-    ensures { Starts (Wire N.Conn.Source N.Conn.Sink) C.Clock runs post.conn (settings post.ident post.order prefetch) registry result }
+    ensures { Starts (Wire N.Conn.Source N.Conn.Sink) C.Clock runs post.conn (settings post.ident post.order prefetch) registry plain dice result }
 {
     let worker = Worker::new(alloc, post.ident, post.order, plain, prefetch as usize);
     let mut thread = WorkerThread {

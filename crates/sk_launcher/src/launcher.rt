@@ -3,11 +3,12 @@ ghost use Rattle.std.specs.Prelude.{◌≡◌, ◌≤◌, ◌<◌, ◌+◌, ◌-
 ghost use Rattle.std.specs.List.{list_all};
 ghost use Rattle.sk_base.specs.declared.limits.TheConstants.{MOST_PREFETCH, MOST_WORKERS};
 ghost use Rattle.sk_cron.specs.Offset.{IsOffset};
-ghost use Rattle.sk_launcher.specs.Connections.{Gives, Keeping, classes_of};
+ghost use Rattle.sk_launcher.specs.Connections.{Each, Gives, Keeping, classes_of, rules_of};
 ghost use Rattle.sk_launcher.specs.Launching.{Hindered, IsAnswer, hindrance_of};
 ghost use Rattle.sk_launcher.specs.Faults.{by_poll};
 ghost use Rattle.sk_launcher.specs.Polling.{own_poller};
 ghost use Rattle.sk_launcher.specs.Promises.{Begins, DoneByTeams, Employ, Failed, Fills, FillsLine, HasOutfits, HasRoom, Launches, RunsProcess, Wire, Works, WorksThrough, told_by};
+ghost use Rattle.sk_launcher.specs.Seeding.{Seeds, SeedsAll};
 ghost use Rattle.sk_launcher.specs.Teams.{teams_of};
 ghost use Rattle.sk_poller.specs.Loop.{is_loop};
 ghost use Rattle.sk_poller.specs.Stage.{watch_of};
@@ -36,7 +37,9 @@ use std::sync::Wait;
 use std::thread::Threads;
 
 // A dice of its own, by two words.
-fn own_dice<D: Dice>(dice: &mut D) -> PcgDice {
+fn own_dice<D: Dice>(dice: &mut D) -> PcgDice
+    ensures { Seeds (D.words dice.old) result (D.words dice.new) }
+{
     let state = dice.word();
     let stream = dice.word();
     PcgDice::from_words(state, stream)
@@ -48,7 +51,8 @@ fn own_dices<D: Dice>(
     count: usize,
     dice: &mut D,
 ) -> Result<VecDeque<PcgDice>, AllocError>
-    ensures { IfOk result (λ own. length own.items ≡ count) }
+    ensures count { IfOk result (λ own. length own.items ≡ count) }
+    ensures seeded { IfOk result (λ own. Each Seeds (D.words dice.old) own.items (D.words dice.new)) }
 {
     let mut own = Vec::with_capacity(alloc, count)?;
     while own.len() < count {
@@ -112,6 +116,7 @@ fn make_ready<N: Door, D: Dice>(
     ensures given { IfOk result (λ r. (r.ident ≡ line.now.ident)
         × Gives (told_by N.Door net.old) r.conn (told_by N.Door net.new)) }
     ensures dice { IfOk result (λ r. length r.others.items ≡ line.now.threads) }
+    ensures seeded { IfOk result (λ r. SeedsAll (D.words dice.old) r.own r.others.items (D.words dice.new)) }
     ensures empty { IfOk result (λ r. (r.returns.teams.items ≡ []) × (r.returns.tallies.items ≡ []) × (r.returns.faults.items ≡ [])) }
     ensures err { OnErr result (told_by N.Door net.new ≡ told_by N.Door net.old) }
     ensures cause { IfErr result (λ f. Hindered (Failed N.Door net.old net.new) (f ∷ [])) }
@@ -143,7 +148,7 @@ fn start_poller<N: Door, C: Clock>(
 ) -> PollerThread<WireLink<N::Conn>, C, PcgDice>
     ensures once { result.fault ≡ None → result.taken ≡ 1 }
     ensures most { result.taken ≤ 1 }
-    ensures begun { Begins (Wire N.Conn.Source N.Conn.Sink) conn (watch_of poller) (own_poller C.moments result) }
+    ensures begun { Begins (Wire N.Conn.Source N.Conn.Sink) conn (watch_of poller) dice (own_poller C.moments result) }
 {
     let mut poller = PollerThread {
         poller,
@@ -311,6 +316,7 @@ fn run_process<R: Threads + Wait + Sync, N: Door, C: Clock + Send>(
     requires returns { HasRoom (length outfit.teams.items) line.now.threads returns.old }
     ensures process { RunsProcess N.Door N.Conn.Source N.Conn.Sink C.Clock runs line.now poller net.old outfit net.new returns.new }
     ensures teams { classes_of returns.new.teams.items ≡ classes_of outfit.teams.items }
+    ensures rules { rules_of returns.new.teams.items ≡ rules_of outfit.teams.items }
     ensures done { DoneByTeams runs outfit returns.new }
     ensures later { N.door_faults net.old ≤ N.door_faults net.new }
 {
@@ -337,7 +343,9 @@ fn run_process<R: Threads + Wait + Sync, N: Door, C: Clock + Send>(
 /// worker takes as many turns as the line says, and the poller one more. Where the line says 0, they go on until a fault. Between two turns the poller
 /// pauses 5,000 ms, and a worker that found no job pauses 1,000 ms. Where a thread meets a fault, each other one ends before its next turn. At the end
 /// each worker without a fault gives back the jobs that it holds; the connections go back to the door, in the order of making, and the teams stand in
-/// their order again, whatever came of it.
+/// their order again, with their rules, whatever came of it.
+///
+/// Two words of `dice` start the poller's own dice, and two more that of each worker, in order.
 ///
 /// Errors: of several faults one with the least [`status`](LaunchFault::status).
 pub fn launch<R: Threads + Wait + Sync, N: Door, C: Clock + Send, D: Dice>(
@@ -356,8 +364,9 @@ pub fn launch<R: Threads + Wait + Sync, N: Door, C: Clock + Send, D: Dice>(
     requires prefetch { (1 ≤ line.prefetch) × (line.prefetch ≤ MOST_PREFETCH) }
     requires offset { IsOffset line.offset }
     requires loops { list_all is_loop line.loops.items ≡ true }
-    ensures told { Launches N.Door N.Conn.Source N.Conn.Sink runs net.old teams.old net.new teams.new line result }
+    ensures told { Launches N.Door N.Conn.Source N.Conn.Sink D.Dice runs rules net.old dice.old teams.old net.new dice.new teams.new line result }
     ensures teams { classes_of teams.new.items ≡ classes_of teams.old.items }
+    ensures rules { rules_of teams.new.items ≡ rules_of teams.old.items }
     ensures later { N.door_faults net.old ≤ N.door_faults net.new }
 {
     let staff = Vec::with_capacity(alloc, line.threads as usize)?;

@@ -1,5 +1,6 @@
 // The threads: the poller's and the workers'.
 ghost use Rattle.std.specs.Prelude.{◌≡◌, ◌≤◌, ◌<◌, ◌↔◌, All, IsTrue, false, length};
+ghost use Rattle.sk_worker.specs.Promises.{Answers};
 ghost use Rattle.sk_launcher.specs.Polling.{PollerAdvances, own_poller};
 ghost use Rattle.sk_launcher.specs.Promises.{StaffAdvances, TookAll};
 ghost use Rattle.sk_launcher.specs.Working.{WorkerAdvances, hired_worker};
@@ -29,7 +30,8 @@ fn run_workers<R: Threads + Sync, L: Link + Drop + Send, C: Clock + Send>(
         workers,
         threads,
         &|_: usize, worker: &mut WorkerThread<L, C, PcgDice>|
-            ensures { WorkerAdvances L.carried shared.entry.now.turns (hired_worker C.moments runs worker.old) (hired_worker C.moments runs worker.new) }
+            ensures { WorkerAdvances L.carried Answers shared.entry.now.turns
+                (hired_worker C.moments runs worker.old) (hired_worker C.moments runs worker.new) }
         { worker.run(shared) },
     );
 }

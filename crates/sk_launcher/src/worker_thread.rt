@@ -1,5 +1,6 @@
 // What the thread of a worker has.
 ghost use Rattle.std.specs.Prelude.{◌≡◌, ◌≤◌, ◌<◌, ◌+◌, ◌-◌, ◌^◌, false};
+ghost use Rattle.sk_worker.specs.Promises.{Answers};
 ghost use Rattle.sk_launcher.specs.Launching.{HasJoined, Leaves};
 ghost use Rattle.sk_launcher.specs.Turning.{WentOn};
 ghost use Rattle.sk_launcher.specs.Working.{WorkerAdvances, WorkerTurn, worker_of};
@@ -56,7 +57,7 @@ impl<L: Link + Drop, C: Clock, D: Dice + Drop> WorkerThread<L, C, D> {
     fn turn(&mut self, alloc: Global)
         requires whole { self.old.processor.worker.ended ≡ false }
         requires few { self.old.processor.tally.taken < 2 ^ 64 - 1 }
-        ensures went_on { WentOn (WorkerTurn L.carried)
+        ensures went_on { WentOn (WorkerTurn L.carried Answers)
             (worker_of C.moments D.words runs self.old)
             (worker_of C.moments D.words runs self.new) }
         ensures taken { self.new.processor.worker.ended ≡ false → self.new.processor.tally.taken ≡ self.old.processor.tally.taken + 1 }
@@ -96,7 +97,7 @@ impl<L: Link + Drop, C: Clock, D: Dice + Drop> WorkerThread<L, C, D> {
 
     /// Takes turns until it has taken so many in all, or it or another thread met a fault.
     pub fn run(&mut self, shared: &Shared)
-        ensures { WorkerAdvances L.carried shared.now.turns
+        ensures { WorkerAdvances L.carried Answers shared.now.turns
             (worker_of C.moments D.words runs self.old)
             (worker_of C.moments D.words runs self.new) }
     {

@@ -5,3 +5,5 @@ pub mod Push
 pub mod Soak
 pub mod Drill
 pub mod Work
+pub mod Limit
+pub mod Iterate

@@ -1,9 +1,10 @@
 -- The values of options.
-use Rattle.std.specs.Prelude.{◌≡◌, ◌≤◌, ◌-◌, ◌^◌, ◌&&◌, ℕ, ℤ, pos, negsuc, nat_le, List, Option, Some, None, Ok, codes, if◌then◌else◌}
+use Rattle.std.specs.Prelude.{◌≡◌, ◌≤◌, ◌-◌, ◌^◌, ◌&&◌, ℕ, ℤ, pos, negsuc, nat_le, List, Option, Some, None, Ok, true, codes, if◌then◌else◌}
 use Rattle.sk_base.specs.declared.limits.TheConstants.{MOST_RETRIES, MOST_SECONDS}
 use Rattle.std.specs.Fmt.{decimal}
 use Rattle.clap.specs.Words.{Row, Text, first_of}
 use Rattle.serde_json.specs.Read.{read}
+use Rattle.sk_base.specs.Name.{is_name}
 use Rattle.sk_base.specs.Score.{IsScore}
 use Rattle.sk_payload.specs.Draft.{args_data}
 use Rattle.sk_payload.specs.declared.args.Args.{Args}
@@ -24,6 +25,10 @@ MayHave Is rows name None = first_of name rows ≡ None
 -- itself
 abbrev pub IsText : Text → Text → Type 0
 IsText text value = value ≡ text
+
+-- itself, as a name of at most so many bytes
+abbrev pub IsNamed : ℕ → Text → Text → Type 0
+IsNamed most text value = (is_name most text ≡ true) × (value ≡ text)
 
 -- the whole number from least to most whose one spelling the text is: digits without a leading zero
 pub record IsNumber (least most : ℕ) (text : Text) (value : ℕ) : Type 0 where

@@ -5,7 +5,6 @@ use Rattle.std.specs.Bool.{MatchBool}
 use Rattle.std.specs.List.{AllZip, join_by, list_all, slice_split}
 use Rattle.std.specs.Char.{is_ascii_digit}
 use Rattle.clap.specs.Words.{App, Row, Text, all_of, new_app, with_rule}
-use Rattle.sk_base.specs.Name.{is_name}
 use Rattle.sk_cron.specs.Times.{Means}
 use Rattle.sk_policy.specs.Order.{IsOrder, Order, strict_order, weighted_order}
 use Rattle.sk_policy.specs.declared.order_fault.OrderFault.{OrderFault}
@@ -14,7 +13,7 @@ use Rattle.sk_poller.specs.Loop.{is_loop}
 use Rattle.sk_poller.specs.declared.poller.Loop.{Loop}
 use Rattle.sk_line.specs.Lines.{IsAddress, IsLine, addressed}
 use Rattle.sk_line.specs.Options.{flag, positionals, with_default}
-use Rattle.sk_line.specs.Values.{Has, IsNumber}
+use Rattle.sk_line.specs.Values.{Has, IsNamed, IsNumber}
 use Rattle.sk_line.specs.declared.fault.LineFault.{LineFault}
 use Rattle.sk_line.specs.declared.fault.LineFault.TheVariants as line_fault
 use Rattle.sk_line.specs.declared.work_line.WorkLine.{WorkLine}
@@ -26,12 +25,6 @@ parts byte text = slice_split (λ b. b == byte) text
 -- the parts with this text between them
 abbrev pub joined : Text → List Text → Text
 joined between texts = join_by (λ text. text) between texts
-
--- ## Names
-
--- a name of at most 255 bytes
-abbrev pub IsNamed : Text → Text → Type 0
-IsNamed text value = (is_name LONGEST_NAME text ≡ true) × (value ≡ text)
 
 -- ## The order of queues
 
@@ -117,7 +110,7 @@ work_app = with_rule (with_rule (with_rule (with_rule (with_rule (with_rule (wit
 -- The values, where there are so many teams.
 pub record IsWorkValues (teams : ℕ) (rows : List Row) (line : WorkLine) : Type 0 where
   pub address : IsAddress rows line.address
-  pub ident : Has IsNamed rows (codes "ident") line.ident
+  pub ident : Has (IsNamed LONGEST_NAME) rows (codes "ident") line.ident
   pub order : IsOrderLine rows line.order
   pub threads : Has (IsNumber 1 teams) rows (codes "threads") line.threads
   pub turns : Has (IsNumber 0 (2 ^ 32 - 1)) rows (codes "turns") line.turns

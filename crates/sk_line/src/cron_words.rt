@@ -11,6 +11,7 @@ use crate::LineFault;
 use crate::cut::cut;
 use crate::value::{is_named, text, words_in};
 use clap::ArgMatches;
+use sk_base::limits::LONGEST_NAME;
 use sk_cron::Cron;
 use sk_poller::Loop;
 use sk_resp::Text;
@@ -20,7 +21,9 @@ use std::alloc::Global;
 fn is_loop(job: &Loop) -> bool
     ensures { result ≡ is_loop job.now }
 {
-    is_named(job.name.text()) && is_named(job.class.text()) && is_named(job.queue.text())
+    is_named(job.name.text(), LONGEST_NAME)
+        && is_named(job.class.text(), LONGEST_NAME)
+        && is_named(job.queue.text(), LONGEST_NAME)
 }
 
 // When it runs, by the five fields.
@@ -53,8 +56,8 @@ fn loop_by(alloc: Global, name: &str, parts: &[&str]) -> Result<Loop, LineFault>
     }
 }
 
-// The periodic job that a word asks for.
-fn loop_of(alloc: Global, word: &str) -> Result<Loop, LineFault>
+/// The periodic job that a word asks for.
+pub fn loop_of(alloc: Global, word: &str) -> Result<Loop, LineFault>
     ensures { Reads (IsLoop word.now) result }
 {
     let parts = cut(alloc, word, ' ')?;

@@ -32,3 +32,9 @@ pub const OFFSET: &str = "1439";
 
 /// How many jobs a worker holds at most: each as it comes, so that a worker that dies leaves one job to be rescued.
 pub const PREFETCH: &str = "1";
+
+/// After how many items of an iteration its cursor is saved: a cut costs at most so many items that are done twice.
+pub const EVERY: &str = "100";
+
+/// How many items of an iteration are run at most: all.
+pub const MOST_ITEMS: &str = "4294967295";

@@ -9,10 +9,13 @@ mod drill_line;
 mod fault;
 mod help;
 mod help_lines;
+mod iterate_line;
+mod limit_line;
 mod matches;
 mod option;
 mod push_line;
 mod queues;
+mod range;
 mod serve_line;
 mod soak_line;
 mod status_line;
@@ -23,6 +26,10 @@ pub use address::Address;
 pub use drill_line::{DrillLine, MOST_CRASHES, MOST_DRILLED, read_drill};
 pub use fault::LineFault;
 pub use help::help_of;
+pub use iterate_line::{IterateLine, MOST_EVERY, MOST_ITERATED, read_iterate};
+pub use limit_line::{
+    LONGEST_LIMITER, LimitKind, LimitLine, MOST_LIMITED, MOST_LIMITED_MILLIS, read_limit,
+};
 pub use push_line::{PushLine, read_push};
 pub use serve_line::{ServeLine, read_serve};
 pub use soak_line::{MOST_SOAKED, SoakLine, read_soak};

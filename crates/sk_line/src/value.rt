@@ -3,13 +3,13 @@ ghost use Rattle.std.specs.Prelude.{◌≡◌, ℕ, ℤ, Bool, IfOk, MatchOption
 ghost use Rattle.clap.specs.Words.{all_of, first_of, found_of, rows_of};
 ghost use Rattle.sk_base.specs.Name.{is_name};
 ghost use Rattle.sk_line.specs.Lines.{Reads};
-ghost use Rattle.sk_line.specs.Values.{Has, IsArgs, IsNumber, IsRetry, IsScoreText, IsSeconds, IsSeed, IsText, MayHave, within};
-ghost use Rattle.sk_line.specs.Work.{IsFlag, IsNamed};
+ghost use Rattle.sk_line.specs.Values.{Has, IsArgs, IsNamed, IsNumber, IsRetry, IsScoreText, IsSeconds, IsSeed, IsText, MayHave, within};
+ghost use Rattle.sk_line.specs.Work.{IsFlag};
 
 use crate::LineFault;
 use clap::ArgMatches;
 use serde_json::Value;
-use sk_base::limits::{LONGEST_NAME, MOST_RETRIES, MOST_SECONDS};
+use sk_base::limits::{MOST_RETRIES, MOST_SECONDS};
 use sk_base::{Score, is_name};
 use sk_payload::{Args, Retry};
 use sk_resp::{Text, read_int};
@@ -39,29 +39,34 @@ pub fn text_of(alloc: Global, matches: &ArgMatches<'_>, name: &str) -> Result<Te
     }
 }
 
-/// The text is a name of at most 255 bytes.
-pub fn is_named(text: &str) -> bool
-    ensures { result ≡ is_name LONGEST_NAME text.now }
+/// The text is a name of at most so many bytes.
+pub fn is_named(text: &str, most: usize) -> bool
+    ensures { result ≡ is_name most text.now }
 {
-    is_name(text.as_bytes(), LONGEST_NAME)
+    is_name(text.as_bytes(), most)
 }
 
-// The name of at most 255 bytes that the text is.
-fn name(alloc: Global, found: &str) -> Result<Text, LineFault>
-    ensures { Reads (IsNamed found.now) result }
+// The name of at most so many bytes that the text is.
+fn name(alloc: Global, found: &str, most: usize) -> Result<Text, LineFault>
+    ensures { Reads (IsNamed most found.now) result }
 {
-    if !is_named(found) {
+    if !is_named(found, most) {
         return Err(LineFault::Refused);
     }
     Ok(text(alloc, found)?)
 }
 
-/// The name that an option stands for.
-pub fn name_of(alloc: Global, matches: &ArgMatches<'_>, option: &str) -> Result<Text, LineFault>
-    ensures { Reads (Has IsNamed (rows_of (found_of matches.now)) option.now) result }
+/// The name of at most so many bytes that an option stands for.
+pub fn name_of(
+    alloc: Global,
+    matches: &ArgMatches<'_>,
+    option: &str,
+    most: usize,
+) -> Result<Text, LineFault>
+    ensures { Reads (Has (IsNamed most) (rows_of (found_of matches.now)) option.now) result }
 {
     match text_in(matches, option) {
-        Some(found) => name(alloc, found),
+        Some(found) => name(alloc, found, most),
         None => Err(LineFault::Refused),
     }
 }

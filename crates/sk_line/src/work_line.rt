@@ -19,7 +19,7 @@ use crate::queues::order_of;
 use crate::value::{name_of, number_of};
 use crate::{Address, LineFault};
 use clap::{ArgMatches, Command};
-use sk_base::limits::{LAST_OFFSET, MOST_PREFETCH, OFFSET_UTC};
+use sk_base::limits::{LAST_OFFSET, LONGEST_NAME, MOST_PREFETCH, OFFSET_UTC};
 use sk_policy::QueueOrder;
 use sk_poller::Loop;
 use sk_resp::Text;
@@ -74,7 +74,7 @@ fn line_of(alloc: Global, matches: &ArgMatches<'_>, teams: u32) -> Result<WorkLi
     ensures { Reads (IsWorkValues teams (rows_of (found_of matches.now))) result }
 {
     let address = address_of(alloc, matches)?;
-    let ident = name_of(alloc, matches, "ident")?;
+    let ident = name_of(alloc, matches, "ident", LONGEST_NAME)?;
     let order = order_of(alloc, matches)?;
     let threads = number_of(matches, "threads", 1, teams)?;
     let turns = number_of(matches, "turns", 0, u32::MAX)?;

@@ -50,7 +50,7 @@ returns-in_err-try_draft-clause-told g c =
 pub returns-clause-told : goal.returns-clause-told
 returns-clause-told g c =
     let j = c.in_ok-job.ensures in
-    spoke c.in-Some.job c.push_to.result
+    spoke c.in-Some.job c.dial.result
     (record {
       line = c.in_ok-line.line;
       moment = j.0;
@@ -62,4 +62,4 @@ returns-clause-told g c =
       is_job = j.5;
       handed = subst (λ n. Hands (applied c.args.chain.now) c.in_ok-job.job n) c.in-Some.is c.hand_on.ensures;
     })
-    c.push_to.ensures.told
+    c.dial.ensures.told

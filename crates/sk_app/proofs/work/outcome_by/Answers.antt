@@ -11,4 +11,4 @@ pub launch-requires-clause-loops : goal.launch-requires-clause-loops
 launch-requires-clause-loops g c κs within = named _ _ c.in_ok-line.ensures.values.loops
 
 pub returns-clause-told : goal.returns-clause-told
-returns-clause-told g c = worked c.in_ok-line.line c.launch.result c.outcome_at.result (rw c.len.ensures at c.in_ok-line.ensures) c.launch.ensures.told c.outcome_at.ensures.told
+returns-clause-told g c = worked c.in_ok-line.line c.launch.result c.outcome_at.result (rw c.len.ensures at c.in_ok-line.ensures) (_, _, c.launch.ensures.told) c.outcome_at.ensures.told

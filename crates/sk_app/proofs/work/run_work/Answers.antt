@@ -1,4 +1,5 @@
-use Rattle.sk_app.proofs.Completes.{work_completes}
+use Rattle.sk_app.specs.Promises.{LaunchesTeams}
+use Rattle.sk_app.proofs.Completes.{with_some, work_completes}
 use Rattle.sk_app.proofs.Endings.{line_alone}
 use Rattle.sk_app.proofs.work.run_work.Goals as goal
 
@@ -11,4 +12,8 @@ returns-clause-untouched g c = λ e.
     (c.conclude.ensures.silent e, same.0, same.1)
 
 pub returns-clause-completes : goal.returns-clause-completes
-returns-clause-completes g c = λ line is whole. work_completes _ _ _ _ line _ _ _ _ is c.outcome_by-outcome.ensures.told c.conclude.ensures.told whole
+returns-clause-completes g c = λ line is whole.
+    let did = c.outcome_by-outcome in
+    with_some _ _ (λ rules line how. LaunchesTeams g.N.Door g.N.Conn.Source g.N.Conn.Sink (λ v. (goal.Job-dyn g v).runs v.1) rules
+    c.args.net.now c.args.teams.now did.new.net did.new.teams line how) c.args.rules _
+    (work_completes _ _ _ _ line _ _ _ _ is did.ensures.told c.conclude.ensures.told whole)

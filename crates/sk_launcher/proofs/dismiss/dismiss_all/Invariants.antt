@@ -9,7 +9,7 @@ use Rattle.sk_launcher.proofs.dismiss.dismiss_all.Given as goal
 
 abbrev pub invariant-loop-worker : goal.invariant-loop-worker
 invariant-loop-worker g l = record {
-  gone : (gone : List (WorkState (WireState g.row.N-Conn.Denot)))
+  gone : (gone : List (WorkState (WireState g.row.N-Conn.Denot) _ _))
       × AllZip (λ w gone. Leaves (WireCarries g.N.Conn.Sink.taken g.N.Conn.Source.left g.N.Conn.Source.read_faults g.N.Conn.Sink.write_faults)
       (hired_worker g.C.Clock.moments (λ v. (goal.Job-dyn g v).runs v.1) w) gone) l.yielded gone
       × Each (λ a gone b. Keeping a gone.link.conn b) (door_tells (g.N.Door.dialled l.fn.net) (g.N.Door.kept l.fn.net)) gone

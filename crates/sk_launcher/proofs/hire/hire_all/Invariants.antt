@@ -10,9 +10,11 @@ abbrev pub invariant-loop-alloc : goal.invariant-loop-alloc
 invariant-loop-alloc g l = record {
   hired : HiresAll (WireCarries g.N.Conn.Sink.taken g.N.Conn.Source.left g.N.Conn.Source.read_faults g.N.Conn.Sink.write_faults)
       (settings l.line.ident l.line.order l.line.prefetch)
-      (office (door_tells (g.N.Door.dialled l.fn.net) (g.N.Door.kept l.fn.net)) (teams_of (λ v. (goal.Job-dyn g v).runs v.1) l.fn.outfit.teams.items))
+      (office (door_tells (g.N.Door.dialled l.fn.net) (g.N.Door.kept l.fn.net)) (teams_of (λ v. (goal.Job-dyn g v).runs v.1) l.fn.outfit.teams.items)
+      l.fn.outfit.rules.items l.fn.outfit.dice.items)
       (hired_workers g.C.Clock.moments (λ v. (goal.Job-dyn g v).runs v.1) l.staff.items)
-      (office (door_tells (g.N.Door.dialled l.net) (g.N.Door.kept l.net)) (teams_of (λ v. (goal.Job-dyn g v).runs v.1) l.outfit.teams.items));
+      (office (door_tells (g.N.Door.dialled l.net) (g.N.Door.kept l.net)) (teams_of (λ v. (goal.Job-dyn g v).runs v.1) l.outfit.teams.items)
+      l.outfit.rules.items l.outfit.dice.items);
   few : vec_len l.staff ≤ l.line.threads;
   teams : length l.outfit.teams.items + vec_len l.staff ≡ length l.fn.outfit.teams.items;
   rules : length l.outfit.rules.items + vec_len l.staff ≡ length l.fn.outfit.rules.items;

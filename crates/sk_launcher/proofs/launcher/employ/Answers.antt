@@ -12,7 +12,7 @@ returns-then-is_some-clause-crew g c =
     record {
       hired = [];
       hiring = ([], none, refl);
-      working = rw nobody (stood_still _ _ []);
+      working = rw nobody (stood_still _ _ _ []);
     }
 
 pub returns-clause-all : goal.returns-clause-all
@@ -21,7 +21,7 @@ returns-clause-all g c =
     let mid = c.hire_all-hired.new.staff.items in
     let new = c.work.new.staff.items in
     on_ok c.hire_all-hired.result c.hire_all-hired.ensures.enough (λ enough some whole.
-    let before = back _ (λ w. w.ended ≡ false) (λ w. w.ended ≡ false) (went_on_began _) (hired_workers moments (λ v. (goal.Job-dyn g v).runs v.1) mid) (hired_workers moments (λ v. (goal.Job-dyn g v).runs v.1) new) c.work.ensures.worked.worked whole.1 in
+    let before = back _ (λ w. w.ended ≡ false) (λ w. w.ended ≡ false) (went_on_began _ _) (hired_workers moments (λ v. (goal.Job-dyn g v).runs v.1) mid) (hired_workers moments (λ v. (goal.Job-dyn g v).runs v.1) new) c.work.ensures.worked.worked whole.1 in
     let all = enough (all_placed (λ w. w.ended ≡ false) (hired_worker moments (λ v. (goal.Job-dyn g v).runs v.1)) mid before) in
     record {
       some = some;

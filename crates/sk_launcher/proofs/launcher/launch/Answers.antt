@@ -1,6 +1,7 @@
 use Rattle.std.proofs.Common.{◌≡◌, ◌∙◌, ap, map, refl, rules, sym, subst}
 use Rattle.sk_base.specs.Outside.{Rose}
 use Rattle.sk_link.specs.Wire.{WireCarries}
+use Rattle.sk_worker.specs.Promises.{Answers}
 use Rattle.sk_launcher.specs.Connections.{door_tells}
 use Rattle.sk_launcher.specs.Launching.{IsAnswer, Process, launched, office}
 use Rattle.sk_launcher.specs.Polling.{own_poller}
@@ -31,28 +32,37 @@ returns-clause-told g c =
     let teams_then = teams_of (λ v. (goal.Job-dyn g v).runs v.1) c.args.teams.now.items in
     let teams_now = teams_of (λ v. (goal.Job-dyn g v).runs v.1) returns.teams.items in
     let teams : c.from.result.items ≡ c.args.teams.now.items = search rules in
+    let plain : c.from-2.result.items ≡ c.args.rules.items = search rules in
     let offset : c.new-2.result.offset ≡ line.offset = search rules in
     launched c.settle.result (record {
       conn = ready.conn;
       door_first = door;
+      own = ready.own;
+      others = ready.others.items;
       fresh = begun.0;
       begun = poller;
       faults = returns.faults.items;
       counts = counts;
-      given = given.1;
+      seeded = c.in_ok-ready.ensures.seeded;
+      gives = given.1;
       is_fresh = record {
         link = begun.1;
         watch_is = begun.2 ∙ same_watch line.ident _ line.loops.items _ line.offset _ (c.new-2.ensures.ident ∙ given.0)
             (c.new-2.ensures.loops ∙ ap (λ (v : _). v.items) c.replace-loops.ensures.value) offset;
-        taken = begun.3;
-        whole = begun.4;
+        dice_is = begun.3;
+        taken = begun.4;
+        whole = begun.5;
       };
-      polled = begun.5;
+      polled = begun.6;
       once = c.start_poller-poller.ensures.once;
-      process = process_within _ _ _ (rose_within _ _ _ c.make_ready.ensures.later) _ _ _ _ _ _ _ _
-          (subst (λ ts. Process (WireCarries g.N.Conn.Sink.taken g.N.Conn.Source.left g.N.Conn.Source.read_faults g.N.Conn.Sink.write_faults)
+      process = process_within _ _ _ _ (rose_within _ _ _ c.make_ready.ensures.later) _ _ _ _ _ _ _ _
+          (subst (λ ts. Process (WireCarries g.N.Conn.Sink.taken g.N.Conn.Source.left g.N.Conn.Source.read_faults g.N.Conn.Sink.write_faults) Answers
           (Rose (g.N.Door.door_faults first) (g.N.Door.door_faults last)) (settings line.ident line.order line.prefetch) line.threads line.turns poller
-          (office door (teams_of (λ v. (goal.Job-dyn g v).runs v.1) ts)) after returns.faults.items counts) teams c.run_process.ensures.process);
+          (office door (teams_of (λ v. (goal.Job-dyn g v).runs v.1) ts) c.args.rules.items ready.others.items) after returns.faults.items counts) teams
+          (subst (λ rs. Process (WireCarries g.N.Conn.Sink.taken g.N.Conn.Source.left g.N.Conn.Source.read_faults g.N.Conn.Sink.write_faults) Answers
+          (Rose (g.N.Door.door_faults first) (g.N.Door.door_faults last)) (settings line.ident line.order line.prefetch) line.threads line.turns poller
+          (office door (teams_of (λ v. (goal.Job-dyn g v).runs v.1) c.from.result.items) rs ready.others.items) after returns.faults.items counts) plain
+          c.run_process.ensures.process));
       answered = subst (λ r. IsAnswer returns.faults.items counts r) (sym c.settle.ensures.same) c.answer-back.ensures.answered;
       some = c.settle.ensures.turns;
       done = are_done _ _ returns.faults.items counts _ _ c.answer-back.ensures.answered c.settle.ensures.same (λ none.

@@ -1,13 +1,13 @@
-use Rattle.std.proofs.Common.{◌≡◌, ◌∙◌, ◌++◌, sym, ap, subst, append_assoc, map, option_map, refl}
+use Rattle.std.proofs.Common.{◌≡◌, ◌∙◌, ◌++◌, sym, ap, subst, append_assoc, map, option_map}
 use Rattle.std.specs.Prelude.{option_to_list}
 use Rattle.sk_base.specs.Outside.{Rose}
 use Rattle.sk_launcher.specs.Connections.{door_tells}
 use Rattle.sk_launcher.specs.Faults.{by_poll}
 use Rattle.sk_launcher.specs.Launching.{Hindered, hindrance_of, office, work_faults}
 use Rattle.sk_launcher.specs.Polling.{own_poller}
-use Rattle.sk_launcher.specs.Teams.{HaveReturned, Team, done_in, team_of, teams_of}
+use Rattle.sk_launcher.specs.Teams.{HaveReturned, done_in, team_of, teams_of}
 use Rattle.sk_launcher.specs.Working.{hired_worker, hired_workers}
-use Rattle.sk_launcher.proofs.Employed.{all_worked, mapped, none_faulty, teams_back, teams_now, teams_returned, zip_seen}
+use Rattle.sk_launcher.proofs.Employed.{all_worked, mapped, none_faulty, seen_classes, seen_rules, teams_back, teams_now, teams_returned, zip_seen}
 use Rattle.sk_launcher.proofs.launcher.run_process.Goals as goal
 
 pub returns-clause-process : goal.returns-clause-process
@@ -25,7 +25,8 @@ returns-clause-process g c =
     c.keep_hindrance.ensures ∙ ap (λ xs. xs ++ hindrance_of result) (left.3.faults ∙ ap (λ xs. xs ++ work_faults gone) first)
     ∙ append_assoc polls (work_faults gone) (hindrance_of result) in
     record {
-      office_then = office (door_tells (g.N.Door.dialled c.employ-hired.new.net) (g.N.Door.kept c.employ-hired.new.net)) (teams_of (λ v. (goal.Job-dyn g v).runs v.1) c.employ-hired.new.outfit.teams.items);
+      office_then = office (door_tells (g.N.Door.dialled c.employ-hired.new.net) (g.N.Door.kept c.employ-hired.new.net)) (teams_of (λ v. (goal.Job-dyn g v).runs v.1) c.employ-hired.new.outfit.teams.items)
+          c.employ-hired.new.outfit.rules.items c.employ-hired.new.outfit.dice.items;
       done = own_poller moments c.employ-hired.new.poller;
       worked = hired_workers moments (λ v. (goal.Job-dyn g v).runs v.1) c.employ-hired.new.staff.items;
       door_then = door_tells (g.N.Door.dialled c.dismiss_poller.new.net) (g.N.Door.kept c.dismiss_poller.new.net);
@@ -39,19 +40,28 @@ returns-clause-process g c =
           (sym (c.dismiss_all.ensures.faults ∙ c.dismiss_poller.ensures.faults)) employed.cause;
       faults_are = are;
       counts_are = ap (map (λ t. t.counts)) (left.3.tallies ∙ ap (λ xs. xs ++ map (λ w. w.tally) gone) c.requires.empty.1) ∙ mapped (λ w. w.tally) (λ t. t.counts) gone;
-      all = all_worked _ _ c.args.line.now.threads c.args.line.now.turns _ _ _ _ _ gone result faults_now employed.crew zip are employed.all;
+      all = all_worked _ _ _ c.args.line.now.threads c.args.line.now.turns _ _ _ _ _ gone result faults_now employed.crew zip are employed.all;
     }
 
 pub returns-clause-teams : goal.returns-clause-teams
 returns-clause-teams g c =
     let moments = g.C.Clock.moments in
-    let classes = λ (t : Team). t.classes in
     let left = c.dismiss_all.ensures.gone in
     let zip = zip_seen _ (hired_worker moments (λ v. (goal.Job-dyn g v).runs v.1)) c.employ-hired.new.staff.items left.0 left.1 in
-    sym (mapped (team_of (λ v. (goal.Job-dyn g v).runs v.1)) classes c.return_teams.new.teams.items)
-    ∙ ap (map classes) (teams_now _ _ _ _ _ c.return_teams.ensures left.3.teams (ap (teams_of (λ v. (goal.Job-dyn g v).runs v.1)) c.requires.empty.0))
-    ∙ teams_back _ _ (λ classes. refl) _ _ _ _ _ left.0 c.employ-hired.ensures.crew zip
-    ∙ mapped (team_of (λ v. (goal.Job-dyn g v).runs v.1)) classes c.args.outfit.teams.items
+    sym (mapped (team_of (λ v. (goal.Job-dyn g v).runs v.1)) seen_classes c.return_teams.new.teams.items)
+    ∙ ap (map seen_classes) (teams_now _ _ _ _ _ c.return_teams.ensures left.3.teams (ap (teams_of (λ v. (goal.Job-dyn g v).runs v.1)) c.requires.empty.0))
+    ∙ teams_back _ _ _ seen_classes (λ a b classes rules. classes) _ _ _ _ _ left.0 c.employ-hired.ensures.crew zip
+    ∙ mapped (team_of (λ v. (goal.Job-dyn g v).runs v.1)) seen_classes c.args.outfit.teams.items
+
+pub returns-clause-rules : goal.returns-clause-rules
+returns-clause-rules g c =
+    let moments = g.C.Clock.moments in
+    let left = c.dismiss_all.ensures.gone in
+    let zip = zip_seen _ (hired_worker moments (λ v. (goal.Job-dyn g v).runs v.1)) c.employ-hired.new.staff.items left.0 left.1 in
+    sym (mapped (team_of (λ v. (goal.Job-dyn g v).runs v.1)) seen_rules c.return_teams.new.teams.items)
+    ∙ ap (map seen_rules) (teams_now _ _ _ _ _ c.return_teams.ensures left.3.teams (ap (teams_of (λ v. (goal.Job-dyn g v).runs v.1)) c.requires.empty.0))
+    ∙ teams_back _ _ _ seen_rules (λ a b classes rules. rules) _ _ _ _ _ left.0 c.employ-hired.ensures.crew zip
+    ∙ mapped (team_of (λ v. (goal.Job-dyn g v).runs v.1)) seen_rules c.args.outfit.teams.items
 
 pub returns-clause-done : goal.returns-clause-done
 returns-clause-done g c = λ no_fault.
@@ -64,4 +74,4 @@ returns-clause-done g c = λ no_fault.
     let counts = ap (map (λ t. t.counts)) (left.3.tallies ∙ ap (λ xs. xs ++ map (λ w. w.tally) gone) c.requires.empty.1) ∙ mapped (λ w. w.tally) (λ t. t.counts) gone in
     subst (λ n. HaveReturned (teams_of (λ v. (goal.Job-dyn g v).runs v.1) c.args.outfit.teams.items) (teams_of (λ v. (goal.Job-dyn g v).runs v.1) c.return_teams.new.teams.items) n) (ap done_in (sym counts))
     (subst (λ ts. HaveReturned (teams_of (λ v. (goal.Job-dyn g v).runs v.1) c.args.outfit.teams.items) ts (done_in (map (λ w. w.tally.counts) gone))) (sym now)
-    (teams_returned _ _ _ _ _ _ _ gone c.employ-hired.ensures.crew zip none))
+    (teams_returned _ _ _ _ _ _ _ _ gone c.employ-hired.ensures.crew zip none))

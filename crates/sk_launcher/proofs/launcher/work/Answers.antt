@@ -5,10 +5,10 @@ use Rattle.sk_launcher.proofs.Employed.{all_placed, all_up, stood_still}
 use Rattle.sk_launcher.proofs.launcher.work.Goals as goal
 
 pub returns-then-len-line-clause-worked : goal.returns-then-len-line-clause-worked
-returns-then-len-line-clause-worked g c = stood_still _ _ _
+returns-then-len-line-clause-worked g c = stood_still _ _ _ _
 
 pub returns-then-not-are_whole-clause-worked : goal.returns-then-not-are_whole-clause-worked
-returns-then-not-are_whole-clause-worked g c = stood_still _ _ _
+returns-then-not-are_whole-clause-worked g c = stood_still _ _ _ _
 
 pub returns-then-not-are_whole-clause-taken : goal.returns-then-not-are_whole-clause-taken
 returns-then-not-are_whole-clause-taken g c = λ same some most whole.

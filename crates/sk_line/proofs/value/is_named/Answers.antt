@@ -4,4 +4,4 @@ use Rattle.sk_base.proofs.Names.{same_test}
 use Rattle.sk_line.proofs.value.is_named.Goals as goal
 
 pub returns : goal.returns
-returns c = same_test c.is_name.result 255 c.as_bytes.result.now c.is_name.ensures ∙ ap (is_name 255) c.as_bytes.ensures.value
+returns c = same_test c.is_name.result c.args.most c.as_bytes.result.now c.is_name.ensures ∙ ap (is_name c.args.most) c.as_bytes.ensures.value

@@ -16,13 +16,13 @@ loop-turn-init g c = record {
 pub returns-then-is_broken-2 : goal.returns-then-is_broken-2
 returns-then-is_broken-2 g c =
     let i = c.loop-turn.invariant in
-    worker_advances _ _ _ _ _ i.advances c.turn.ensures.went_on (omega (arith, i.taken, c.turn.ensures.most, c.loop-turn-test.true))
+    worker_advances _ _ _ _ _ _ i.advances c.turn.ensures.went_on (omega (arith, i.taken, c.turn.ensures.most, c.loop-turn-test.true))
 
 pub loop-turn-preserved : goal.loop-turn-preserved
 loop-turn-preserved g c =
     let i = c.loop-turn.invariant in
     record {
-      advances = worker_advances _ _ _ _ _ i.advances c.turn.ensures.went_on (omega (arith, i.taken, c.turn.ensures.most, c.loop-turn-test.true));
+      advances = worker_advances _ _ _ _ _ _ i.advances c.turn.ensures.went_on (omega (arith, i.taken, c.turn.ensures.most, c.loop-turn-test.true));
       whole = search rules;
       taken = search rules;
     }

@@ -1,5 +1,5 @@
 use Rattle.std.proofs.Common.{◌≡◌, vec_len}
-use Rattle.sidekiq.proofs.start.Given as goal
+use Rattle.sidekiq.proofs.launch.Given as goal
 
 -- a rule for each team
 abbrev pub invariant-loop-team : goal.invariant-loop-team
