@@ -4,6 +4,7 @@ mod desk;
 mod failures;
 mod follows;
 mod heads;
+mod limiters;
 mod outcome;
 mod repeats;
 mod replies;
@@ -45,6 +46,7 @@ fn outcomes(alloc: Global, row: &Row<'_>, input: &[u8]) -> io::Result<Vec<Outcom
         Form::Streams => Outcome::alone(streams::read_again(alloc, input)?),
         Form::Steps => Outcome::alone(steps::answers(alloc, &row.words, input)?),
         Form::Desk => Outcome::alone(desk::answers(alloc, &row.words, input)?),
+        Form::Limiters => Outcome::alone(limiters::answers(alloc, &row.words, input)?),
     }
 }
 

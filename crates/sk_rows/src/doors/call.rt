@@ -9,6 +9,8 @@ pub enum Call {
     Top,
     /// `small`: a server whose store takes so many rows, bytes and batches.
     Small,
+    /// `held`: a server with two loops, in which a gate holds a call of one until the other is answered.
+    Held,
     /// `work`: a worker, by a line of `work`. It joins, takes the line's turns and leaves.
     Work,
     /// `poll`: a poller, by a line of `work`. It takes the line's turns.
@@ -21,6 +23,10 @@ pub enum Call {
     Desks,
     /// `threads`: threads that push to one store.
     Threads,
+    /// `iterate`: calls of `iterate` on one job, over connections or a store.
+    Iterate,
+    /// `iterjob`: workers that run one iterable job, one after another.
+    IterJob,
 }
 
 impl Call {
@@ -29,12 +35,15 @@ impl Call {
         match name {
             "run" => Ok(Call::Top),
             "small" => Ok(Call::Small),
+            "held" => Ok(Call::Held),
             "work" => Ok(Call::Work),
             "poll" => Ok(Call::Poll),
             "order" => Ok(Call::Order),
             "decide" => Ok(Call::Decide),
             "desks" => Ok(Call::Desks),
             "threads" => Ok(Call::Threads),
+            "iterate" => Ok(Call::Iterate),
+            "iterjob" => Ok(Call::IterJob),
             _ => Err(invalid()),
         }
     }

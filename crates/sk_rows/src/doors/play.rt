@@ -7,16 +7,20 @@ use crate::doors::call::Call;
 use crate::doors::chain::{add_step, hold};
 use crate::doors::desks::desks;
 use crate::doors::ending::ending;
+use crate::doors::held::serve_held;
+use crate::doors::iterating::iterating;
+use crate::doors::iterating_job::iterating_job;
 use crate::doors::order::{decision, order};
 use crate::doors::poller::poll;
 use crate::doors::pushers::threads;
+use crate::doors::rules::top_with_rules;
 use crate::doors::setting::Setting;
 use crate::doors::small::serve_small;
 use crate::doors::worker::{class, work};
 use crate::text::invalid;
 use sk_app::{Note, cap, run};
 use sk_edge::MemDoor;
-use sk_middle::ClientChain;
+use sk_middle::{ClientChain, told};
 use sk_payload::JobDraft;
 use sk_policy::{DelayRule, plain_delay};
 use sk_worker::{Job, Registry};
@@ -25,8 +29,8 @@ use std::io;
 use std::sync::Wait;
 use std::thread::Threads;
 
-// What comes of the top call, with these teams and this chain.
-fn top<R: Threads + Wait + Sync>(
+/// What comes of the top call, with these teams and this chain.
+pub fn top<R: Threads + Wait + Sync>(
     rt: &R,
     alloc: Global,
     setting: Setting,
@@ -41,6 +45,7 @@ fn top<R: Threads + Wait + Sync>(
         call: _,
         words,
         chained: _,
+        ruled: _,
         mut clock,
         mut dice,
         mut source,
@@ -66,13 +71,13 @@ fn top<R: Threads + Wait + Sync>(
     ending(alloc, status, &sink, &door)
 }
 
-// What comes of it with one team, which has the class Note, and a chain of `cap` and `hold` where the row has one.
+// What comes of it with one team, which has the class Note, whose job tells its runs, and a chain of `cap` and `hold` where the row has one.
 fn top_with_a_team<R: Threads + Wait + Sync>(
     rt: &R,
     alloc: Global,
     setting: Setting,
 ) -> io::Result<String> {
-    let note: Box<dyn Job + Send> = Box::new(alloc, Note)?;
+    let note: Box<dyn Job + Send> = Box::new(alloc, told(Note))?;
     let own: Box<dyn Fn(u32) -> u64 + Send> = Box::new(alloc, |count: u32| plain_delay(count))?;
     let plain: Box<dyn Fn(u32) -> u64 + Send> = Box::new(alloc, |count: u32| plain_delay(count))?;
     let mut team = Registry::new(alloc);
@@ -111,13 +116,17 @@ pub fn play<R: Threads + Wait + Sync>(
     mut setting: Setting,
 ) -> io::Result<String> {
     match setting.call {
+        Call::Top if setting.ruled => top_with_rules(rt, alloc, setting),
         Call::Top => top_with_a_team(rt, alloc, setting),
         Call::Small => serve_small(rt, alloc, setting),
+        Call::Held => serve_held(rt, alloc, setting),
         Call::Work => work(alloc, setting),
         Call::Poll => poll(alloc, setting),
         Call::Order => order(alloc, &mut setting),
         Call::Decide => decision(alloc, &setting),
         Call::Desks => desks(rt, setting),
         Call::Threads => threads(rt, &setting),
+        Call::Iterate => iterating(alloc, setting),
+        Call::IterJob => iterating_job(alloc, setting),
     }
 }

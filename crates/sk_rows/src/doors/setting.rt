@@ -18,6 +18,8 @@ pub struct Setting {
     pub words: Vec<String>,
     /// The chain of `push` has `cap`, the shipped program's function, and behind it `hold`.
     pub chained: bool,
+    /// There are two teams, whose classes and whose workers have delay rules of their own.
+    pub ruled: bool,
     pub clock: StepClock,
     pub dice: ListDice,
     pub source: Feed,
@@ -58,6 +60,7 @@ impl Setting {
             call: Call::Top,
             words: Vec::new(alloc),
             chained: false,
+            ruled: false,
             clock: StepClock { now: 0, step: 0 },
             dice: ListDice::new(Vec::new(alloc)),
             source: Feed::new(Vec::new(alloc), Vec::new(alloc), Vec::new(alloc)),
@@ -68,14 +71,16 @@ impl Setting {
         }
     }
 
-    // Adds what a line says: the clock's first moment and its step (`clock`), the words of the dice (`dice`), that there is a chain (`chain`), what is
-    // done at a desk (`sit`, `ask`, `cut`), or what is called, with the words of its command line. Another line is invalid data.
+    // Adds what a line says: the clock's first moment and its step (`clock`), the words of the dice (`dice`), that there is a chain (`chain`), or two
+    // teams with rules of their own (`rules`), what is done at a desk (`sit`, `ask`, `cut`), or what is called, with the words of its command line.
+    // Another line is invalid data.
     fn add(&mut self, alloc: Global, line: &str) -> io::Result<()> {
         let (key, rest) = key_of(line);
         match key {
             "clock" => self.clock = clock(rest)?,
             "dice" => self.dice = ListDice::new(numbers(alloc, rest)?),
             "chain" => self.chained = true,
+            "rules" => self.ruled = true,
             "sit" | "ask" | "cut" => self.actions.push(Action::read(alloc, line)?)?,
             _ => {
                 self.call = Call::read(key)?;

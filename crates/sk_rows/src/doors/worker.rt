@@ -73,8 +73,8 @@ fn add_leave(out: &mut String, left: &Result<u64, WorkFault>) -> Result<(), Allo
     }
 }
 
-// The worker joins, takes so many turns, and leaves.
-fn act(
+/// The worker joins, takes so many turns, and leaves.
+pub fn act(
     alloc: Global,
     worker: &mut Worker,
     registry: &mut Registry,

@@ -9,6 +9,7 @@ use crate::text::invalid;
 use sk_core::Core;
 use sk_lane::{CoreSeats, lane};
 use sk_link::words_of;
+use sk_middle::told;
 use sk_pipe::SHIPPED_LIMITS;
 use sk_policy::{DelayRule, plain_delay};
 use sk_resp::{Text, Words};
@@ -67,7 +68,7 @@ fn work(
     add_stories(out, &stories)
 }
 
-// The same with the class Note alone, which waits by the plain rule. Its job counts its runs.
+// The same with the class Note alone, which waits by the plain rule. Its job counts its runs, and tells them.
 fn work_with_note(
     alloc: Global,
     row: &Row<'_>,
@@ -78,7 +79,7 @@ fn work_with_note(
     requires left { 2 * row.now.jobs ≤ seats.old.left }
     requires free { is_some seats.old.world ≡ true }
 {
-    let note: Box<dyn Job + Send> = Box::new(alloc, Counted { runs })?;
+    let note: Box<dyn Job + Send> = Box::new(alloc, told(Counted { runs }))?;
     let own: Box<dyn Fn(u32) -> u64 + Send> = Box::new(alloc, |count: u32| plain_delay(count))?;
     let plain: Box<dyn Fn(u32) -> u64 + Send> = Box::new(alloc, |count: u32| plain_delay(count))?;
     let class = Text::new(String::from_str(alloc, "Note")?);

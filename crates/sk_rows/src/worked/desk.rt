@@ -17,8 +17,8 @@ fn answer(alloc: Global, desk: &mut MemDesk, line: &str) -> io::Result<Reply> {
     hand_in(alloc, desk, &words, &mut StepClock { now, step: 0 })
 }
 
-// Appends the moment and the words of a call, and its reply.
-fn write_call(alloc: Global, call: &Call, out: &mut Vec<u8>) -> io::Result<()> {
+/// Appends the moment and the words of a call, and its reply.
+pub fn write_call(alloc: Global, call: &Call, out: &mut Vec<u8>) -> io::Result<()> {
     let now = format!(in alloc; "{}", call.now)?;
     out.extend_from_slice(now.as_bytes())?;
     for word in call.request.list() {
@@ -47,8 +47,8 @@ fn write_answers(
     Ok(())
 }
 
-// The desk goes, with its store.
-fn close(_desk: MemDesk) {}
+/// The desk goes, with its store.
+pub fn close(_desk: MemDesk) {}
 
 /// What the desk of seat 1 answers to the commands, of which each stands on a line behind its moment, and the calls that it kept. The words are the limits
 /// of its store.

@@ -28,6 +28,8 @@ pub enum Form {
     Steps,
     /// `desk`: commands for the desk of one seat, one a line. Its replies, and the calls that it kept, are compared.
     Desk,
+    /// `limiters`: calls of limiters, one a line. What they answer is compared, and what they asked.
+    Limiters,
 }
 
 /// A row: `FORM STATUS NAME WORD ..`, with blanks between. Before its form may stand `unlike:` and `repeats:`, in this order.
@@ -42,7 +44,7 @@ pub struct Row<'a> {
     pub status: u8,
     /// The files are `NAME.in` and `NAME.out`.
     pub name: &'a str,
-    /// The command line; of steps and of a desk the limits, where they aren't the program's.
+    /// The command line; of steps, of a desk and of limiters the limits, where they aren't the program's.
     pub words: Vec<String>,
 }
 
@@ -69,6 +71,7 @@ impl Form {
             "streams" => Ok(Form::Streams),
             "steps" => Ok(Form::Steps),
             "desk" => Ok(Form::Desk),
+            "limiters" => Ok(Form::Limiters),
             _ => Err(invalid()),
         }
     }
