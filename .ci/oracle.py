@@ -4,7 +4,7 @@
     oracle.py DIRECTORY PROGRAM COUNT SEED
 
 DIRECTORY holds the oracle, PROGRAM is the command that reads an input of `pipe`. The worked rows come first, then runs of `soak`, and then COUNT
-random inputs from the seed SEED on. The oracle knows its stages by a number, and the rule of sixteen jobs a seat by a switch.
+random inputs from the seed SEED on. The oracle knows its stages by a number, and what came later by switches.
 """
 import subprocess
 import sys
@@ -18,8 +18,8 @@ import rows
 
 BUILT = '10'
 
-# Rules that came later and are built: retries for a time, and deaths that rise.
-LATER = ['r15', 'r16']
+# Rules that came later and are built: sixteen jobs a seat; retries for a time, and deaths that rise; SK.GIVE.
+LATER = ['r15', 'r16', 'r18']
 
 # Seeds and numbers of jobs: one job, two that have a batch, more than go out in the first command, and twenty of the first seeds.
 SOAKS = [(1, 1), (2, 2), (3, 1100), (2**64 - 1, 50)] + [(seed, 30) for seed in range(20)]

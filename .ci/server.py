@@ -1,12 +1,13 @@
 #!/usr/bin/env python3
 """Talks to `sidekiq serve` over real connections, and compares each reply.
 
-    server.py PROGRAM
+    server.py PROGRAM [TEST..]
 
 What no row can show: pipelines, large replies, cut commands, clients that leave or never read, pages of a browser, 64 connections at a time, a port
-that is taken, processes of push, work and status beside them, one of which is killed, and the summary, whose acknowledgements must be what the clients counted.
-Plain sockets and Python alone. Status 1 where anything differs.
+that is taken, processes of push, work and status beside them, one of which is killed, want of descriptors, threads and stack, silent peers, used names,
+and the summary, whose acknowledgements must be what the clients counted. Plain sockets and Python alone. Status 1 where anything differs.
 """
+import os
 import re
 import resource
 import socket
@@ -19,6 +20,7 @@ import time
 PROGRAM = sys.argv[1]
 HOST, SECONDS = '127.0.0.1', 60
 JOB = '{"jid":"%s","class":"Note","queue":"default","args":[%d]}'
+FAILING = '{"jid":"failing-%d","class":"Fail","queue":"old","args":["%s"]}'
 
 
 def free_port():
@@ -246,6 +248,22 @@ def lines_that_no_page_sends(server):
         it.ask(b':1\r\n', 'DEL', 'page')
 
 
+def a_handshake_of_tls(server):
+    """No handshake of TLS is answered, nor anything that stands in it or behind it: a page can choose some of its bytes."""
+    with server.client() as it:
+        it.ask(b'+OK\r\n', 'SET', 'page', 'kept')
+    for body in (b'\r\nFLUSHALL\r\n', command('LPUSH', 'queue:page', JOB % ('page', 1)), b'\r\nSHUTDOWN\r\n'):
+        hello = b'\x16\x03\x01\x02\x00\x01\x00\x01\xfc\x03\x03' + body
+        for cut in range(len(hello) + 1):
+            assert is_refused(server, hello[:cut], hello[cut:] + body), (hello, cut)
+    with server.client() as it:
+        it.ask(bulk(b'kept'), 'GET', 'page')
+        it.ask(b':0\r\n', 'LLEN', 'queue:page')
+        it.send(b'PING\r\n\x16\r\n')              # (as any later line it is only no command)
+        it.expect(b'+PONG\r\n-ERR unknown command\r\n')
+        it.ask(b':1\r\n', 'DEL', 'page')
+
+
 def a_worker_that_dies(server):
     """A job that its worker held stands in the private list once the connection is gone, and nobody else fetched it."""
     job = JOB % ('died', 1)
@@ -338,6 +356,19 @@ def a_process_that_is_killed(server):
             assert time.time() < end, (done, waiting, held)
             time.sleep(0.1)
     return 500
+
+
+def address_space(process):
+    """The bytes of address space that a process has."""
+    with open('/proc/%d/statm' % process.pid) as sizes:
+        return int(sizes.read().split()[0]) * resource.getpagesize()
+
+
+def processor_time(process):
+    """The seconds of processor time that a process has taken."""
+    with open('/proc/%d/stat' % process.pid) as fields:
+        fields = fields.read().rsplit(')', 1)[1].split()
+    return (int(fields[11]) + int(fields[12])) / os.sysconf('SC_CLK_TCK')
 
 
 def elsewhere(server):
@@ -438,7 +469,7 @@ def a_reset_behind_the_loops(_):
 
 
 def few_descriptors(_):
-    """A server that runs short of descriptors serves as many as it can, and goes on when some are free again."""
+    """A server that runs short of descriptors serves as many as it can, takes no processor meanwhile, and goes on when some are free again."""
     server = Server(12, descriptors=16)
     clients = [server.client() for _ in range(32)]
     clients[0].ask(b'+PONG\r\n', 'PING')
@@ -447,6 +478,265 @@ def few_descriptors(_):
     with server.client() as it:
         it.ask(b'+PONG\r\n', 'PING')
     assert server.end()[0] == 0
+    server = Server(64, descriptors=80)             # (each loop has one, so that some thirteen are left)
+    clients = [server.client() for _ in range(40)]
+    clients[0].ask(b'+PONG\r\n', 'PING')
+    before = processor_time(server.process)
+    time.sleep(3)
+    taken = processor_time(server.process) - before
+    assert taken < 0.5, taken
+    for it in clients:
+        it.socket.close()
+    assert server.end()[0] == 0
+
+
+def too_few_descriptors(_):
+    """A server that has no descriptors for its loops says so, and not that its port is taken."""
+    port = free_port()
+    done = subprocess.run([PROGRAM, 'serve', '--port', str(port), '--loops', '64'], stdin=subprocess.DEVNULL, capture_output=True, timeout=SECONDS,
+                          preexec_fn=lambda: resource.setrlimit(resource.RLIMIT_NOFILE, (40, 40)))
+    assert (done.returncode, done.stdout) == (6, b''), done
+    assert b'open files' in done.stderr and b'in use' not in done.stderr, done.stderr
+
+
+def a_crowd_and_a_shutdown(_):
+    """One of four says SHUTDOWN while more wait than the queue takes. The server ends once the others have left, and tells what it did."""
+    server = Server(4)
+    served = [server.client() for _ in range(4)]
+    for it in served:
+        it.ask(b'+PONG\r\n', 'PING')
+    crowd = [socket.socket() for _ in range(700)]
+    try:
+        for it in crowd:
+            it.setblocking(False)
+            it.connect_ex((HOST, server.port))
+        time.sleep(0.5)
+        served[0].ask(b'+OK\r\n', 'SHUTDOWN')
+        for it in served:
+            it.socket.close()
+        out, _ = server.process.communicate(timeout=10)
+    except subprocess.TimeoutExpired:
+        server.process.kill()
+        raise AssertionError('it goes on')
+    finally:
+        for it in crowd:
+            it.close()
+    assert server.process.returncode == 0 and out.startswith(b'sessions 5 acknowledged 0\n'), (server.process.returncode, out)
+
+
+def is_over_soon(process, seconds):
+    """What the process wrote, or a fault where it goes on for so long."""
+    try:
+        return process.communicate(timeout=seconds)[0]
+    except subprocess.TimeoutExpired:
+        process.kill()
+        raise AssertionError('it goes on')
+
+
+def a_shutdown_among_clients(_):
+    """SHUTDOWN ends the sessions of others behind their commands: ten idle ones, two that ask on and on, and one that doesn't take its replies."""
+    server, wrong = Server(None), []
+
+    def ask_on():
+        try:
+            with server.client() as it:
+                while True:
+                    it.send(command('ECHO', 'x' * 1000) * 10)
+                    found = it.take(10 * len(bulk(b'x' * 1000)))
+                    if len(found) % len(bulk(b'x' * 1000)):
+                        wrong.append(found[-100:])
+                    if len(found) < 10 * len(bulk(b'x' * 1000)):
+                        return
+        except OSError:
+            pass
+    idle = [server.client() for _ in range(10)]
+    for it in idle:
+        it.ask(b'+PONG\r\n', 'PING')
+    busy = [threading.Thread(target=ask_on) for _ in range(2)]
+    [it.start() for it in busy]
+    time.sleep(0.5)
+    for deaf in (False, True):
+        if deaf:
+            server = Server(4)
+            slow = server.client()
+            slow.send_much()
+        began = time.monotonic()
+        with server.client() as it:
+            it.ask(b'+OK\r\n', 'SHUTDOWN')
+        out = is_over_soon(server.process, 10)
+        assert server.process.returncode == 0 and out.startswith(b'sessions '), (server.process.returncode, out)
+        assert time.monotonic() - began < (6 if deaf else 3), time.monotonic() - began
+        if not deaf:
+            [it.join(SECONDS) for it in busy]
+            assert not wrong and out.startswith(b'sessions 14 '), (wrong, out)  # (one was the wait for the server)
+            assert all(it.is_over() for it in idle)
+            [it.socket.close() for it in idle]
+    slow.socket.close()
+
+
+def a_shutdown_with_workers(_):
+    """A server ends within seconds beside `sidekiq work`, which tells that its connection was lost; and so it does when both are started again."""
+    for _again in range(2):
+        server = Server(None)
+        worker = subprocess.Popen([PROGRAM, 'work', '--port', str(server.port)], stdin=subprocess.DEVNULL, stdout=subprocess.DEVNULL,
+                                  stderr=subprocess.DEVNULL)
+        try:
+            ran(server, 'push', 'Note', '[1]')
+            end = time.time() + SECONDS
+            while page(server)['processed'] < 1:
+                assert time.time() < end, page(server)
+                time.sleep(0.1)
+            with server.client() as it:
+                it.ask(b'+OK\r\n', 'SHUTDOWN')
+            out = is_over_soon(server.process, 10)
+            assert server.process.returncode == 0 and b'\nreturned 1\n' in out, (server.process.returncode, out)
+            assert worker.wait(10) == 6, worker.returncode
+        finally:
+            worker.kill()
+            worker.wait()
+
+
+def descriptors_of(process):
+    return len(os.listdir('/proc/%d/fd' % process.pid))
+
+
+def connections_leave_no_descriptors(_, clients=10_000):
+    """So many connections, one after another over eight loops, leave no descriptor behind, and no session is cut off by another's end."""
+    server = Server(8)
+    with server.client() as it:
+        it.ask(b'+PONG\r\n', 'PING')
+    time.sleep(0.2)
+    before = descriptors_of(server.process)
+    with server.client() as it:
+        for n in range(clients):
+            with server.client() as other:
+                other.ask(b'+PONG\r\n', 'PING')
+        it.ask(b'+PONG\r\n', 'PING')
+    time.sleep(0.2)
+    after = descriptors_of(server.process)
+    assert server.end()[0] == 0
+    assert after <= before, (before, after)
+
+
+def threads_of(process):
+    with open('/proc/%d/status' % process.pid) as it:
+        return int(re.search(r'Threads:\s+(\d+)', it.read())[1])
+
+
+def said(client, *words):
+    """The first line of the reply, or nothing where the connection ended."""
+    try:
+        client.send(command(*words))
+        line = client.take(1)
+        while line and not line.endswith(b'\n'):
+            line += client.take(1)
+        return line
+    except OSError:
+        return b''
+
+
+def fill(server, clients):
+    """Stores values of half a MiB, then halved until nothing fits, over all of these clients in turn. One that was cut off connects again."""
+    size, stored, refused, turn = 1 << 19, 0, 0, 0
+    while size:
+        turn = (turn + 1) % len(clients)
+        line = said(clients[turn], 'SET', 'fill:%d' % stored, b'x' * size)
+        if line == b'+OK\r\n':
+            stored, refused = stored + 1, 0
+            continue
+        if not line:
+            clients[turn].socket.close()
+            clients[turn] = server.client()
+        refused += 1
+        if refused >= 2 * len(clients):
+            size, refused = size // 2, 0
+    return stored
+
+
+def memory_that_is_used_up(_):
+    """Where nothing fits any more, short commands are still read, done and answered over each new connection, and what they free is used again."""
+    for loops in (4, 16):
+        server = Server(loops)
+        end = time.time() + SECONDS
+        while threads_of(server.process) < loops + 1 and time.time() < end:
+            time.sleep(0.05)
+        time.sleep(0.5)                             # (each loop makes its reserve as it starts)
+        size = address_space(server.process) + (64 << 20)
+        resource.prlimit(server.process.pid, resource.RLIMIT_AS, (size, size))
+        clients = [server.client() for _ in range(4)]
+        stored = fill(server, clients)
+        for it in clients:
+            it.socket.close()
+        for n in range(3 * loops):
+            with server.client() as it:
+                it.ask(b'+PONG\r\n', 'PING')
+                it.ask(b':1\r\n', 'EXISTS', 'fill:0')
+                line = said(it, 'SET', 'more:%d' % n, 'x' * 100)
+                assert line in (b'-OOM want of memory\r\n', b'+OK\r\n'), line
+        with server.client() as it:
+            it.ask(b':1\r\n', 'DEL', 'fill:0')
+        for n in range(loops):
+            with server.client() as it:
+                it.ask(b'+OK\r\n', 'SET', 'small:%d' % n, 'x')
+                it.ask(b'$1\r\nx\r\n', 'GET', 'small:%d' % n)
+        status, (sessions, _), _ = server.end()
+        assert status == 0 and stored > 64 and sessions > 4 * loops, (status, stored, sessions)
+
+
+def a_stack_that_cant_grow(_):
+    """A server that gets no further address space goes on, since no stack has to grow. Workers go on or find no memory, and no signal ends them."""
+    server = Server(4)
+    worker = subprocess.Popen([PROGRAM, 'work', '--port', str(server.port), '--queues', 'stack', '--threads', '2'], stdin=subprocess.DEVNULL,
+                              stdout=subprocess.DEVNULL, stderr=subprocess.DEVNULL)
+    try:
+        time.sleep(1)
+        for process in (server.process, worker):
+            size = address_space(process)
+            resource.prlimit(process.pid, resource.RLIMIT_AS, (size, size))
+        for n in range(8):
+            with server.client() as it:
+                it.ask(b'+PONG\r\n', 'PING')
+                it.send(command('LPUSH', 'queue:stack', (JOB % ('stack-%d' % n, n)).replace('default', 'stack')))
+                assert re.match(rb':[1-8]\r\n$', it.take(4))
+        time.sleep(1.5)                             # (a worker that found no job pauses for a second)
+        assert worker.poll() in (None, 5), worker.poll()
+    finally:
+        worker.kill()
+        worker.wait()
+    assert server.end()[0] == 0
+
+
+def too_few_threads(_):
+    """Programs that can't have the threads that they ask for say so, and do nothing."""
+    def small():
+        resource.setrlimit(resource.RLIMIT_STACK, (8 << 20, resource.getrlimit(resource.RLIMIT_STACK)[1]))
+        resource.setrlimit(resource.RLIMIT_AS, (100 << 20, 100 << 20))
+    port = str(free_port())
+    for words in (['serve', '--port', port, '--loops', '64'], ['work', '--port', port, '--threads', '16'], ['drill', '1', '10', '16', '0']):
+        done = subprocess.run([PROGRAM, *words], stdin=subprocess.DEVNULL, capture_output=True, timeout=SECONDS, preexec_fn=small)
+        assert (done.returncode, done.stdout) == (6, b'') and b'threads' in done.stderr, (words, done)
+    done = subprocess.run([PROGRAM, 'pipe'], input=b'PING\r\n', capture_output=True, timeout=SECONDS, preexec_fn=small)
+    assert (done.returncode, done.stdout) == (0, b'+PONG\r\n'), done
+
+
+def a_silent_peer(_):
+    """push and status give up a server that takes their connection and says nothing."""
+    with socket.socket() as peer:
+        peer.bind((HOST, 0))
+        peer.listen(8)                              # (the system takes the connections)
+        port = str(peer.getsockname()[1])
+        began = time.time()
+        processes = [subprocess.Popen([PROGRAM, *words, '--port', port], stdin=subprocess.DEVNULL, stdout=subprocess.PIPE, stderr=subprocess.PIPE)
+                     for words in (['push', 'Note', '[1]'], ['status'])]
+        for it in processes:
+            try:
+                out, told = it.communicate(timeout=12)
+            except subprocess.TimeoutExpired:
+                raise AssertionError('it waits')
+            finally:
+                it.kill()
+            assert it.returncode == 6 and told, (it.args, it.returncode, out, told)
+        assert 8 < time.time() - began < 12, time.time() - began
 
 
 def full_log(_):
@@ -461,9 +751,100 @@ def full_log(_):
     assert status == 0, status
 
 
+def memory(process):
+    """How many bytes of it stand in memory."""
+    with open('/proc/%d/status' % process.pid) as it:
+        return 1024 * int(re.search(r'VmRSS:\s+(\d+)', it.read())[1])
+
+
+def old_texts_go(_, jobs=60, length=300_000):
+    """A failed job's old text is given up: a server whose jobs have all failed needs no more memory than before."""
+    server = Server(16)
+    with server.client() as it:
+        for n in range(jobs):
+            it.ask(b':%d\r\n' % (n + 1), 'LPUSH', 'queue:old', FAILING % (n, 'x' * length))
+    before, end = memory(server.process), time.time() + SECONDS
+    line = [PROGRAM, 'work', '--port', str(server.port), '--queues', 'old']
+    worker = subprocess.Popen(line, stdin=subprocess.DEVNULL, stdout=subprocess.DEVNULL, stderr=subprocess.DEVNULL)
+    while page(server)['retries'] < jobs and time.time() < end:
+        time.sleep(0.05)
+    worker.kill()
+    worker.wait()
+    after, retries = memory(server.process), page(server)['retries']
+    assert (server.end()[0], retries) == (0, jobs), retries
+    assert after - before < jobs * length // 2, (before, after)
+
+
+def many_rows(_, rows=200_001, slice=1_000):
+    """A server takes rows by the hundred thousand: its limit is 4,000,000."""
+    server = Server(4)
+    with server.client() as it:
+        for at in range(0, rows, slice):
+            jobs = [JOB % (n, n) for n in range(at, min(at + slice, rows))]
+            it.ask(b':%d\r\n' % (at + len(jobs)), 'LPUSH', 'queue:rows', *jobs)
+    status, (_, acknowledged), tally = server.end()
+    assert (status, acknowledged, tally[b'live']) == (0, rows, rows), (status, acknowledged, tally)
+
+
+def job_of(number, length):
+    """A job whose text has so many bytes."""
+    job = JOB % ('%08d' % number, 1)
+    return job.replace('[1]', '["%s"]' % ('x' * (length - len(job) - 1)))
+
+
+def full_store(_, length=390_000, limit=1 << 31):
+    """A server takes 2 GiB of texts, to the byte, then refuses further ones, and takes them again once others are gone."""
+    free = re.search(r'MemAvailable:\s+(\d+)', open('/proc/meminfo').read())
+    if not free or int(free[1]) < 6 << 20:
+        return print('server: full_store: passed over, since less than 6 GiB of memory are free')
+    server, fit, left = Server(4), limit // length, limit % length
+    with server.client() as it:
+        for n in range(fit):
+            it.ask(b':%d\r\n' % (n + 1), 'LPUSH', 'queue:full', job_of(n, length))
+        it.ask(b'-SK full\r\n', 'LPUSH', 'queue:full', job_of(fit, left + 1))
+        it.ask(b':%d\r\n' % (fit + 1), 'LPUSH', 'queue:full', job_of(fit, left))
+        it.ask(b':1\r\n', 'DEL', 'queue:full')
+        it.ask(b':1\r\n', 'LPUSH', 'queue:full', job_of(fit, left + 1))
+    assert server.end()[0] == 0
+
+
+def use_queues(server, first, count=15_000, at_once=500):
+    """Pairs of queues, each of which has a row once: it is pushed to the one, moved to the other, and deleted there."""
+    with server.client() as it:
+        for start in range(first, first + count, at_once):
+            for n in range(start, start + at_once):
+                one, other = 'queue:one%d' % n, 'queue:other%d' % n
+                it.send(command('LPUSH', one, 'x') + command('LMOVE', one, other, 'RIGHT', 'LEFT') + command('DEL', one, other))
+            it.expect((b':1\r\n' + bulk(b'x') + b':1\r\n') * at_once)
+
+
+def use_private_lists(server, first, count=300):
+    """Processes, each of which fetches one job and is done with it."""
+    for n in range(first, first + count):
+        ident, job = 'host:%d:0' % n, (JOB % ('%024x' % n, n)).encode()
+        with server.client() as it:
+            it.send(command('LPUSH', 'queue:default', job) + command('SK.BEAT', ident) + command('SK.JOIN', ident)
+                    + command('LMOVE', 'queue:default', 'sq:' + ident, 'RIGHT', 'LEFT') + command('SK.OK', job) + command('LREM', 'sq:' + ident, 1, job))
+            it.expect(b':1\r\n+OK\r\n+OK\r\n' + bulk(job) + b'*0\r\n:1\r\n')
+
+
+def names_used_once(_):
+    """Queues and private lists that had a row once leave no memory behind, where others of other names follow them."""
+    server = Server(2)
+    for first in (0, 20_000):
+        before = memory(server.process)
+        use_queues(server, first)
+        use_private_lists(server, first)
+    grown = memory(server.process) - before
+    assert grown < 2_000_000, 'it has grown by %d bytes' % grown
+    assert server.end()[0] == 0
+
+
 TESTS = [pipeline, large_reply, single_bytes, one_that_leaves, one_that_never_reads, ends, own_words_of_a_pipe, a_page_of_a_browser,
-         lines_that_no_page_sends, a_worker_that_dies, many_at_once, taken_port, elsewhere, ids_and_moments, processes, started_again,
-         a_process_that_is_killed, defaults, a_reset_behind_the_loops, few_descriptors, full_log]
+         lines_that_no_page_sends, a_handshake_of_tls, a_worker_that_dies, many_at_once, taken_port, elsewhere, ids_and_moments, processes,
+         started_again, a_process_that_is_killed, defaults, a_reset_behind_the_loops, few_descriptors, too_few_descriptors, a_crowd_and_a_shutdown,
+         a_shutdown_among_clients, a_shutdown_with_workers, connections_leave_no_descriptors, memory_that_is_used_up,
+         a_stack_that_cant_grow, too_few_threads, a_silent_peer, full_log, old_texts_go, many_rows, full_store, names_used_once]
 
 
 def main():
@@ -472,11 +853,12 @@ def main():
     except OSError as fault:
         print('server: passed over, since there is no loopback here: %s' % fault)
         return 0
+    tests = [it for it in TESTS if it.__name__ in sys.argv[2:]] if sys.argv[2:] else TESTS
     server, pushed, failed = Server(64), 0, []
-    for test in TESTS:
+    for test in tests:
         try:
             pushed += test(server) or 0
-        except (AssertionError, OSError) as fault:
+        except (AssertionError, OSError, subprocess.SubprocessError) as fault:
             failed.append(test.__name__)
             print('server: %s: %s' % (test.__name__, fault))
     status, (_, acknowledged), tally = server.end()
@@ -490,7 +872,7 @@ def main():
     if not out.startswith(b'sessions 2 acknowledged 0\n'):
         failed.append('sessions')
         print('server: --sessions 2: %r' % out[:80])
-    print('server: %s' % ('FAILED: ' + ', '.join(failed) if failed else '%d tests, %d rows pushed and acknowledged' % (len(TESTS) + 2, pushed)))
+    print('server: %s' % ('FAILED: ' + ', '.join(failed) if failed else '%d tests, %d rows pushed and acknowledged' % (len(tests) + 2, pushed)))
     return int(bool(failed))
 
 

@@ -43,6 +43,36 @@ expect 'more loops than there may be' 2 $?
 expect 'arguments that are no array' 2 $?
 "$program" push Note "$(printf '\377')" </dev/null 2>/dev/null
 expect 'a word that is no UTF-8' 2 $?
+# WHAT IS NAMED, its value, and the words: status 2, nothing on standard output, and a line that names both.
+range() {
+    named=$1 value=$2
+    shift 2
+    told=$("$program" "$@" 2>&1 >/dev/null </dev/null)
+    expect "$*" 2 $?
+    case $told in
+    *"$named can't be '$value'"*) ;;
+    *) echo "statuses: $*: told '$told'"; failed=1 ;;
+    esac
+}
+range --port 70000 serve --port 70000
+range --loops 65 serve --loops 65
+range --sessions -1 serve --sessions=-1
+range --threads 17 work --threads 17
+range --queues a,a work --queues a,a
+range --prefetch 0 work --prefetch 0
+range --offset +60 work --offset +60
+range --ident '' work --ident ''
+range CRON '0 3 * * Note default' work '0 3 * * Note default'
+range --at tomorrow push --at tomorrow Note '[1]'
+range --retry 1.5 push --retry 1.5 Note '[1]'
+range --unique 0 push --unique 0 Note '[1]'
+range ARGS '{"a":1}' push Note '{"a":1}'
+range CLASS '' push '' '[1]'
+range --port x status --port x
+range JOBS 0 soak 1 0
+range WORKERS 17 drill 1 1 17 0
+[ "$("$program" --version 2>/dev/null)" = 'sidekiq 0.1.0' ]
+expect 'the version' 0 $?
 if [ -w /dev/full ]; then
     "$program" status --port 1 </dev/null 2>/dev/full
     expect 'no server, and a log that is full' 6 $?
@@ -51,8 +81,14 @@ case $program in
 *bin/sidekiq)
     "$program" work --help 2>/dev/null | grep -q '^Usage: sidekiq work '
     expect 'the help of a command' 0 $?
+    "$program" help work 2>/dev/null | grep -q '^Usage: sidekiq work '
+    expect 'the help of a command, by its name' 0 $?
     "$program" --help 2>/dev/null | grep -q '^usage: sidekiq pipe '
     expect 'the help of the program' 0 $?
+    ;;
+*)
+    "$program" work --help 2>&1 >/dev/null | grep -q '^Usage: sidekiq work '
+    expect 'the help of a command, on standard error' 0 $?
     ;;
 esac
 first=$("$program" soak 1 1)
@@ -71,6 +107,12 @@ expect 'a drill of sixteen workers' 0 $?
 expect 'more workers than there are teams' 2 $?
 "$program" drill 1 20001 1 0 2>/dev/null
 expect 'more jobs than a drill has' 2 $?
+"$program" limit hold stripe 0 1 </dev/null 2>/dev/null
+expect 'a limiter of no slot' 2 $?
+"$program" limit take stripe 1 1 </dev/null 2>/dev/null
+expect 'a limiter asked for something else' 2 $?
+"$program" iterate j 1000001 </dev/null 2>/dev/null
+expect 'more items than an iteration has' 2 $?
 if command -v python3 >/dev/null; then
     # A server for one connection, which answers this to whatever comes; its port is printed first.
     peer() {
@@ -82,6 +124,10 @@ conn, _ = it.accept(); conn.recv(65536); conn.sendall(sys.argv[1].encode()); con
     free=$(python3 -c 'import socket; it = socket.socket(); it.bind(("127.0.0.1", 0)); print(it.getsockname()[1])')
     "$program" status --port "$free" >/dev/null 2>&1
     expect 'no server' 6 $?
+    "$program" limit hold stripe 1 1 --port "$free" >/dev/null 2>&1
+    expect 'no server that keeps a limiter' 6 $?
+    "$program" iterate j 1 --port "$free" >/dev/null 2>&1
+    expect 'no server that keeps a cursor' 6 $?
     try() {
         room=$(mktemp -d)
         peer "$3" >"$room/port" &

@@ -3,10 +3,11 @@
 
 Such a count is exact, also on a busy machine. A workload is run with n rounds and with 2n, and the difference is divided by n, so that what
 comes before the rounds is left out. Each count has a bar, the number that we want to reach; the script ends with status 1 where one is missed
-by more than a tenth. Nothing is installed. Wanted: python3 and valgrind.
+by more than a tenth, or by more parts in a hundred than `--slack` says. Nothing is installed. Wanted: python3 and valgrind.
 
     bench/instructions.py             the workloads on small stores, in a minute
     bench/instructions.py --large     with 100,000 rows and with 10,000 members besides, in five or so
+    bench/instructions.py --slack 25  as the gate runs it: what costs a quarter more than its bar has lost an index or a reader, and not a detail
 """
 
 import concurrent.futures
@@ -15,6 +16,8 @@ import re
 import subprocess
 import sys
 import tempfile
+
+import tap
 
 TOP = os.path.dirname(os.path.dirname(os.path.abspath(__file__)))
 PROGRAM = os.path.join(TOP, 'bin', 'sidekiq')
@@ -111,6 +114,21 @@ def batch(count, rounds):
     return b''.join(made) + joined() + b''.join(run(text) for text in jobs[:rounds])
 
 
+TOKEN = b'0123456789abcdef01234567'
+
+
+def held(rows, rounds):
+    """A slot of a limiter is held and given back."""
+    return filled(b'queue:low', rows) + command(b'SK.NOW', NOW) + rounds * (
+        command(b'SET', b'limit:stripe:0', TOKEN, b'NX', b'PX', b'30000') + command(b'SK.GIVE', b'limit:stripe:0', TOKEN))
+
+
+def deleted(rows, rounds):
+    """The same with DEL in the place of SK.GIVE, which would delete a hold of another, too."""
+    return filled(b'queue:low', rows) + command(b'SK.NOW', NOW) + rounds * (
+        command(b'SET', b'limit:stripe:0', TOKEN, b'NX', b'PX', b'30000') + command(b'DEL', b'limit:stripe:0'))
+
+
 # What is counted, of how many rows or members, in how many rounds, and the bar. The large ones come last.
 WORKLOADS = [
     ('a round of LPUSH, LMOVE and PING, 3,000 rows', lists, 3_000, 300, 25_000),
@@ -124,6 +142,8 @@ WORKLOADS = [
     ('ZADD of one more pair in a sorted set of 10,000', sorted_set, 10_000, 300, 30_000),
     ('SK.BPUSH of 2,000 jobs, a member', pushed, 0, 1_000, 40_000),
     ('a member fetched, started, done, released, of 100', batch, 100, 50, 45_000),
+    ('a slot of a limiter held and given back', held, 3_000, 300, 12_000),
+    ('the same with DEL in the place of SK.GIVE', deleted, 3_000, 300, 17_000),
 ]
 LARGE = [
     ('a job pushed, fetched, started, done, released, 100,000 rows', cycle, 100_000, 300, 36_000),
@@ -141,6 +161,22 @@ def instructions(text):
         return int(re.search(rb'Collected : (\d+)', done.stderr).group(1))
 
 
+def item():
+    """Of one more item of `sidekiq iterate`, which saves its cursor behind a hundred: of the process that iterates, beside a server."""
+    server, port = tap.serve(os.path.join(TOP, 'crates/sidekiq/out/sidekiq'))
+    try:
+        with tempfile.TemporaryDirectory() as folder:
+            def taken(count):
+                words = ['iterate', '--port', str(port), 'job-%d' % count, str(count)]
+                done = subprocess.run(['valgrind', '--tool=callgrind', f'--callgrind-out-file={folder}/out',
+                                       os.path.join(TOP, 'crates/sidekiq/out/sidekiq'), *words], stdout=subprocess.DEVNULL, stderr=subprocess.PIPE, check=True)
+                return int(re.search(rb'Collected : (\d+)', done.stderr).group(1))
+            return (taken(20_000) - taken(10_000)) // 10_000
+    finally:
+        server.kill()
+        server.wait()
+
+
 def counted(workload):
     name, made, size, rounds, bar = workload
     return name, (instructions(made(size, 2 * rounds)) - instructions(made(size, rounds))) // rounds, bar
@@ -148,14 +184,20 @@ def counted(workload):
 
 def main():
     subprocess.run([PROGRAM, 'pipe'], stdin=subprocess.DEVNULL, stdout=subprocess.DEVNULL, check=True)     # builds it, where it is stale
-    wanted = WORKLOADS + (LARGE if '--large' in sys.argv[1:] else [])
+    words = sys.argv[1:]
+    wanted = WORKLOADS + (LARGE if '--large' in words else [])
+    slack = int(words[words.index('--slack') + 1]) if '--slack' in words else 10
     missed = 0
     with concurrent.futures.ThreadPoolExecutor(os.cpu_count()) as pool:
         for name, count, bar in pool.map(counted, wanted):
-            is_missed = 10 * count > 11 * bar
+            is_missed = 100 * count > (100 + slack) * bar
             missed += is_missed
             print(f'{count:>12,}  {"MISSED" if is_missed else "ok":6}  bar {bar:>7,}  {name}', flush=True)
-    print(f'{missed} of {len(wanted)} bars missed')
+    count, bar = item(), 2_000
+    is_missed = 100 * count > (100 + slack) * bar
+    missed += is_missed
+    print(f'{count:>12,}  {"MISSED" if is_missed else "ok":6}  bar {bar:>7,}  an item of `iterate`, saved behind a hundred', flush=True)
+    print(f'{missed} of {len(wanted) + 1} bars missed')
     return missed > 0
 
 
