@@ -28,4 +28,5 @@ pub mod Causes
 pub mod Laws
 pub mod Order
 pub mod Reliable
+pub mod Replay
 pub mod Starving

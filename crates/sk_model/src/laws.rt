@@ -6,6 +6,7 @@ ghost use Rattle.sk_model.specs.Once.{BatchOnce, CallbacksFollow, CompleteOnce, 
 ghost use Rattle.sk_model.specs.Order.{FiringsInOrder};
 ghost use Rattle.sk_model.specs.Reading.{IsSaid, PipeCommand, SomeReading, Words};
 ghost use Rattle.sk_model.specs.Reliable.{Reliable};
+ghost use Rattle.sk_model.specs.Replay.{NullMovesIdle, Replay, Rerun};
 ghost use Rattle.sk_model.specs.Starving.{LimitsStay, OwnWordsNeverStarve, ReleasesNeverStarve, ServedOrStarved};
 
 /// After every step of every run each live job stands: some row names it. A job is live where it was freshly pushed, no row and no worker's
@@ -125,4 +126,20 @@ pub fn words_have_one_reading()
 /// Any words have a reading in which memory isn't wanted.
 pub fn words_have_some_reading()
     ensures { SomeReading }
+{}
+
+/// Of each run, the events that a log keeps are a run again in which none starves, with the same replies. Brought to the moment of the whole run's
+/// last world, the two last worlds are one.
+pub fn what_is_logged_runs_again()
+    ensures { Replay }
+{}
+
+/// The same of entries that leave out any steps that left the world as it was but for time.
+pub fn what_was_written_runs_again()
+    ensures { Rerun }
+{}
+
+/// An LMOVE that is answered null leaves the world as it was, but for time: such a one may be left out.
+pub fn null_moves_idle()
+    ensures { NullMovesIdle }
 {}

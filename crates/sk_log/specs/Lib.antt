@@ -1,0 +1,5 @@
+pub mod File
+pub mod Appending
+pub mod Reading
+pub mod Causes
+pub mod Commit
