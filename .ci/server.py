@@ -515,7 +515,7 @@ def a_crowd_and_a_shutdown(_):
         served[0].ask(b'+OK\r\n', 'SHUTDOWN')
         for it in served:
             it.socket.close()
-        out, _ = server.process.communicate(timeout=10)
+        out, _ = server.process.communicate(timeout=SECONDS)
     except subprocess.TimeoutExpired:
         server.process.kill()
         raise AssertionError('it goes on')
