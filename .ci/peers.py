@@ -146,6 +146,15 @@ def pauses():
     assert len(beats) >= 1 and all(4.9 < it < 7 for it in beats), beats
 
 
+def idle_workers_ask_one_after_another():
+    """Four workers without a job don't ask all at a time: hardly three quarters of a second pass in which none of them asks."""
+    with Peer(usual) as peer:
+        watched(peer, 8, '--threads', '4')
+        first = peer.named(b'LMOVE')[0].moment
+        waits = gaps([it for it in peer.named(b'LMOVE') if it.moment > first + 1.5])
+    assert len(waits) > 12 and sum(it > 0.75 for it in waits) <= 1, waits
+
+
 def no_pause_between_jobs():
     """A worker that did a job asks for the next one at once."""
     jobs = iter([JOB % n for n in range(200)])
@@ -159,7 +168,8 @@ def no_pause_between_jobs():
     assert len(fetches) > 200 and fetches[200].moment - fetches[0].moment < 2, len(fetches)
 
 
-TESTS = [workers_fetch_side_by_side, a_fault_of_the_poller_ends_the_workers, a_fault_of_a_worker_ends_the_others, pauses, no_pause_between_jobs]
+TESTS = [workers_fetch_side_by_side, a_fault_of_the_poller_ends_the_workers, a_fault_of_a_worker_ends_the_others, pauses,
+         idle_workers_ask_one_after_another, no_pause_between_jobs]
 
 
 def main():

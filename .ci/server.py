@@ -500,7 +500,8 @@ def too_few_descriptors(_):
 
 
 def a_crowd_and_a_shutdown(_):
-    """One of four says SHUTDOWN while more wait than the queue takes. The server ends once the others have left, and tells what it did."""
+    """One of four says SHUTDOWN while more wait than the queue takes. The server ends once the others have left, and tells what it did. Each of the
+    three other loops may take one more of the crowd, where its client leaves between the reply and the moment at which the loops are told."""
     server = Server(4)
     served = [server.client() for _ in range(4)]
     for it in served:
@@ -514,14 +515,15 @@ def a_crowd_and_a_shutdown(_):
         served[0].ask(b'+OK\r\n', 'SHUTDOWN')
         for it in served:
             it.socket.close()
-        out, _ = server.process.communicate(timeout=10)
+        out, _ = server.process.communicate(timeout=SECONDS)
     except subprocess.TimeoutExpired:
         server.process.kill()
         raise AssertionError('it goes on')
     finally:
         for it in crowd:
             it.close()
-    assert server.process.returncode == 0 and out.startswith(b'sessions 5 acknowledged 0\n'), (server.process.returncode, out)
+    summary = re.match(rb'sessions (\d+) acknowledged 0\n', out)
+    assert server.process.returncode == 0 and summary and 5 <= int(summary.group(1)) <= 8, (server.process.returncode, out)
 
 
 def is_over_soon(process, seconds):

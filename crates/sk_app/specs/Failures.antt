@@ -1,5 +1,6 @@
 -- The exit status of each failure of a program, and the line that it prints.
 use Rattle.std.specs.Prelude.{◌++◌, ◌-◌, ℕ, Option, Some, None, codes, drop, length, take}
+use Rattle.std.specs.List.{flat_map}
 use Rattle.hex.specs.Hex.{encode_lower}
 use Rattle.sk_resp.specs.Reply.{wire}
 use Rattle.sk_compare.specs.DifferenceText.{difference_text}
@@ -12,6 +13,7 @@ use Rattle.sk_launcher.specs.declared.launch_fault.LaunchFault.TheVariants as la
 use Rattle.sk_line.specs.declared.fault.LineFault.{LineFault}
 use Rattle.sk_line.specs.declared.fault.LineFault.TheVariants as line
 use Rattle.sk_link.specs.declared.link.LinkFault.TheVariants as link
+use Rattle.sk_app.specs.Visible.{shown}
 use Rattle.sk_app.specs.declared.failure.Failure.{Failure}
 use Rattle.sk_app.specs.declared.failure.Failure.TheVariants.{Line, Memory, Door, Seats, Link, Refused, Cursor, GenLimit, Differs}
 
@@ -30,9 +32,9 @@ status_of (Cursor bytes) = 7
 status_of GenLimit = 7
 status_of (Differs d) = 8
 
--- a reply's text without its first byte, CR and LF: of an error reply, the error
+-- a reply's text without its first byte, CR and LF: of an error reply, the error; each control character is shown by its number
 abbrev pub reply_line : Reply → Bytes
-reply_line r = drop 1 (take (length (wire r) - 2) (wire r))
+reply_line r = flat_map shown (drop 1 (take (length (wire r) - 2) (wire r)))
 
 -- What is printed, and LF behind it.
 abbrev pub line_of : Failure → Option Bytes

@@ -1,3 +1,4 @@
+pub mod Visible
 pub mod Failures
 pub mod Ending
 pub mod Jobs

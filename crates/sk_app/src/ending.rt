@@ -6,6 +6,7 @@ ghost use Rattle.sk_app.specs.Ending.{Concludes, Reports, Writes, ended};
 ghost use Rattle.sk_app.specs.Failures.{line_of, reply_line, status_of};
 
 use crate::Failure;
+use crate::visible_text::visible;
 use sk_base::{Sink, write_all};
 use sk_link::LinkFault;
 use sk_resp::{Reply, Word, write_reply};
@@ -28,14 +29,15 @@ pub fn line(alloc: Global, first: &[u8], second: &[u8]) -> Result<Word, AllocErr
     Ok(Word::new(line))
 }
 
-// A reply's text without its first byte, CR and LF, and then LF.
+// A reply's text without its first byte, CR and LF, each control character by its number, and then LF.
 fn reply_text(alloc: Global, reply: &Reply) -> Result<Word, AllocError>
     ensures { IfOk result (λ text. text ≡ ended (reply_line reply.now)) }
 {
     let mut text = Vec::new(alloc);
     write_reply(alloc, reply, &mut text)?;
     text.truncate(text.len().saturating_sub(2));
-    line(alloc, text.get(1..).unwrap_or(&[]), b"")
+    let shown = visible(alloc, text.get(1..).unwrap_or(&[]))?;
+    line(alloc, &shown, b"")
 }
 
 // A name, and bytes in hex.

@@ -16,6 +16,7 @@ mod serve;
 mod soak;
 mod status;
 mod top;
+mod visible_text;
 mod work;
 
 pub use drill::run_drill;

@@ -69,6 +69,7 @@ fn dismiss<N: Door, C: Clock>(
     worker.leave(alloc);
     let WorkerThread {
         processor,
+        pace: _,
         link,
         clock: _,
         dice: _,

@@ -7,6 +7,7 @@ ghost use Rattle.sk_launcher.specs.Promises.{Failed, HiresNext, HiresStaff, Star
 ghost use Rattle.sk_launcher.specs.Working.{settings};
 
 use crate::LaunchFault;
+use crate::pace::Pace;
 use crate::processor::Processor;
 use crate::tally::Tally;
 use crate::worker_thread::WorkerThread;
@@ -20,18 +21,20 @@ use sk_worker::{Registry, Worker};
 use std::alloc::Global;
 use std::collections::VecDeque;
 
-/// What a new worker needs besides its team: who it is, its queues, and its connection.
+/// What a new worker needs besides its team: who it is, its queues, its pace, and its connection.
 #[derive(Drop)]
 pub(crate) struct Post<N: Door> {
     pub ident: Text,
     pub order: QueueOrder,
+    pub pace: Pace,
     pub conn: N::Conn,
 }
 
-/// The next worker's post.
+/// The next worker's post, by its number.
 pub(crate) fn open_post<N: Door>(
     alloc: Global,
     line: &WorkLine,
+    number: usize,
     net: &mut N,
 ) -> Result<Post<N>, LaunchFault>
     ensures given { IfOk result (λ post. Gives (told_by N.Door net.old) post.conn (told_by N.Door net.new)) }
@@ -43,7 +46,13 @@ pub(crate) fn open_post<N: Door>(
     let ident = line.ident.copy()?;
     let order = line.order.copy(alloc)?;
     let conn = net.connect(line.address.host.text(), line.address.port)?;
-    Ok(Post { ident, order, conn })
+    let pace = Pace::new(number, line.threads);
+    Ok(Post {
+        ident,
+        order,
+        pace,
+        conn,
+    })
 }
 
 /// What workers are made of, in the order in which they get it: their teams, the rules of classes without a job, and their dice.
@@ -75,6 +84,7 @@ fn start<N: Door, C: Clock>(
             tally: Tally::new(),
             fault: None,
         },
+        pace: post.pace,
         link: WireLink::new(alloc, post.conn),
         clock: clock.twin(),
         dice,
@@ -103,7 +113,7 @@ fn hire_one<N: Door, C: Clock>(
     ensures cause { IfErr result (λ f. Hindered (Failed N.Door net.old net.new) (f ∷ [])) }
     ensures later { N.door_faults net.old ≤ N.door_faults net.new }
 {
-    let post = open_post(alloc, line, net)?;
+    let post = open_post(alloc, line, outfit.teams.len(), net)?;
     let Some(team) = outfit.teams.pop_front() else {
         unreachable!()
     };

@@ -8,6 +8,7 @@ mod hire;
 mod launch_fault;
 mod launcher;
 mod manager;
+mod pace;
 mod poller_thread;
 mod processor;
 mod shared;

@@ -5,18 +5,18 @@ ghost use Rattle.sk_launcher.specs.Launching.{HasJoined, Leaves};
 ghost use Rattle.sk_launcher.specs.Turning.{WentOn};
 ghost use Rattle.sk_launcher.specs.Working.{WorkerAdvances, WorkerTurn, worker_of};
 
+use crate::pace::Pace;
 use crate::processor::Processor;
 use crate::shared::Shared;
-use sk_base::limits::IDLE_PAUSE;
 use sk_base::{Clock, Dice};
 use sk_link::Link;
-use sk_worker::Turn;
 use std::alloc::Global;
 
-/// What the thread of a worker has: the worker with its jobs, and a link, a clock and a dice of its own.
+/// What the thread of a worker has: the worker with its jobs, its pace, and a link, a clock and a dice of its own.
 #[derive(Drop)]
 pub(crate) struct WorkerThread<L: Link + Drop, C: Clock, D: Dice + Drop> {
     pub processor: Processor,
+    pub pace: Pace,
     pub link: L,
     pub clock: C,
     pub dice: D,
@@ -73,8 +73,8 @@ impl<L: Link + Drop, C: Clock, D: Dice + Drop> WorkerThread<L, C, D> {
         ) {
             Ok(turn) => {
                 processor.tally.count(turn);
-                if turn == Turn::Empty {
-                    self.clock.pause(IDLE_PAUSE);
+                if let Some(millis) = self.pace.after(turn) {
+                    self.clock.pause(millis);
                 }
             }
             Err(fault) => processor.fault = Some(fault),
