@@ -77,20 +77,26 @@ if [ -w /dev/full ]; then
     "$program" status --port 1 </dev/null 2>/dev/full
     expect 'no server, and a log that is full' 6 $?
 fi
-case $program in
-*bin/sidekiq)
-    "$program" work --help 2>/dev/null | grep -q '^Usage: sidekiq work '
-    expect 'the help of a command' 0 $?
-    "$program" help work 2>/dev/null | grep -q '^Usage: sidekiq work '
-    expect 'the help of a command, by its name' 0 $?
-    "$program" --help 2>/dev/null | grep -q '^usage: sidekiq pipe '
-    expect 'the help of the program' 0 $?
-    ;;
-*)
-    "$program" work --help 2>&1 >/dev/null | grep -q '^Usage: sidekiq work '
-    expect 'the help of a command, on standard error' 0 $?
-    ;;
-esac
+help() {                                # WHAT FRONT WORD.. : it begins so, on standard output, with status 0
+    what=$1 front=$2
+    shift 2
+    text=$("$program" "$@" 2>/dev/null)
+    expect "$what" 0 $?
+    case $text in "$front"*) ;; *) false ;; esac
+    expect "$what, its text" 0 $?
+}
+help 'the help of the program' 'usage: sidekiq pipe ' --help
+help 'the same, in short' 'usage: sidekiq pipe ' -h
+help 'the same, by a command' 'usage: sidekiq pipe ' help
+help 'help of the pipe' 'usage: sidekiq pipe ' pipe --help
+"$program" work --help 2>/dev/null | grep -q '^Usage: sidekiq work '
+expect 'the help of a command' 0 $?
+"$program" help work 2>/dev/null | grep -q '^Usage: sidekiq work '
+expect 'the help of a command, by its name' 0 $?
+"$program" push --help >/dev/null 2>&1
+expect 'the help of a command, its status' 0 $?
+"$program" push --port 1 Note -- --help 2>/dev/null
+expect 'no help behind --' 2 $?
 first=$("$program" soak 1 1)
 expect 'a run of one job' 0 $?
 [ "$first" = "$("$program" soak 1 1)" ]

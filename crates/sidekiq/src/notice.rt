@@ -9,7 +9,7 @@ use std::io;
 use std::net::ToSocketAddrs;
 
 /// What is told where the words begin with no program's name.
-const USAGE: &str =
+pub const USAGE: &str =
     "usage: sidekiq pipe | serve | work | push | status | limit | iterate | soak | drill | --version\n\n\
     pipe    commands on standard input, replies on standard output\n\
     serve   a server for Redis's clients\n\
