@@ -48,21 +48,21 @@ fn add_word(out: &mut String, word: &str) -> Result<(), AllocError> {
     out.push_str(word)
 }
 
-fn add_turn(out: &mut String, turn: &Result<Turn, WorkFault>) -> Result<(), AllocError> {
+pub fn add_turn(out: &mut String, turn: &Result<Turn, WorkFault>) -> Result<(), AllocError> {
     match turn {
         Ok(turn) => add_word(out, turn_name(*turn)),
         Err(fault) => add_word(out, fault_name(fault)),
     }
 }
 
-fn add_join(out: &mut String, joined: &Result<(), WorkFault>) -> Result<(), AllocError> {
+pub fn add_join(out: &mut String, joined: &Result<(), WorkFault>) -> Result<(), AllocError> {
     match joined {
         Ok(()) => out.push_str("joined"),
         Err(fault) => out.push_str(fault_name(fault)),
     }
 }
 
-fn add_leave(out: &mut String, left: &Result<u64, WorkFault>) -> Result<(), AllocError> {
+pub fn add_leave(out: &mut String, left: &Result<u64, WorkFault>) -> Result<(), AllocError> {
     let alloc = *out.allocator();
     match left {
         Ok(count) => {
