@@ -151,12 +151,11 @@ def pauses():
 
 
 def idle_workers_ask_one_after_another():
-    """Four workers without a job don't ask all at a time: hardly three quarters of a second pass in which none of them asks."""
+    """Four workers without a job ask a quarter of a second after one another. If they asked all at a time, three gaps of four would be next to none."""
     with Peer(usual) as peer:
-        watched(peer, 8, '--threads', '4')
-        first = peer.named(b'LMOVE')[0].moment
-        waits = gaps([it for it in peer.named(b'LMOVE') if it.moment > first + 1.5])
-    assert len(waits) > 12 and sum(it > 0.75 for it in waits) <= 1, waits
+        watched(peer, {b'LMOVE': 28}, '--threads', '4')
+        waits = gaps(peer.named(b'LMOVE')[8:])
+    assert len(waits) >= 19 and 0.1 < statistics.median(waits) < 0.6, waits
 
 
 def no_pause_between_jobs():
