@@ -168,9 +168,14 @@ class Terminal:
         self.before = termios.tcgetattr(self.slave)
         names = {it: text for it, text in os.environ.items() if it not in ('LINES', 'COLUMNS') and not it.startswith('LC_')}
         self.process = subprocess.Popen([*TOP, '--port', str(number)], stdin=self.slave, stdout=self.slave, stderr=self.slave, start_new_session=True,
-                                        preexec_fn=lambda: fcntl.ioctl(0, termios.TIOCSCTTY, 0), env={**names, 'TERM': kind, 'LANG': 'C.UTF-8', **more})
+                                        preexec_fn=self.take, env={**names, 'TERM': kind, 'LANG': 'C.UTF-8', **more})
         PROCESSES.append(self.process)
         threading.Thread(target=self.read, daemon=True).start()
+
+    def take(self):
+        """The process's terminal is this one, and it heeds Control-C, which those in a shell's background don't."""
+        fcntl.ioctl(0, termios.TIOCSCTTY, 0)
+        signal.signal(signal.SIGINT, signal.SIG_DFL)
 
     def size(self, height, width):
         fcntl.ioctl(self.master, termios.TIOCSWINSZ, struct.pack('4H', height, width, 0, 0))
