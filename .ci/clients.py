@@ -220,7 +220,7 @@ def jobs_for_a_worker_in_rattle(server):
     with client.batch(success=sidekiq.draft('Note', ['all'], queue='rattle')) as batch:
         for n in range(3):
             batch.push('Note', n, queue='rattle')
-    line = [PROGRAM, 'work', '--port', str(server.port), '--queues', 'rattle', '--threads', '4', '--turns', '2']
+    line = [PROGRAM, 'work', '--port', str(server.port), '--queues', 'rattle', '--threads', '1', '--turns', '4']
     done = subprocess.run(line, stdin=subprocess.DEVNULL, capture_output=True, timeout=SECONDS)
     assert done.stdout == b'done 4 retried 0 buried 0 discarded 0\n', done
     assert client.batch_status(batch.bid) == (3, 0, 0, False, 0), client.batch_status(batch.bid)
@@ -251,7 +251,7 @@ def ends(server, app):
     assert client('LLEN', 'queue:ends') == 1
     began = time.time()
     status, said = worker.end()
-    assert (status, time.time() - began < 5) == (0, True) and client('LLEN', 'queue:ends') == 2, (status, said)
+    assert (status, time.time() - began < 30) == (0, True) and client('LLEN', 'queue:ends') == 2, (status, said)
     assert json.loads(client('LRANGE', 'queue:ends', -1, -1)[0])['class'] == 'Sleep'
     client('DEL', 'queue:ends')
 
@@ -262,6 +262,25 @@ def a_worker_in_python_that_is_told_to_end(server):
 
 def a_worker_in_ruby_that_is_told_to_end(server):
     ends(server, RUBY)
+
+
+def many_due_jobs(server, app, count=10_000):
+    """A worker sends all that is due to its queues, and not only a hundred jobs at each of its turns, which come a second after one another here."""
+    client, now = sidekiq.Client(port=server.port), time.time()
+    for at in range(0, count, 1000):
+        client('ZADD', 'schedule', *(it for n in range(at, at + 1000) for it in (int(now), sidekiq.text_of(sidekiq.draft('Note', [n], queue='due')))))
+    worker = Process(server, 'nobody', app=app)
+    wait_for(lambda: client('LLEN', 'queue:due') == count)
+    assert client('ZCARD', 'schedule') == 0 and worker.end()[0] == 0
+    client('DEL', 'queue:due')
+
+
+def a_worker_in_python_with_many_due_jobs(server):
+    many_due_jobs(server, PYTHON)
+
+
+def a_worker_in_ruby_with_many_due_jobs(server):
+    many_due_jobs(server, RUBY)
 
 
 def periodic_jobs(server):
@@ -291,8 +310,8 @@ def killed_workers(server, jobs=300, kills=20):
         assert worker.end(signal.SIGKILL)[0] == -signal.SIGKILL
     last = Process(server, 'killed_py', 'threads=8', notes=notes)
     ended = {'Note complete', 'Note success', *('Note inner %d' % at for at in range(3))}
-    wait_for(lambda: ended <= set(last.ran()), 150)
-    wait_for(lambda: client('LLEN', 'queue:killed_py') == 0, 30)
+    wait_for(lambda: ended <= set(last.ran()), 300)
+    wait_for(lambda: client('LLEN', 'queue:killed_py') == 0)
     ran = last.ran()
     assert len({it for it in ran if it.startswith('Nap')}) == jobs + 1, 'a job never ran'
     assert all(client.batch_status(it.bid)[1:] == (0, 0, False, 0) for it in (outer, *inner))
@@ -351,8 +370,9 @@ def wrong_steps(server):
 
 
 TESTS = [python_as_the_rows, calls_of_the_client, jobs_that_are_none, a_worker_in_python, jobs_for_a_worker_in_rattle, callbacks,
-         a_worker_in_python_that_is_told_to_end, periodic_jobs, wrong_steps, killed_workers]
-RUBY_TESTS = [ruby_as_the_rows, calls_of_the_client_in_ruby, a_worker_in_ruby, a_worker_in_ruby_that_is_told_to_end]
+         a_worker_in_python_that_is_told_to_end, a_worker_in_python_with_many_due_jobs, periodic_jobs, wrong_steps, killed_workers]
+RUBY_TESTS = [ruby_as_the_rows, calls_of_the_client_in_ruby, a_worker_in_ruby, a_worker_in_ruby_that_is_told_to_end,
+              a_worker_in_ruby_with_many_due_jobs]
 
 
 def main():

@@ -8,13 +8,14 @@ long a program pauses. Each test takes seconds. Plain sockets and Python alone. 
 """
 import collections
 import socket
+import statistics
 import subprocess
 import sys
 import threading
 import time
 
 PROGRAM = sys.argv[1]
-HOST, SECONDS = '127.0.0.1', 30
+HOST, SECONDS = '127.0.0.1', 60
 JOB = b'{"args":[1],"class":"Note","jid":"n%d","queue":"default"}'
 MOVED = b'*4\r\n:0\r\n:0\r\n*0\r\n*0\r\n'
 ANSWERS = {b'SK.BEAT': b'+OK\r\n', b'SK.JOIN': b'+OK\r\n', b'SK.DUE': MOVED, b'SK.RESCUE': MOVED, b'SK.LEAD': b':1\r\n', b'LMOVE': b'$-1\r\n',
@@ -90,11 +91,13 @@ def worked(peer, *words):
     return done.returncode, done.stdout, time.monotonic() - began
 
 
-def watched(peer, seconds, *words):
-    """Lets `work` run for so many seconds."""
+def watched(peer, counts, *words):
+    """Lets `work` run until so many of these were asked, each name with its count."""
     line = [PROGRAM, 'work', '--port', str(peer.port), *words]
     process = subprocess.Popen(line, stdin=subprocess.DEVNULL, stdout=subprocess.DEVNULL, stderr=subprocess.DEVNULL)
-    time.sleep(seconds)
+    end = time.monotonic() + SECONDS
+    while time.monotonic() < end and any(len(peer.named(name)) < count for name, count in counts.items()):
+        time.sleep(0.05)
     process.kill()
     process.wait()
 
@@ -120,7 +123,7 @@ def a_fault_of_the_poller_ends_the_workers():
     with Peer(answer) as peer:
         status, out, seconds = worked(peer, '--threads', '4')
         assert (status, out) == (6, b'unreadable \n'), (status, out)
-        assert seconds < 15 and len({it.caller for it in peer.named(b'SK.JOIN')}) == 4, seconds
+        assert seconds < 30 and len({it.caller for it in peer.named(b'SK.JOIN')}) == 4, seconds
 
 
 def a_fault_of_a_worker_ends_the_others():
@@ -130,7 +133,7 @@ def a_fault_of_a_worker_ends_the_others():
     with Peer(answer) as peer:
         status, out, seconds = worked(peer, '--threads', '4')
         assert (status, out) == (6, b'unreadable \n'), (status, out)
-        assert seconds < 15, seconds
+        assert seconds < 30, seconds
 
 
 def gaps(asked):
@@ -138,34 +141,34 @@ def gaps(asked):
 
 
 def pauses():
-    """A worker that finds no job pauses for a second, the poller for five behind each turn."""
+    """A worker that finds no job pauses for a second, the poller for five behind each turn. The gap in the middle tells: what a busy machine holds up
+    makes one gap longer, and the next one shorter."""
     with Peer(usual) as peer:
-        watched(peer, 8, '--threads', '1')
+        watched(peer, {b'LMOVE': 6, b'SK.BEAT': 3}, '--threads', '1')
         fetches, beats = gaps(peer.named(b'LMOVE')), gaps(peer.named(b'SK.BEAT'))
-    assert len(fetches) >= 4 and all(0.9 < it < 2 for it in fetches), fetches
-    assert len(beats) >= 1 and all(4.9 < it < 7 for it in beats), beats
+    assert len(fetches) >= 5 and 0.9 < statistics.median(fetches) < 2, fetches
+    assert len(beats) >= 2 and 4.8 < statistics.median(beats) < 8, beats
 
 
 def idle_workers_ask_one_after_another():
-    """Four workers without a job don't ask all at a time: hardly three quarters of a second pass in which none of them asks."""
+    """Four workers without a job ask a quarter of a second after one another. If they asked all at a time, three gaps of four would be next to none."""
     with Peer(usual) as peer:
-        watched(peer, 8, '--threads', '4')
-        first = peer.named(b'LMOVE')[0].moment
-        waits = gaps([it for it in peer.named(b'LMOVE') if it.moment > first + 1.5])
-    assert len(waits) > 12 and sum(it > 0.75 for it in waits) <= 1, waits
+        watched(peer, {b'LMOVE': 28}, '--threads', '4')
+        waits = gaps(peer.named(b'LMOVE')[8:])
+    assert len(waits) >= 19 and 0.1 < statistics.median(waits) < 0.6, waits
 
 
 def no_pause_between_jobs():
-    """A worker that did a job asks for the next one at once."""
+    """A worker that did a job asks for the next one at once: with a pause behind each, 200 would take 200 seconds."""
     jobs = iter([JOB % n for n in range(200)])
 
     def answer(peer, asked):
         job = next(jobs, None) if asked.words[0] == b'LMOVE' else None
         return b'$%d\r\n%s\r\n' % (len(job), job) if job else usual(peer, asked)
     with Peer(answer) as peer:
-        watched(peer, 4, '--threads', '1')
+        watched(peer, {b'LMOVE': 201}, '--threads', '1')
         fetches = peer.named(b'LMOVE')
-    assert len(fetches) > 200 and fetches[200].moment - fetches[0].moment < 2, len(fetches)
+    assert len(fetches) > 200 and fetches[200].moment - fetches[0].moment < 50, len(fetches)
 
 
 TESTS = [workers_fetch_side_by_side, a_fault_of_the_poller_ends_the_workers, a_fault_of_a_worker_ends_the_others, pauses,

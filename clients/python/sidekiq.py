@@ -76,7 +76,7 @@ class Connection:
         try:
             self._socket = socket.create_connection((host, port), timeout)
             self._socket.setsockopt(socket.IPPROTO_TCP, socket.TCP_NODELAY, 1)
-        except OSError as fault:
+        except (OSError, OverflowError, UnicodeError) as fault:      # (the last two: such a port, such a host there is none)
             raise Lost('no server at %s:%d: %s' % (host, port, fault)) from fault
         self._replies = self._socket.makefile('rb')
 
@@ -288,8 +288,8 @@ class Client:
 
     def status(self):
         """The page of numbers, as a dict: `processed`, `failed`, `busy`, `scheduled`, .. and each queue's length."""
-        lines = self('SK.STATUS').decode().splitlines()
-        return {name: int(count) for name, count in (line.rsplit(' ', 1) for line in lines)}
+        lines = self('SK.STATUS').decode().split('\n')      # (a queue's name may have what else ends a line in Unicode)
+        return {name: int(count) for name, count in (line.rsplit(' ', 1) for line in lines if line)}
 
 
 class Batch:
@@ -573,10 +573,17 @@ class Worker:
     def _poll_once(self, ask):
         ask('SK.BEAT', self.ident)
         if not self.is_ending:
-            for words in (('SK.DUE', 'schedule', 100), ('SK.DUE', 'retry', 100), ('SK.RESCUE',)):
-                ask(*words)
+            for name in ('schedule', 'retry'):
+                self._send_due(ask, name)
+            ask('SK.RESCUE')
             if self._crons and ask('SK.LEAD', self.ident) == 1:
                 self._push_slots(ask)
+
+    def _send_due(self, ask, name):
+        """Sends what is due to its queues, a hundred jobs at a time, since the store does nothing else meanwhile; for five seconds at most."""
+        ends = time.monotonic() + 5
+        while sum(ask('SK.DUE', name, 100)[:2]) >= 100 and time.monotonic() < ends and not self.is_ending:
+            pass
 
     def _push_slots(self, ask):
         for cron, loop, job, offset in self._crons:

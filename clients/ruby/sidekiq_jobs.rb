@@ -618,8 +618,15 @@ module SidekiqJobs
       boss.ask('SK.BEAT', @ident)
       return if @ending
 
-      [%w[SK.DUE schedule 100], %w[SK.DUE retry 100], %w[SK.RESCUE]].each { |words| boss.ask(*words) }
+      %w[schedule retry].each { |name| send_due(boss, name) }
+      boss.ask('SK.RESCUE')
       push_slots(boss) if @crons.any? && boss.ask('SK.LEAD', @ident) == 1
+    end
+
+    # Sends what is due to its queues, a hundred jobs at a time, since the store does nothing else meanwhile; for five seconds at most.
+    def send_due(boss, name)
+      ends = SidekiqJobs.millis + 5000
+      loop { break if boss.ask('SK.DUE', name, 100).first(2).sum < 100 || SidekiqJobs.millis > ends || @ending }
     end
 
     def push_slots(boss)
