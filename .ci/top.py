@@ -470,6 +470,11 @@ def main():
     except OSError as fault:
         print('top: passed over, since there is no loopback here: %s' % fault)
         return 0
+    try:
+        [os.close(it) for it in pty.openpty()]
+    except OSError as fault:
+        print('top: passed over, since there is no terminal here: %s' % fault)
+        return server.end()[0]
     failed, wanted = [], sys.argv[2:]
     for test in TESTS:
         if wanted and test.__name__ not in wanted:
