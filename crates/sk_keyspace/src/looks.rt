@@ -171,7 +171,7 @@ fn is_among(word: &Word, words: &[Word]) -> bool
     words.iter().any(|other| word.cmp(other).is_eq())
 }
 
-// The same of any number of processes.
+// The same of any number of processes. Whether one is alive is asked of the leases, without a list of all.
 fn look_idents(
     alloc: Global,
     moment: u64,
@@ -180,6 +180,9 @@ fn look_idents(
 ) -> Result<Reply, KeysFault>
     ensures { (now : ℕ) → AnswersWith (look_at now look.now (if_any value.Set (idents moment leases.now.current))) result }
 {
+    if let ReadOp::Sismember(ident) = look {
+        return Ok(one_if(leases.alive(ident, moment)));
+    }
     let list = leases.idents(alloc, moment)?;
     if list.is_empty() {
         return Ok(look.absent(alloc));

@@ -1,4 +1,5 @@
 pub mod Accounts
+pub mod AnyOrder
 pub mod Entries
 pub mod Finds
 pub mod Gone
@@ -27,7 +28,7 @@ pub mod SpareDeques
 pub mod Sweeping
 pub mod Sweeps
 pub mod LeastScores
-pub mod MembersFound
+pub mod MembersTaken
 pub mod TextFound
 pub mod TextIndexed
 pub mod Windows

@@ -2,16 +2,16 @@
 use Rattle.std.specs.Prelude.{ℕ, zero, suc, Bool, ◌&&◌, List}
 use Rattle.sk_cmd.specs.declared.argument.Side.{Side}
 use Rattle.sk_cmd.specs.declared.argument.Side.TheVariants.{Left, Right}
-use Rattle.sk_resp.specs.WordOrder.{is_member}
 use Rattle.sk_places.specs.declared.row_filter.RowFilter.{RowFilter}
-use Rattle.sk_places.specs.declared.row_filter.RowFilter.TheVariants.{Copies, Members}
+use Rattle.sk_places.specs.declared.row_filter.RowFilter.TheVariants.{Copies, Member}
 use Rattle.sk_places.specs.declared.row.Place.{Place}
 use Rattle.sk_places.specs.declared.row.Row.{Row}
 use Rattle.sk_places.specs.Rows.{is_at, is_same, row_at, without_first, without_last}
+use Rattle.sk_places.specs.Segments.{is_text}
 
 -- the row is at the place, and is wanted
 abbrev pub selects : Place → RowFilter → Row → Bool
-selects place (Members members) row = is_at place row && is_member row.text members.now
+selects place (Member text) row = is_at place row && is_text text.now row
 selects place (Copies text) row = is_same (row_at place text.now) row
 
 -- without the first so many that pass

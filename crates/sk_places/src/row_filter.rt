@@ -1,6 +1,5 @@
 // Which rows of a place are to go.
 ghost use Rattle.std.specs.Prelude.{◌≡◌};
-ghost use Rattle.sk_resp.specs.WordOrder.{is_member};
 ghost use Rattle.sk_places.specs.Entries.{as_row};
 ghost use Rattle.sk_places.specs.RowLists.{listed};
 ghost use Rattle.sk_places.specs.Rows.{is_at};
@@ -9,27 +8,16 @@ ghost use Rattle.sk_places.specs.RowFilter.{selects};
 use crate::row::{Place, RowKey};
 use sk_base::Score;
 use sk_payload::Payload;
-use sk_resp::{Word, Words};
+use sk_resp::Word;
 use sk_undo::Predicate;
 
 /// Which of a place's rows are to go.
 #[derive(Drop)]
 pub enum RowFilter<'a> {
-    /// Those with one of these texts.
-    Members(&'a Words),
+    /// Those with this text.
+    Member(&'a Word),
     /// Those with this text and the score 0.
     Copies(&'a Word),
-}
-
-fn is_member(text: &Word, members: &Words) -> bool
-    ensures { result ≡ is_member text.now members.now }
-{
-    for member in members.list() {
-        if text.cmp(member).is_eq() {
-            return true;
-        }
-    }
-    false
 }
 
 /// Whether the row is at the place and is wanted.
@@ -38,7 +26,7 @@ pub fn selects(place: &Place, wanted: &RowFilter, entry: &(RowKey, Payload)) -> 
 {
     let here = place.compare(&entry.0.place).is_eq();
     match wanted {
-        RowFilter::Members(members) => here && is_member(entry.1.text(), members),
+        RowFilter::Member(text) => here && text.bytes() == entry.1.text().bytes(),
         RowFilter::Copies(text) => {
             here && 0 == entry.0.score.micros() && text.bytes() == entry.1.text().bytes()
         }
@@ -66,7 +54,7 @@ pub fn picks_item(place: &Place, wanted: &RowFilter, entry: &(Score, Payload)) -
     ensures { result ≡ selects place.now wanted.now (listed place.now entry.now) }
 {
     match wanted {
-        RowFilter::Members(members) => is_member(entry.1.text(), members),
+        RowFilter::Member(text) => text.bytes() == entry.1.text().bytes(),
         RowFilter::Copies(text) => {
             0 == entry.0.micros() && text.bytes() == entry.1.text().bytes()
         }

@@ -18,7 +18,6 @@ ghost use Rattle.sk_places.specs.declared.row.Place.TheVariants.{Set};
 ghost use Rattle.sk_zset.specs.Bounds.{is_below};
 ghost use Rattle.sk_places.specs.Segments.{is_text};
 ghost use Rattle.sk_places.specs.RowFilter.{selects};
-ghost use Rattle.sk_resp.specs.WordOrder.{is_member};
 
 use crate::index::{JobIndex, add_job, drop_job, take_job};
 use crate::job_key::{JobKey, OfJob};
@@ -31,13 +30,10 @@ use sk_base::limits::MOST_ROWS;
 use sk_base::{Bound, Score};
 use sk_cmd::{Scored, Side};
 use sk_payload::Payload;
-use sk_resp::{Word, Words};
+use sk_resp::Word;
 use sk_undo::UndoMultiset;
 use std::alloc::Global;
 use std::marker::Model;
-
-// How many rows are looked at one after another in about the time of one look-up of a text.
-const ROWS_A_LOOK_UP: usize = 64;
 
 /// How many rows there are, and how many bytes their texts have.
 #[derive(Clone, Copy, Drop)]
@@ -187,18 +183,7 @@ impl Rows {
         }
     }
 
-    // The index in a set of the first row with one of the texts, or how many rows it has. Looks each text up.
-    fn position_of_members(&self, set: Scored, members: &Words) -> usize
-        ensures { result ≡ position_or_len (λ row. is_member row.text members.now) (rows_at (Set set) self.now.current) }
-    {
-        let mut first = self.len_at(&Place::Set(set));
-        for member in members.list() {
-            first = first.min(self.position_in_set(set, member.bytes()));
-        }
-        first
-    }
-
-    // What `position_wanted` answers, by look-ups: where few texts are wanted in a set, and none of them stands before the index `first`.
+    // What `position_wanted` answers, by a look-up: where a text is wanted in a set, and doesn't stand before the index `first`.
     fn look_up_wanted(
         &self,
         place: &Place,
@@ -211,19 +196,16 @@ impl Rows {
         ensures { IfSome result (λ at. (at ≡ first + position_or_len (selects place.now wanted.now) (drop first (take end (rows_at place.now self.now.current)))) × (at ≤ end)) }
     {
         match (place, wanted) {
-            (Place::Set(set), RowFilter::Members(members)) => {
-                if members.list().len() > (end - first) / ROWS_A_LOOK_UP {
-                    return None;
-                }
-                let at = self.position_of_members(*set, members).min(end);
+            (Place::Set(set), RowFilter::Member(text)) => {
+                let at = self.position_in_set(*set, text.bytes()).min(end);
                 if at < first { None } else { Some(at) }
             }
             _ => None,
         }
     }
 
-    /// The index at a place of the first row that is wanted, of those from the index `first` to the one before `end`; `end` where none is. Few texts
-    /// in a set are looked up, in logarithmic time each; else it looks at these rows one after another.
+    /// The index at a place of the first row that is wanted, of those from the index `first` to the one before `end`; `end` where none is. A text
+    /// in a set is looked up, in logarithmic time; else it looks at these rows one after another.
     pub fn position_wanted(
         &self,
         place: &Place,

@@ -2,8 +2,8 @@ use Rattle.std.proofs.Common.{arith}
 use Rattle.sk_places.proofs.Parted.{at_itself}
 use Rattle.sk_places.proofs.row_filter.picks_item.Goals as goal
 
-pub returns-in-Members : goal.returns-in-Members
-returns-in-Members c = let at = at_itself c.args.place.now c.args.entry.now in rw (c.in-Members.is) (grind (arith, at, c.is_member.ensures, c.text.ensures))
+pub returns-in-Member : goal.returns-in-Member
+returns-in-Member c = let at = at_itself c.args.place.now c.args.entry.now in rw (c.in-Member.is) (grind (arith, at, c.text.ensures))
 
 pub returns-then-micros-eq0 : goal.returns-then-micros-eq0
 returns-then-micros-eq0 c = let at = at_itself c.args.place.now c.args.entry.now in rw (c.in-Copies.is) (grind (arith, at, c.if-micros-eq0.true))
