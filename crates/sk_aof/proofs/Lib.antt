@@ -1,2 +1,15 @@
 pub mod Sizes
 pub mod Readings
+pub mod Numbers
+pub mod Bodies
+pub mod Accepting
+pub mod Reopening
+pub mod Appending
+pub mod SeatsCut
+pub mod Judging
+pub mod Turns
+pub mod Lines
+pub mod Hindering
+pub mod Talks
+pub mod Beginning
+pub mod Filling

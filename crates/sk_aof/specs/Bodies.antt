@@ -1,5 +1,5 @@
 -- How an event stands in the file.
-use Rattle.std.specs.Prelude.{◌≡◌, ◌<◌, ◌^◌, ℕ, [], ◌∷◌, ◌++◌, Bool, true, false, codes}
+use Rattle.std.specs.Prelude.{◌≡◌, ◌<◌, ◌^◌, ℕ, List, [], ◌∷◌, ◌++◌, Bool, true, false, codes}
 use Rattle.std.specs.Fmt.{decimal}
 use Rattle.sk_resp.specs.Spelling.{Bytes}
 use Rattle.sk_resp.specs.Request.{Command as Words, IsCommand, array}
@@ -19,10 +19,20 @@ abbrev pub event_of : Bool → ℕ → ℕ → Words → Event
 event_of true seat now words = Cut seat
 event_of false seat now words = Ask seat now words
 
+-- the commands that it is to a pipe
+abbrev pub commands_of : Event → List Words
+commands_of (Ask seat now words) = (codes "SK.AS" ∷ decimal seat ∷ []) ∷ (codes "SK.NOW" ∷ decimal now ∷ []) ∷ words ∷ []
+commands_of (Cut seat) = (codes "SK.CUT" ∷ decimal seat ∷ []) ∷ []
+
 -- a seat is a number of 32 bits, a moment one of 63
+abbrev pub HasNumbers : Event → Type 0
+HasNumbers (Ask seat now words) = (seat < 2 ^ 32) × (now < 2 ^ 63)
+HasNumbers (Cut seat) = seat < 2 ^ 32
+
+-- and the words are a command's
 abbrev pub MayStand : Event → Type 0
-MayStand (Ask seat now words) = (seat < 2 ^ 32) × ((now < 2 ^ 63) × IsCommand words)
-MayStand (Cut seat) = seat < 2 ^ 32
+MayStand (Ask seat now words) = HasNumbers (Ask seat now words) × IsCommand words
+MayStand (Cut seat) = HasNumbers (Cut seat)
 
 -- A body is that of one event alone.
 abbrev pub OneEvent : Type 0

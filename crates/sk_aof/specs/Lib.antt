@@ -1,1 +1,10 @@
 pub mod Bodies
+pub mod Read
+pub mod Accepted
+pub mod Stored
+pub mod Appends
+pub mod Causes
+pub mod Cuts
+pub mod Logging
+pub mod Talking
+pub mod Piping

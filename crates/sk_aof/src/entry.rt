@@ -20,7 +20,7 @@ fn write_number(alloc: Global, word: &[u8], number: u64, body: &mut Vec<u8>) -> 
 }
 
 // The body of a command that a seat hands in.
-fn ask_body(alloc: Global, seat: u32, now: u64, words: &Words) -> Result<Vec<u8>, Memory>
+pub(crate) fn ask_body(alloc: Global, seat: u32, now: u64, words: &Words) -> Result<Vec<u8>, Memory>
     ensures { IfOk result (λ body. body.items ≡ body_of (Ask seat now words.now)) }
 {
     let mut body = Vec::new(alloc);
@@ -31,12 +31,34 @@ fn ask_body(alloc: Global, seat: u32, now: u64, words: &Words) -> Result<Vec<u8>
 }
 
 // The body of a cut.
-fn cut_body(alloc: Global, seat: u32) -> Result<Vec<u8>, Memory>
+pub(crate) fn cut_body(alloc: Global, seat: u32) -> Result<Vec<u8>, Memory>
     ensures { IfOk result (λ body. body.items ≡ body_of (Cut seat)) }
 {
     let mut body = Vec::new(alloc);
     write_number(alloc, b"SK.CUT", u64::from(seat), &mut body)?;
     Ok(body)
+}
+
+/// The record of a cut.
+pub(crate) fn cut_record(alloc: Global, seat: u32) -> Result<Record, Memory>
+    ensures { IfOk result (λ entry. entry ≡ body_of (Cut seat)) }
+{
+    let body = cut_body(alloc, seat)?;
+    Ok(record_of(alloc, &body)?)
+}
+
+/// The record of a command that a seat hands in. The words are a command's.
+pub(crate) fn ask_record(
+    alloc: Global,
+    seat: u32,
+    now: u64,
+    words: &Words,
+) -> Result<Record, Memory>
+    requires { IsCommand words.now }
+    ensures { IfOk result (λ entry. entry ≡ body_of (Ask seat now words.now)) }
+{
+    let body = ask_body(alloc, seat, now, words)?;
+    Ok(record_of(alloc, &body)?)
 }
 
 /// The record of an event: that the seat is cut off, or that it hands in the words of a command, which act at this moment, in milliseconds since 1970.
@@ -52,9 +74,8 @@ pub fn make_record(
     ensures { IfOk result (λ entry. entry ≡ body_of (event_of cut seat now words.now)) }
 {
     if cut {
-        let body = cut_body(alloc, seat)?;
-        return record_of(alloc, &body);
+        cut_record(alloc, seat)
+    } else {
+        ask_record(alloc, seat, now, words)
     }
-    let body = ask_body(alloc, seat, now, words)?;
-    record_of(alloc, &body)
 }

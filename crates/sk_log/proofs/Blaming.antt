@@ -1,9 +1,10 @@
 -- Where a log of some bodies is damaged, one of them was refused.
-use Rattle.std.proofs.Common.{◌≡◌, ◌≢◌, ◌⊎◌, inl, inr, ◌<◌, ◌^◌, ℕ, List, [], ◌∷◌, ◌++◌, length, take, drop, refl, sym, ◌∙◌, ap, arith, append_assoc, length-append}
+use Rattle.std.proofs.Common.{◌≡◌, ◌≢◌, ◌⊎◌, inl, inr, ◌≤◌, ◌<◌, ◌^◌, ℕ, List, [], ◌∷◌, ◌++◌, length, take, drop, refl, sym, ◌∙◌, ap, arith, append_assoc, length-append}
 use Rattle.std.specs.Int.{w32, from_be_bytes}
 use Rattle.std.proofs.lemmas.List.{take_at, drop_at}
 use Rattle.std.proofs.lemmas.Nat.{from_be_bytes-to_be_bytes_4}
 use Rattle.sk_log.specs.File.{AllFit, Body, framed, records, Stood}
+use Rattle.sk_disk.specs.Images.{Images}
 use Rattle.sk_log.specs.Reading.{IsBlamed, IsBroken, IsDamaged, IsWhole}
 
 -- a framed body is spelled in one way
@@ -38,8 +39,25 @@ module _ (X : Body → Type 0) (gate : ℕ) (end : List ℕ) (closed : gate ≢ 
       let more = blame ds bs rest f.1 h.1 same.1 why in
       (more.0, (more.1.0, (λ i. sym same.0 i ∷ more.1.1 i), more.1.2))
 
-pub blamed : {R : Type 0} (told : R → List Body) (refuses : R → Body → Type 0) (c : List ℕ) (at : ℕ) (before all : List Body) → IsDamaged told refuses c at before → Stood all c → IsBlamed told refuses before all
-blamed {R} told refuses c at before all d s =
-    let e : records d.bodies ++ d.rest ≡ records all ++ (s.gate ∷ s.rest) = ap (λ (l : List ℕ). drop 8 l) (sym d.is ∙ s.is) in
-    let found = blame (λ body. (r : R) × (told r ≡ before ++ d.bodies) × refuses r body) s.gate s.rest s.closed d.bodies all d.rest d.fit s.fit e d.why in
-    record { done = d.bodies; body = found.0; more = found.1.0; is = found.1.1; refused = found.1.2 }
+-- A file is a log of one list of bodies.
+same_bodies : (some other : List Body) (gate end : ℕ) (x y : List ℕ) → gate ≢ 1 → end ≢ 1 → AllFit some → AllFit other → records some ++ (gate ∷ x) ≡ records other ++ (end ∷ y) → some ≡ other
+same_bodies [] [] gate end x y shut closed f h e = refl
+same_bodies [] (b ∷ other) gate end x y shut closed f h e = let one : gate ≡ 1 = cc e in absurd (shut one)
+same_bodies (a ∷ some) [] gate end x y shut closed f h e = let one : end ≡ 1 = cc e in absurd (closed one)
+same_bodies (a ∷ some) (b ∷ other) gate end x y shut closed f h e =
+    let tails : framed a ++ (records some ++ (gate ∷ x)) ≡ framed b ++ (records other ++ (end ∷ y)) =
+    sym (append_assoc (framed a) (records some) (gate ∷ x)) ∙ ap (λ (l : List ℕ). drop 1 l) e ∙ append_assoc (framed b) (records other) (end ∷ y) in
+    let same = unframe a b (records some ++ (gate ∷ x)) (records other ++ (end ∷ y)) f.0 h.0 tails in
+    let more = same_bodies some other gate end x y shut closed f.1 h.1 same.1 in
+    λ i. same.0 i ∷ more i
+
+pub stood_once : (some other : List Body) (c : List ℕ) → Stood some c → Stood other c → some ≡ other
+stood_once some other c s t = same_bodies some other s.gate t.gate s.rest t.rest s.closed t.closed s.fit t.fit (ap (λ (l : List ℕ). drop 8 l) (sym s.is ∙ t.is))
+
+pub blamed : {R : Type 0} (runs : R → Body → R → Type 0) (refuses : R → Body → Type 0) (files : Images) (at : ℕ) (old : R) (c : List ℕ) (all : List Body) → IsDamaged runs refuses files at old → files c → length c ≤ 2 ^ 60 → Stood all c
+    → IsBlamed runs refuses old all
+blamed {R} runs refuses files at old c all d there short s =
+    let broken = d.each c there short in
+    let e : records d.bodies ++ broken.before.rest ≡ records all ++ (s.gate ∷ s.rest) = ap (λ (l : List ℕ). drop 8 l) (sym broken.before.is ∙ s.is) in
+    let found = blame (refuses d.state) s.gate s.rest s.closed d.bodies all broken.before.rest broken.before.fit s.fit e broken.why in
+    record { done = d.bodies; body = found.0; more = found.1.0; is = found.1.1; state = d.state; ran = d.ran; refused = found.1.2 }

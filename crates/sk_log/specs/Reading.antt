@@ -1,9 +1,9 @@
 -- What stands at a gate of a log.
-use Rattle.std.specs.Prelude.{◌≡◌, ◌≢◌, ◌⊎◌, ◌≤◌, ◌<◌, ◌^◌, ℕ, Bool, List, ◌∷◌, ◌++◌, length, take, Option, Some, None}
+use Rattle.std.specs.Prelude.{◌≡◌, ◌≢◌, ◌⊎◌, ◌≤◌, ◌<◌, ◌^◌, ℕ, Bool, List, [], ◌∷◌, ◌++◌, length, take, Option, Some, None}
 use Rattle.std.specs.Bool.{MatchBool}
 use Rattle.std.specs.Int.{w32, to_be_bytes}
 use Rattle.sk_disk.specs.Images.{Images, Narrows, Same, LeavesOnly}
-use Rattle.sk_log.specs.File.{AllFit, Begins, Body, framed, front, place, IsAt, Stood}
+use Rattle.sk_log.specs.File.{AllFit, AllStood, Begins, Body, framed, front, place, IsAt, Stood}
 use Rattle.sk_log.specs.declared.reading.Found.{Found}
 use Rattle.sk_log.specs.declared.reading.Found.TheVariants as found
 
@@ -62,47 +62,6 @@ pub record OnlyRead {D : Type 0} (reads may_leave : D → Images) (moment : D �
 abbrev pub Fills : List ℕ → List ℕ → Bool → Type 0
 Fills bytes buf full = MatchBool full ((length buf ≤ length bytes) × (buf ≡ take (length buf) bytes)) (length bytes < length buf)
 
--- ## Opening
-
--- So far these bodies were read, and run.
-pub record IsReached (c : List ℕ) (at : ℕ) (before after : List Body) : Type 0 where
-  pub bodies : List Body
-  pub rest : List ℕ
-  pub fit : AllFit bodies
-  pub is : c ≡ front bodies ++ rest
-  pub at_is : at ≡ place bodies
-  pub ran : after ≡ before ++ bodies
-
--- The place is the file's first closed gate, and all bodies before it were run.
-pub record IsOpened (c : List ℕ) (at : ℕ) (before after : List Body) : Type 0 where
-  pub bodies : List Body
-  pub stood : Stood bodies c
-  pub at_is : at ≡ place bodies
-  pub ran : after ≡ before ++ bodies
-
--- Whatever a crash leaves is a log of the bodies that were run, and the place is its first closed gate: the log may be appended to.
-pub record IsReady (may_leave : Images) (at : ℕ) (before after : List Body) : Type 0 where
-  pub bodies : List Body
-  pub is_at : IsAt bodies at may_leave
-  pub ran : after ≡ before ++ bodies
-
--- Behind bodies that were run no record stands, or one whose body is refused.
-pub record IsDamaged {R : Type 0} (ran : R → List Body) (refuses : R → Body → Type 0) (c : List ℕ) (at : ℕ) (before : List Body) : Type 0 where
-  pub bodies : List Body
-  pub rest : List ℕ
-  pub is : c ≡ front bodies ++ rest
-  pub fit : AllFit bodies
-  pub at_is : at ≡ place bodies
-  pub why : IsBroken rest ⊎ ((body : Body) × (IsWhole body rest × ((r : R) × (ran r ≡ before ++ bodies) × refuses r body)))
-
--- one of these bodies is refused behind the ones before it
-pub record IsBlamed {R : Type 0} (ran : R → List Body) (refuses : R → Body → Type 0) (before bodies : List Body) : Type 0 where
-  pub done : List Body
-  pub body : Body
-  pub more : List Body
-  pub is : bodies ≡ done ++ body ∷ more
-  pub refused : (r : R) × (ran r ≡ before ++ done) × refuses r body
-
 -- ## Whatever a read gives
 
 -- if it gives anything
@@ -113,14 +72,67 @@ OnceRead reads P = (c : List ℕ) → reads c → P
 abbrev pub EachFile : Images → (List ℕ → Type 0) → Type 0
 EachFile reads P = (c : List ℕ) → reads c → length c ≤ 2 ^ 60 → P c
 
--- each of these that begins as a log does
-abbrev pub EachLog : Images → (List ℕ → Type 0) → Type 0
-EachLog reads P = (c : List ℕ) → reads c → Begins c → length c ≤ 2 ^ 60 → P c
+-- those of the files that begin as a log does
+abbrev pub Begun : Images → Images
+Begun reads c = reads c × Begins c
 
--- It begins as a log does, and is damaged there.
-abbrev pub IsDamagedLog : {R : Type 0} → (R → List Body) → (R → Body → Type 0) → ℕ → List Body → List ℕ → Type 0
-IsDamagedLog ran refuses at before c = Begins c × IsDamaged ran refuses c at before
+-- ## Opening
+
+-- From the old state on these bodies were run, one after another, which led to the new one.
+abbrev pub RunsAll : {R : Type 0} → (R → Body → R → Type 0) → R → List Body → R → Type 0
+RunsAll runs old [] new = new ≡ old
+RunsAll runs old (body ∷ bodies) new = (mid : _) × runs old body mid × RunsAll runs mid bodies new
+
+-- The file begins with these bodies, and the place is behind them.
+pub record HasFront (bodies : List Body) (at : ℕ) (c : List ℕ) : Type 0 where
+  pub rest : List ℕ
+  pub fit : AllFit bodies
+  pub is : c ≡ front bodies ++ rest
+  pub at_is : at ≡ place bodies
+
+-- The file is a log of these bodies, and the place is its first closed gate.
+abbrev pub IsClosed : List Body → ℕ → Images
+IsClosed bodies at c = Stood bodies c × (at ≡ place bodies)
+
+-- So far, from the old state to the new one, these bodies were run, and each of the files has them before the place.
+pub record HasRun {R : Type 0} (runs : R → Body → R → Type 0) (Has : List Body → ℕ → Images) (files : Images) (at : ℕ) (old new : R) : Type 0 where
+  pub bodies : List Body
+  pub ran : RunsAll runs old bodies new
+  pub each : Narrows (Has bodies at) files
+
+-- These bodies were run, and whatever was read is a log of them. So is whatever a crash leaves now, and the place is its first closed gate: the log may
+-- be appended to.
+pub record IsOpened {R : Type 0} (runs : R → Body → R → Type 0) (reads may_leave : Images) (at : ℕ) (old new : R) : Type 0 where
+  pub bodies : List Body
+  pub ran : RunsAll runs old bodies new
+  pub read : AllStood bodies reads
+  pub ready : OnceRead reads (IsAt bodies at may_leave)
+
+-- ## Damage
+
+-- The file begins as a log does, with these bodies; behind them no record stands, or one whose body is refused in this state.
+pub record IsBrokenBehind {R : Type 0} (refuses : R → Body → Type 0) (bodies : List Body) (at : ℕ) (state : R) (c : List ℕ) : Type 0 where
+  pub begins : Begins c
+  pub before : HasFront bodies at c
+  pub why : IsBroken before.rest ⊎ ((body : Body) × (IsWhole body before.rest × refuses state body))
+
+-- Bodies were run, and behind them, at the place, each of the files is broken.
+pub record IsDamaged {R : Type 0} (runs : R → Body → R → Type 0) (refuses : R → Body → Type 0) (files : Images) (at : ℕ) (old : R) : Type 0 where
+  pub bodies : List Body
+  pub state : R
+  pub ran : RunsAll runs old bodies state
+  pub each : EachFile files (IsBrokenBehind refuses bodies at state)
+
+-- One of these bodies is refused behind the ones before it.
+pub record IsBlamed {R : Type 0} (runs : R → Body → R → Type 0) (refuses : R → Body → Type 0) (old : R) (bodies : List Body) : Type 0 where
+  pub done : List Body
+  pub body : Body
+  pub more : List Body
+  pub is : bodies ≡ done ++ body ∷ more
+  pub state : R
+  pub ran : RunsAll runs old done state
+  pub refused : refuses state body
 
 -- Of whatever bodies the file is a log, one of them was refused.
-abbrev pub Blames : {R : Type 0} → (R → List Body) → (R → Body → Type 0) → List Body → List ℕ → Type 0
-Blames ran refuses before c = (bodies : List Body) → Stood bodies c → IsBlamed ran refuses before bodies
+abbrev pub Blames : {R : Type 0} → (R → Body → R → Type 0) → (R → Body → Type 0) → R → List ℕ → Type 0
+Blames runs refuses old c = (bodies : List Body) → Stood bodies c → IsBlamed runs refuses old bodies

@@ -1,5 +1,5 @@
 // Appending: lengths, bodies and a closed gate behind the closed gate, a sync, the gate opened, and a sync.
-ghost use Rattle.std.specs.Prelude.{◌≡◌, ◌↔◌, ◌<◌, ◌≤◌, ◌+◌, ◌^◌, ◌++◌, [], ◌∷◌, ℕ, List, length, IfOk, IfErr, OnOk, Err, IsErrOf};
+ghost use Rattle.std.specs.Prelude.{◌≡◌, ◌⊎◌, ◌↔◌, ◌<◌, ◌≤◌, ◌+◌, ◌^◌, ◌++◌, [], ◌∷◌, ℕ, List, length, IfOk, IfErr, OnOk, Err, IsErrOf};
 ghost use Rattle.sk_base.specs.Outside.{Rose, HasCause};
 ghost use Rattle.sk_log.specs.Appending.{Adds, AddsAll, AddsAllOrKeeps, AddsOrKeeps, Holds, Keeps, Opens, OpensOrKeeps, PutsBehind};
 ghost use Rattle.sk_log.specs.File.{Body, IsAt, IsGroup, Stages};
@@ -87,6 +87,7 @@ impl Log {
         ensures later { D.disk_faults disk.old ≤ D.disk_faults disk.new }
         ensures disk { IsErrOf result DiskFault → Rose (D.disk_faults disk.old) (D.disk_faults disk.new) }
         ensures full { (result ≡ Err Full) ↔ (2 ^ 50 < self.old + length bytes.now + 1) }
+        ensures only { IfErr result (λ e. (e ≡ DiskFault) ⊎ (e ≡ Full)) }
     {
         let len = bytes.len() as u64;
         if self.gate > MOST || len > MOST || self.gate + len + 1 > MOST {
@@ -107,6 +108,7 @@ impl Log {
         ensures later { D.disk_faults disk.old ≤ D.disk_faults disk.new }
         ensures disk { IsErrOf result DiskFault → Rose (D.disk_faults disk.old) (D.disk_faults disk.new) }
         ensures full { (result ≡ Err Full) ↔ (2 ^ 50 < self.old + length entry.now + 6) }
+        ensures only { IfErr result (λ e. (e ≡ DiskFault) ⊎ (e ≡ Full)) }
     {
         self.extend(disk, entry.bytes())
     }
@@ -118,6 +120,7 @@ impl Log {
         ensures later { D.disk_faults disk.old ≤ D.disk_faults disk.new }
         ensures disk { IsErrOf result DiskFault → Rose (D.disk_faults disk.old) (D.disk_faults disk.new) }
         ensures full { (result ≡ Err Full) ↔ ((1 < length group.now) × (2 ^ 50 < self.old + length group.now)) }
+        ensures only { IfErr result (λ e. (e ≡ DiskFault) ⊎ (e ≡ Full)) }
     {
         if group.is_empty() {
             return Ok(());

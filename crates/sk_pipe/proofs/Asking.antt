@@ -49,12 +49,12 @@ asked old w c o r stop steps comes e = record {
 
 -- ## Words of the pipe's own, and others
 
-passes_by : (P Q : Type 0) (test : Bool) → test ≡ false → MatchBool test P Q → Q
+pub passes_by : (P Q : Type 0) (test : Bool) → test ≡ false → MatchBool test P Q → Q
 passes_by P Q true e m = absurd (cc e)
 passes_by P Q false e m = m
 
 -- what isn't the pipe's own is read by the table
-others : (words : Words) (said : PipeCommand) → is_own words ≡ false → IsSaid words said → IsAsked words said
+pub others : (words : Words) (said : PipeCommand) → is_own words ≡ false → IsSaid words said → IsAsked words said
 others [] said none is = is
 others (word ∷ words) said none is =
     passes_by _ _ (is_word name.Cut word) (grind (arith, none))
@@ -80,7 +80,7 @@ number_own name meant [] c other is = cc is
 number_own name meant (text ∷ []) c other is = other is.0 is.2
 number_own name meant (text ∷ more ∷ words) c other is = cc is
 
-asks_apart : (words : Words) (c : Command) → IsSaid words (RunCommand c) → is_own words ≡ false
+pub asks_apart : (words : Words) (c : Command) → IsSaid words (RunCommand c) → is_own words ≡ false
 asks_apart [] c is = refl
 asks_apart (word ∷ words) c is = by_now (is_word name.Now word) refl is where
   by_cut : (b : Bool) → is_word name.Cut word ≡ b → MatchBool b (IsNumber name.Cut (seat_said CutSeat) words (RunCommand c)) (IsAsked (word ∷ words) (RunCommand c)) → is_word name.Now word ≡ false → is_word name.As word ≡ false → is_own (word ∷ words) ≡ false
@@ -109,7 +109,7 @@ IsOfTable (ActAs seat) = ⊥
 IsOfTable (CutSeat seat) = ⊥
 
 -- what sets or cuts is the pipe's own
-pipes_own : (words : Words) (said : PipeCommand) → IsSaid words said → (IsOfTable said → ⊥) → is_own words ≡ true
+pub pipes_own : (words : Words) (said : PipeCommand) → IsSaid words said → (IsOfTable said → ⊥) → is_own words ≡ true
 pipes_own words said is none = by_own (is_own words) refl where
   by_own : (b : Bool) → is_own words ≡ b → b ≡ true
   by_own true e = refl

@@ -1,6 +1,10 @@
 // What a pipe keeps from command to command: the store, the acting seat, and the moment that the store is handed. A command is read, and then done.
 ghost use Rattle.std.specs.Prelude.{◌≡◌, None};
+ghost use Rattle.sk_resp.specs.Request.{Command as Line};
+ghost use Rattle.sk_model.specs.Change.{moment_after};
+ghost use Rattle.sk_model.specs.Reading.{IsSaid};
 ghost use Rattle.sk_model.specs.Run.{first, is_ok, quits};
+ghost use Rattle.sk_pipe.specs.PipeCommand.{meant};
 ghost use Rattle.sk_pipe.specs.Session.{HandlesLine, stop_of, where_ok, word_of};
 
 use crate::reading::{PipeCommand, read_words};
@@ -89,9 +93,16 @@ impl Session {
     pub fn new(alloc: Global, limits: Limits) -> Self
         ensures { result ≡ first limits }
     {
+        Session::over(alloc, Core::new(alloc, limits))
+    }
+
+    /// A store, with seat 0 acting, at the moment 0. Takes no memory.
+    pub fn over(alloc: Global, store: Core) -> Self
+        ensures { result ≡ record { world = store; seat = 0; now = 0 } }
+    {
         Session {
             alloc,
-            store: Core::new(alloc, limits),
+            store,
             seat: 0,
             now: 0,
         }
@@ -99,6 +110,20 @@ impl Session {
 
     /// The session is over, and its store goes.
     pub fn close(self) {}
+
+    /// The acting seat.
+    pub fn seat(&self) -> u32
+        ensures { result ≡ self.entry.now.seat }
+    {
+        self.seat
+    }
+
+    /// The moment at which a command acts that comes now, in milliseconds since 1970.
+    pub fn acts_at(&self) -> u64
+        ensures { result ≡ moment_after self.entry.now.now self.entry.now.world }
+    {
+        self.store.acts_at(self.now)
+    }
 
     // Lets the store do the command. A QUIT or SHUTDOWN for which there was no memory ends nothing.
     fn ask(&mut self, command: Command) -> Answer
@@ -109,6 +134,28 @@ impl Session {
         let stop = where_ok(stop, &reply);
         Answer { reply, stop }
     }
+
+    /// Does what the words of a command are.
+    pub fn perform(&mut self, said: PipeCommand) -> Answer
+        ensures { (words : Line) → IsSaid words (meant said) → HandlesLine self.old words result self.new }
+    {
+        match said {
+            PipeCommand::Refused(say) => tells(say),
+            PipeCommand::SetTime(now) => {
+                self.now = now;
+                tells(Say::Ok)
+            }
+            PipeCommand::ActAs(seat) => {
+                self.seat = seat;
+                tells(Say::Ok)
+            }
+            PipeCommand::CutSeat(seat) => {
+                self.store.cut(seat);
+                tells(Say::Ok)
+            }
+            PipeCommand::RunCommand(command) => self.ask(command),
+        }
+    }
 }
 
 impl Talker for Session {
@@ -117,20 +164,7 @@ impl Talker for Session {
     /// Reads the words of a command, and does it.
     fn answer(&mut self, words: Words) -> Answer {
         match read_words(self.alloc, words) {
-            Ok(PipeCommand::Refused(say)) => tells(say),
-            Ok(PipeCommand::SetTime(now)) => {
-                self.now = now;
-                tells(Say::Ok)
-            }
-            Ok(PipeCommand::ActAs(seat)) => {
-                self.seat = seat;
-                tells(Say::Ok)
-            }
-            Ok(PipeCommand::CutSeat(seat)) => {
-                self.store.cut(seat);
-                tells(Say::Ok)
-            }
-            Ok(PipeCommand::RunCommand(command)) => self.ask(command),
+            Ok(said) => self.perform(said),
             Err(_) => tells(Say::Oom),
         }
     }

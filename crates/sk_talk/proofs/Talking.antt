@@ -1,5 +1,5 @@
 -- What comes of pieces of a stream, one after another.
-use Rattle.std.proofs.Common.{◌≡◌, ℕ, List, [], ◌∷◌, ◌++◌, Option, Some, None, refl, sym, ap, ◌∙◌, subst, append_assoc, append-nil, take, length, inl, inr, Result, Ok, Err}
+use Rattle.std.proofs.Common.{◌≡◌, ℕ, List, [], ◌∷◌, ◌++◌, true, false, Option, Some, None, refl, sym, ap, ◌∙◌, subst, append_assoc, append-nil, take, length, inl, inr, Result, Ok, Err}
 use Rattle.std.specs.Prelude.{OnOk, IfErr, map}
 use Rattle.std.proofs.lemmas.List.{map-append}
 use Rattle.std.proofs.Math.Seq.{take-append_seam}
@@ -17,9 +17,9 @@ use Rattle.sk_resp.proofs.Fewer.{opens_on, opens_fewer}
 use Rattle.sk_talk.specs.declared.talk_end.Stop.{Stop}
 use Rattle.sk_talk.specs.declared.talk_end.Stop.TheVariants as stop
 use Rattle.sk_talk.specs.declared.talk_end.TalkEnd.{TalkEnd}
-use Rattle.sk_talk.specs.declared.talk_end.TalkEnd.TheVariants.{Ended, Quit, Shutdown, Wire, Cut, ReadFault, WriteFault, Memory, Budget}
-use Rattle.sk_talk.specs.Talk.{DoesAll, AnswersAll, Refuses, Due, DueFront, IsAtEnd, Ends, Stops, refusal}
-use Rattle.sk_talk.specs.Driving.{IsWriteStop, IsPieceEnd, EndsAt, AnswersFront, Stopped, StopsAt, StopsReply, end_at}
+use Rattle.sk_talk.specs.declared.talk_end.TalkEnd.TheVariants.{Ended, Quit, Shutdown, Lost, Wire, Cut, ReadFault, WriteFault, Memory, Budget}
+use Rattle.sk_talk.specs.Talk.{DoesAll, AnswersAll, Refuses, Due, DueFront, IsAtEnd, IsHeard, Ends, LosesLast, Stops, refusal}
+use Rattle.sk_talk.specs.Driving.{IsWriteStop, IsPieceEnd, EndsAt, AnswersFront, Stopped, StopsAt, StopsReply, end_at, is_lost}
 use Rattle.sk_talk.proofs.Doing.{does_nothing, does_one, does_on}
 
 joined-append : (xs ys : List Bytes) → joined (xs ++ ys) ≡ joined xs ++ joined ys
@@ -27,24 +27,37 @@ joined-append [] ys = refl
 joined-append (x ∷ xs) ys = ap (λ z. x ++ z) (joined-append xs ys) ∙ sym (append_assoc x (joined xs) (joined ys))
 
 -- A reply that failed, in the words of a command.
-pub failed_reply : (end : TalkEnd) (ends : Option Stop) (text : Bytes) (before after : Option Bytes) → IsWriteStop end → TakesFront before text after → (sent : Bytes) × StopsReply end ends text sent × Takes before sent after
-failed_reply WriteFault ends text before after stop t = (t.0, t.1, t.2)
-failed_reply Memory ends text before after stop t = (t.0, t.1, t.2)
-failed_reply Ended ends text before after stop t = absurd stop
-failed_reply Quit ends text before after stop t = absurd stop
-failed_reply Shutdown ends text before after stop t = absurd stop
-failed_reply Wire ends text before after stop t = absurd stop
-failed_reply Cut ends text before after stop t = absurd stop
-failed_reply ReadFault ends text before after stop t = absurd stop
-failed_reply Budget ends text before after stop t = absurd stop
+heard : (ends : Option Stop) → is_lost ends ≡ false → IsHeard ends
+heard ends kept = λ lost. cc (kept, ap is_lost lost)
+
+pub failed_reply : (end : TalkEnd) (ends : Option Stop) (text : Bytes) (before after : Option Bytes) → is_lost ends ≡ false → IsWriteStop end → TakesFront before text after → (sent : Bytes) × StopsReply end ends text sent × Takes before sent after
+failed_reply WriteFault ends text before after kept stop t = (t.0, (t.1, heard ends kept), t.2)
+failed_reply Memory ends text before after kept stop t = (t.0, (t.1, heard ends kept), t.2)
+failed_reply Ended ends text before after kept stop t = absurd stop
+failed_reply Quit ends text before after kept stop t = absurd stop
+failed_reply Shutdown ends text before after kept stop t = absurd stop
+failed_reply Lost ends text before after kept stop t = absurd stop
+failed_reply Wire ends text before after kept stop t = absurd stop
+failed_reply Cut ends text before after kept stop t = absurd stop
+failed_reply ReadFault ends text before after kept stop t = absurd stop
+failed_reply Budget ends text before after kept stop t = absurd stop
 
 -- The reply to a command that stops the talk.
-stopping_reply : (ends : Stop) (text : Bytes) → StopsReply (end_at ends) (Some ends) text text
-stopping_reply stop.Quit text = (refl, refl)
-stopping_reply stop.Shutdown text = (refl, refl)
+stopping_reply : (ends : Stop) (text : Bytes) → is_lost (Some ends) ≡ false → StopsReply (end_at ends) (Some ends) text text
+stopping_reply stop.Quit text kept = (refl, refl)
+stopping_reply stop.Shutdown text kept = (refl, refl)
+stopping_reply stop.Lost text kept = absurd (cc kept)
 
-pub stopped_reply : (end : TalkEnd) (ends : Option Stop) (s : Stop) (text : Bytes) → end ≡ end_at s → ends ≡ Some s → StopsReply end ends text text
-stopped_reply end ends s text e is = subst (λ z. StopsReply z ends text text) (sym e) (subst (λ z. StopsReply (end_at s) z text text) (sym is) (stopping_reply s text))
+pub stopped_reply : (end : TalkEnd) (ends : Option Stop) (s : Stop) (text : Bytes) → is_lost ends ≡ false → end ≡ end_at s → ends ≡ Some s → StopsReply end ends text text
+stopped_reply end ends s text kept e is =
+    subst (λ z. StopsReply z ends text text) (sym e) (subst (λ z. StopsReply (end_at s) z text text) (sym is) (stopping_reply s text (sym (ap is_lost is) ∙ kept)))
+
+-- A command that lost its reply.
+pub lost_reply : (ends : Option Stop) (text : Bytes) → is_lost ends ≡ true → StopsReply Lost ends text []
+lost_reply None text lost = absurd (cc lost)
+lost_reply (Some stop.Quit) text lost = absurd (cc lost)
+lost_reply (Some stop.Shutdown) text lost = absurd (cc lost)
+lost_reply (Some stop.Lost) text lost = (refl, refl)
 
 -- the first commands of all
 first_ones : (all done rest : List Command) → all ≡ done ++ rest → done ≡ take (length done) all
@@ -98,9 +111,9 @@ module _ {S : Type 0} (does : S → Command → Reply → Option Stop → S → 
 
   -- one more command, of whose reply some was written
   front_more : (ends : Option Stop) (old mid new : S) (commands : List Command) (written front : Bytes) (words : Command) (reply : Reply) → AnswersAll (DoesAll does) None old commands mid written → does mid words reply ends new
-      → IsFront front (wire reply) → AnswersFront does old (commands ++ words ∷ []) new (written ++ front)
+      → IsFront front (wire reply) × IsHeard ends → AnswersFront does old (commands ++ words ∷ []) new (written ++ front)
   front_more ends old mid new commands written front words reply s did f =
-      (ends, (written ++ wire reply, serves_more ends old mid new commands written words reply s did, (f.0, ap (λ z. written ++ z) f.1 ∙ sym (append_assoc written front f.0))))
+      (ends, (written ++ wire reply, serves_more ends old mid new commands written words reply s did, (f.0.0, ap (λ z. written ++ z) f.0.1 ∙ sym (append_assoc written front f.0.0)), f.1))
 
   -- one more command, that stops the talk
   whole_more : (ends x : Option Stop) (old mid new : S) (commands : List Command) (written sent : Bytes) (words : Command) (reply : Reply) → AnswersAll (DoesAll does) None old commands mid written
@@ -109,11 +122,22 @@ module _ {S : Type 0} (does : S → Command → Reply → Option Stop → S → 
       subst (λ z. AnswersAll (DoesAll does) x old (commands ++ words ∷ []) new (written ++ z)) (sym sent_is)
       (serves_more x old mid new commands written words reply s (subst (λ e. does mid words reply e new) is did))
 
+  -- one more command, which lost its reply
+  lost_more : (ends : Option Stop) (old mid new : S) (commands : List Command) (written sent : Bytes) (words : Command) (reply : Reply) → AnswersAll (DoesAll does) None old commands mid written
+      → does mid words reply ends new → ends ≡ Some stop.Lost → sent ≡ [] → LosesLast (DoesAll does) old (commands ++ words ∷ []) new (written ++ sent)
+  lost_more ends old mid new commands written sent words reply s did is none = record {
+    replies = s.replies;
+    last = reply;
+    answers = does_on does old mid new commands (words ∷ []) s.replies (reply ∷ []) (Some stop.Lost) s.answers (does_one does mid new words reply (Some stop.Lost) (subst (λ e. does mid words reply e new) is did));
+    text = ap (λ z. written ++ z) none ∙ append-nil written ∙ s.text;
+  }
+
   -- one more command, at which the talk ends
   stops_more : (end : TalkEnd) (ends : Option Stop) (old mid new : S) (commands : List Command) (written sent : Bytes) (words : Command) (reply : Reply) → AnswersAll (DoesAll does) None old commands mid written
       → does mid words reply ends new → StopsReply end ends (wire reply) sent → StopsAt does end old (commands ++ words ∷ []) new (written ++ sent)
   stops_more Quit ends old mid new commands written sent words reply s did stops = whole_more ends (Some stop.Quit) old mid new commands written sent words reply s did stops.0 stops.1
   stops_more Shutdown ends old mid new commands written sent words reply s did stops = whole_more ends (Some stop.Shutdown) old mid new commands written sent words reply s did stops.0 stops.1
+  stops_more Lost ends old mid new commands written sent words reply s did stops = lost_more ends old mid new commands written sent words reply s did stops.0 stops.1
   stops_more WriteFault ends old mid new commands written sent words reply s did stops = front_more ends old mid new commands written sent words reply s did stops
   stops_more Memory ends old mid new commands written sent words reply s did stops = front_more ends old mid new commands written sent words reply s did stops
   stops_more Ended ends old mid new commands written sent words reply s did stops = absurd stops
@@ -139,7 +163,7 @@ module _ {S : Type 0} (does : S → Command → Reply → Option Stop → S → 
   due_on : (old mid new : S) (bytes piece rest : Bytes) (commands : List Command) (before whole : Bytes) → Reads bytes commands rest → AnswersAll (DoesAll does) None old commands mid before → Due (DoesAll does) mid (rest ++ piece) new whole
       → Due (DoesAll does) old (bytes ++ piece) new (before ++ whole)
   due_on old mid new bytes piece rest commands before whole reads s (inl d) =
-      inl (commands ++ d.0, (d.1.0, (d.1.1.0, opens_on bytes piece rest d.1.0 commands d.0 reads.opens d.1.1.1, serves_on d.1.1.0 old mid new commands d.0 before whole s d.1.1.2)))
+      inl (commands ++ d.0, (d.1.0, (d.1.1.0, opens_on bytes piece rest d.1.0 commands d.0 reads.opens d.1.1.1, serves_on d.1.1.0 old mid new commands d.0 before whole s d.1.1.2, d.1.1.3)))
   due_on old mid new bytes piece rest commands before whole reads s (inr d) =
       inr (commands ++ d.0, (d.1.0, faulty_on bytes piece rest commands d.0 d.1.0 reads d.1.1, refuses_on old mid new commands d.0 d.1.0 before whole s d.1.2))
 
@@ -152,11 +176,23 @@ module _ {S : Type 0} (does : S → Command → Reply → Option Stop → S → 
   stops_on ends old mid new bytes piece rest commands before written reads s q =
       (commands ++ q.0, (q.1.0, opens_on bytes piece rest q.1.0 commands q.0 reads.opens q.1.1, serves_on (Some ends) old mid new commands q.0 before written s q.1.2))
 
+  loses_on : (old mid new : S) (commands others : List Command) (before written : Bytes) → AnswersAll (DoesAll does) None old commands mid before → LosesLast (DoesAll does) mid others new written
+      → LosesLast (DoesAll does) old (commands ++ others) new (before ++ written)
+  loses_on old mid new commands others before written s l = record {
+    replies = s.replies ++ l.replies;
+    last = l.last;
+    answers = subst (λ replies. DoesAll does old (commands ++ others) replies new (Some stop.Lost)) (sym (append_assoc s.replies l.replies (l.last ∷ [])))
+        (does_on does old mid new commands others s.replies (l.replies ++ l.last ∷ []) (Some stop.Lost) s.answers l.answers);
+    text = ap (λ z. z ++ written) s.text ∙ ap (λ z. joined (map wire s.replies) ++ z) l.text ∙ sym (joined-append (map wire s.replies) (map wire l.replies)) ∙ ap joined (sym (map-append wire s.replies l.replies));
+  }
+
   -- What a piece brings to an end, for the whole stream.
   pub ends_on : (old mid new : S) (end : TalkEnd) (bytes piece rest : Bytes) (commands : List Command) (before written : Bytes) (left : Option Bytes) → IsPieceEnd end → Reads bytes commands rest → AnswersAll (DoesAll does) None old commands mid before
       → Ends (DoesAll does) mid end (rest ++ piece) left new written → Ends (DoesAll does) old end (bytes ++ piece) left new (before ++ written)
   ends_on old mid new Quit bytes piece rest commands before written left stops reads s e = stops_on stop.Quit old mid new bytes piece rest commands before written reads s e
   ends_on old mid new Shutdown bytes piece rest commands before written left stops reads s e = stops_on stop.Shutdown old mid new bytes piece rest commands before written reads s e
+  ends_on old mid new Lost bytes piece rest commands before written left stops reads s e =
+      (commands ++ e.0, (e.1.0, opens_on bytes piece rest e.1.0 commands e.0 reads.opens e.1.1, loses_on old mid new commands e.0 before written s e.1.2))
   ends_on old mid new Wire bytes piece rest commands before written left stops reads s e =
       (commands ++ e.0, (e.1.0, faulty_on bytes piece rest commands e.0 e.1.0 reads e.1.1, refuses_on old mid new commands e.0 e.1.0 before written s e.1.2))
   ends_on old mid new WriteFault bytes piece rest commands before written left stops reads s e = due_front_on old mid new bytes piece rest commands before written reads s e
@@ -173,6 +209,7 @@ module _ {S : Type 0} (does : S → Command → Reply → Option Stop → S → 
   ends_at old new Cut bytes rest commands written left at reads s none = (commands, (rest, at, reads, s, none))
   ends_at old new Quit bytes rest commands written left at reads s none = absurd at
   ends_at old new Shutdown bytes rest commands written left at reads s none = absurd at
+  ends_at old new Lost bytes rest commands written left at reads s none = absurd at
   ends_at old new Wire bytes rest commands written left at reads s none = absurd at
   ends_at old new ReadFault bytes rest commands written left at reads s none = absurd at
   ends_at old new WriteFault bytes rest commands written left at reads s none = absurd at
@@ -182,12 +219,13 @@ module _ {S : Type 0} (does : S → Command → Reply → Option Stop → S → 
   -- ## A piece
 
   due_some : (old new : S) (bytes more : Bytes) (commands : List Command) (written : Bytes) → Opens bytes commands more → AnswersFront does old commands new written → DueFront (DoesAll does) old bytes new written
-  due_some old new bytes more commands written opens s = (s.1.0, inl (commands, (more, (s.0, opens, s.1.1))), s.1.2)
+  due_some old new bytes more commands written opens s = (s.1.0, inl (commands, (more, (s.0, opens, s.1.1, s.1.3))), s.1.2)
 
   among : (old new : S) (end : TalkEnd) (bytes more : Bytes) (commands : List Command) (written : Bytes) → Opens bytes commands more → StopsAt does end old commands new written
       → IsPieceEnd end × ((left : Option Bytes) → Ends (DoesAll does) old end bytes left new written)
   among old new Quit bytes more commands written opens stops = (tt, λ left. (commands, (more, opens, stops)))
   among old new Shutdown bytes more commands written opens stops = (tt, λ left. (commands, (more, opens, stops)))
+  among old new Lost bytes more commands written opens stops = (tt, λ left. (commands, (more, opens, stops)))
   among old new WriteFault bytes more commands written opens stops = (tt, λ left. due_some old new bytes more commands written opens stops)
   among old new Memory bytes more commands written opens stops = (tt, λ left. due_some old new bytes more commands written opens stops)
   among old new Ended bytes more commands written opens stops = absurd stops
@@ -211,7 +249,7 @@ module _ {S : Type 0} (does : S → Command → Reply → Option Stop → S → 
         (
           served,
           subst (λ z. Takes first z last) (append-nil served) (takes_more first served mid [] last took m.2),
-          λ left. (served, inl (commands, (stops.rest, (None, stops.opens, s))), ([], sym (append-nil served))),
+          λ left. (served, inl (commands, (stops.rest, (None, stops.opens, s, λ lost. cc lost))), ([], sym (append-nil served))),
         ),
       )
   ends_fault old new fault Wire bytes commands first mid last served stops s took (inr m) = (
@@ -241,6 +279,7 @@ module _ {S : Type 0} (does : S → Command → Reply → Option Stop → S → 
   ends_fault old new fault Ended bytes commands first mid last served stops s took (inr m) = absurd m.1
   ends_fault old new fault Quit bytes commands first mid last served stops s took (inr m) = absurd m.1
   ends_fault old new fault Shutdown bytes commands first mid last served stops s took (inr m) = absurd m.1
+  ends_fault old new fault Lost bytes commands first mid last served stops s took (inr m) = absurd m.1
   ends_fault old new fault Cut bytes commands first mid last served stops s took (inr m) = absurd m.1
   ends_fault old new fault ReadFault bytes commands first mid last served stops s took (inr m) = absurd m.1
   ends_fault old new fault Budget bytes commands first mid last served stops s took (inr m) = absurd m.1

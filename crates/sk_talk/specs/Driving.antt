@@ -1,5 +1,5 @@
 -- What the parts of a talk do to the sink. No public contract speaks of it.
-use Rattle.std.specs.Prelude.{◌≡◌, ◌≢◌, ◌⊎◌, [], ◌∷◌, List, Option, Some, None, Result, OnOk, IfErr}
+use Rattle.std.specs.Prelude.{◌≡◌, ◌≢◌, ◌⊎◌, [], ◌∷◌, List, Bool, true, false, Option, Some, None, Result, OnOk, IfErr}
 use Rattle.sk_base.specs.Outside.{Takes, TakesFront, IsFront}
 use Rattle.sk_resp.specs.Spelling.{Bytes}
 use Rattle.sk_resp.specs.Request.{Command}
@@ -8,8 +8,8 @@ use Rattle.sk_resp.specs.declared.wire_fault.WireFault.TheVariants as wire_fault
 use Rattle.sk_talk.specs.declared.talk_end.Stop.{Stop}
 use Rattle.sk_talk.specs.declared.talk_end.Stop.TheVariants as stop
 use Rattle.sk_talk.specs.declared.talk_end.TalkEnd.{TalkEnd}
-use Rattle.sk_talk.specs.declared.talk_end.TalkEnd.TheVariants.{Ended, Quit, Shutdown, Wire, Cut, ReadFault, WriteFault, Memory, Budget}
-use Rattle.sk_talk.specs.Talk.{DoesAll, AnswersAll, refusal}
+use Rattle.sk_talk.specs.declared.talk_end.TalkEnd.TheVariants.{Ended, Quit, Shutdown, Lost, Wire, Cut, ReadFault, WriteFault, Memory, Budget}
+use Rattle.sk_talk.specs.Talk.{DoesAll, AnswersAll, IsHeard, LosesLast, refusal}
 use Rattle.sk_resp.specs.Reply.{wire}
 use Rattle.sk_resp.specs.declared.reply.Reply.{Reply}
 
@@ -25,13 +25,19 @@ IsWriteStop _ = ⊥
 abbrev pub end_at : Stop → TalkEnd
 end_at stop.Quit = Quit
 end_at stop.Shutdown = Shutdown
+end_at stop.Lost = Lost
+
+abbrev pub is_lost : Option Stop → Bool
+is_lost (Some stop.Lost) = true
+is_lost other = false
 
 -- The talk ends so at a command: its reply was sent whole, and it stops the talk; or the reply failed, and some of it was sent.
 abbrev pub StopsReply : TalkEnd → Option Stop → Bytes → Bytes → Type 0
 StopsReply Quit ends text sent = (ends ≡ Some stop.Quit) × (sent ≡ text)
 StopsReply Shutdown ends text sent = (ends ≡ Some stop.Shutdown) × (sent ≡ text)
-StopsReply WriteFault ends text sent = IsFront sent text
-StopsReply Memory ends text sent = IsFront sent text
+StopsReply Lost ends text sent = (ends ≡ Some stop.Lost) × (sent ≡ [])
+StopsReply WriteFault ends text sent = IsFront sent text × IsHeard ends
+StopsReply Memory ends text sent = IsFront sent text × IsHeard ends
 StopsReply _ ends text sent = ⊥
 
 -- The command was done, and its reply was sent, or some of it.
@@ -46,12 +52,13 @@ pub record Answered {S : Type 0} (does : S → Command → Reply → Option Stop
 
 -- some of the replies to the commands, from their front
 abbrev pub AnswersFront : {S : Type 0} → (does : S → Command → Reply → Option Stop → S → Type 0) → S → List Command → S → Bytes → Type 0
-AnswersFront does old commands new written = (ends : Option Stop) × ((whole : Bytes) × AnswersAll (DoesAll does) ends old commands new whole × IsFront written whole)
+AnswersFront does old commands new written = (ends : Option Stop) × ((whole : Bytes) × AnswersAll (DoesAll does) ends old commands new whole × IsFront written whole × IsHeard ends)
 
 -- The talk ends so at the last of the commands: it stops the talk, or its reply failed.
 abbrev pub StopsAt : {S : Type 0} → (does : S → Command → Reply → Option Stop → S → Type 0) → TalkEnd → S → List Command → S → Bytes → Type 0
 StopsAt does Quit old commands new written = AnswersAll (DoesAll does) (Some stop.Quit) old commands new written
 StopsAt does Shutdown old commands new written = AnswersAll (DoesAll does) (Some stop.Shutdown) old commands new written
+StopsAt does Lost old commands new written = LosesLast (DoesAll does) old commands new written
 StopsAt does WriteFault old commands new written = AnswersFront does old commands new written
 StopsAt does Memory old commands new written = AnswersFront does old commands new written
 StopsAt does _ old commands new written = ⊥
@@ -62,6 +69,7 @@ StopsAt does _ old commands new written = ⊥
 abbrev pub IsPieceEnd : TalkEnd → Type 0
 IsPieceEnd Quit = Unit {0}
 IsPieceEnd Shutdown = Unit {0}
+IsPieceEnd Lost = Unit {0}
 IsPieceEnd Wire = Unit {0}
 IsPieceEnd WriteFault = Unit {0}
 IsPieceEnd Memory = Unit {0}

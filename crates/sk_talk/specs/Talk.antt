@@ -13,7 +13,7 @@ use Rattle.sk_resp.specs.declared.reply.Reply.TheVariants as reply
 use Rattle.sk_talk.specs.declared.talk_end.Stop.{Stop}
 use Rattle.sk_talk.specs.declared.talk_end.Stop.TheVariants as stop
 use Rattle.sk_talk.specs.declared.talk_end.TalkEnd.{TalkEnd}
-use Rattle.sk_talk.specs.declared.talk_end.TalkEnd.TheVariants.{Ended, Quit, Shutdown, Wire, Cut, ReadFault, WriteFault, Memory, Budget}
+use Rattle.sk_talk.specs.declared.talk_end.TalkEnd.TheVariants.{Ended, Quit, Shutdown, Lost, Wire, Cut, ReadFault, WriteFault, Memory, Budget}
 
 -- ## Commands
 
@@ -41,9 +41,13 @@ refusal fault = wire (reply.Say (say.Protocol fault))
 abbrev pub Refuses : {S : Type 0} → (Answers : S → List Command → List Reply → S → Option Stop → Type 0) → S → List Command → WireFault → S → Bytes → Type 0
 Refuses Answers old commands fault new written = (served : Bytes) × AnswersAll Answers None old commands new served × (written ≡ served ++ refusal fault)
 
+-- The reply is to be written.
+abbrev pub IsHeard : Option Stop → Type 0
+IsHeard ends = ends ≢ Some stop.Lost
+
 -- What is due for the first commands of the bytes, the last of which may stop the talk, or for all of them and the fault behind them.
 abbrev pub Due : {S : Type 0} → (Answers : S → List Command → List Reply → S → Option Stop → Type 0) → S → Bytes → S → Bytes → Type 0
-Due Answers old bytes new whole = ((commands : List Command) × ((rest : Bytes) × ((ends : Option Stop) × Opens bytes commands rest × AnswersAll Answers ends old commands new whole)))
+Due Answers old bytes new whole = ((commands : List Command) × ((rest : Bytes) × ((ends : Option Stop) × Opens bytes commands rest × AnswersAll Answers ends old commands new whole × IsHeard ends)))
     ⊎ ((commands : List Command) × ((fault : WireFault) × Faulty bytes commands fault × Refuses Answers old commands fault new whole))
 
 abbrev pub DueFront : {S : Type 0} → (Answers : S → List Command → List Reply → S → Option Stop → Type 0) → S → Bytes → S → Bytes → Type 0
@@ -59,6 +63,17 @@ IsAtEnd left = IfSome left (λ bytes. bytes ≡ [])
 abbrev pub Stops : {S : Type 0} → (Answers : S → List Command → List Reply → S → Option Stop → Type 0) → S → Stop → Bytes → S → Bytes → Type 0
 Stops Answers old ends bytes new written = (commands : List Command) × ((rest : Bytes) × Opens bytes commands rest × AnswersAll Answers (Some ends) old commands new written)
 
+-- These are the replies to the commands but the last, which lost its reply, and stopped the talk.
+pub record LosesLast {S : Type 0} (Answers : S → List Command → List Reply → S → Option Stop → Type 0) (old : S) (commands : List Command) (new : S) (written : Bytes) : Type 0 where
+  pub replies : List Reply
+  pub last : Reply
+  pub answers : Answers old commands (replies ++ last ∷ []) new (Some stop.Lost)
+  pub text : written ≡ joined (map wire replies)
+
+-- The bytes begin with commands, the last of which lost its reply, whatever follows it.
+abbrev pub Loses : {S : Type 0} → (Answers : S → List Command → List Reply → S → Option Stop → Type 0) → S → Bytes → S → Bytes → Type 0
+Loses Answers old bytes new written = (commands : List Command) × ((rest : Bytes) × Opens bytes commands rest × LosesLast Answers old commands new written)
+
 -- The budget of bytes is spent, with the piece that was last: 2^40 bytes, and less than 65,536 more.
 abbrev pub IsSpent : ℕ → Type 0
 IsSpent count = (LONGEST_TALK ≤ count) × (count < LONGEST_TALK + PIECE)
@@ -69,6 +84,7 @@ abbrev pub Ends : {S : Type 0} → (Answers : S → List Command → List Reply 
 Ends Answers old Ended bytes left new written = (commands : List Command) × Reads bytes commands [] × AnswersAll Answers None old commands new written × IsAtEnd left
 Ends Answers old Quit bytes left new written = Stops Answers old stop.Quit bytes new written
 Ends Answers old Shutdown bytes left new written = Stops Answers old stop.Shutdown bytes new written
+Ends Answers old Lost bytes left new written = Loses Answers old bytes new written
 Ends Answers old Cut bytes left new written = (commands : List Command) × ((rest : Bytes) × (rest ≢ []) × Reads bytes commands rest × AnswersAll Answers None old commands new written × IsAtEnd left)
 Ends Answers old Wire bytes left new written = (commands : List Command) × ((fault : WireFault) × Faulty bytes commands fault × Refuses Answers old commands fault new written)
 Ends Answers old ReadFault bytes left new written = (commands : List Command) × ((rest : Bytes) × Reads bytes commands rest × AnswersAll Answers None old commands new written)

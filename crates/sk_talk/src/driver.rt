@@ -7,7 +7,7 @@ ghost use Rattle.sk_resp.specs.Request.{Command};
 ghost use Rattle.sk_resp.specs.Stream.{Reads};
 ghost use Rattle.sk_resp.specs.Reply.{wire};
 ghost use Rattle.sk_talk.specs.Talk.{DoesAll, AnswersAll, Ends, IsAtEnd, Moves, refusal};
-ghost use Rattle.sk_talk.specs.Driving.{Answered, IsWriteStop, IsPieceEnd, EndsAt, Sends, Stopped, StopsAt, end_at};
+ghost use Rattle.sk_talk.specs.Driving.{Answered, IsWriteStop, IsPieceEnd, EndsAt, Sends, Stopped, StopsAt, end_at, is_lost};
 
 use crate::{Stop, TalkEnd, Talker};
 use sk_base::limits::{LONGEST_TALK, PIECE};
@@ -44,10 +44,17 @@ fn end_at(stop: Stop) -> TalkEnd
     match stop {
         Stop::Quit => TalkEnd::Quit,
         Stop::Shutdown => TalkEnd::Shutdown,
+        Stop::Lost => TalkEnd::Lost,
     }
 }
 
-// Does a command, and writes its reply. After the reply to one that stops the talk it has ended.
+fn is_lost(stop: Option<Stop>) -> bool
+    ensures { result ≡ is_lost stop }
+{
+    matches!(stop, Some(Stop::Lost))
+}
+
+// Does a command, and writes its reply. After the reply to one that stops the talk it has ended, and before one that isn't to be written.
 fn answer<T: Talker, K: Sink>(
     alloc: Global,
     talker: &mut T,
@@ -61,6 +68,9 @@ fn answer<T: Talker, K: Sink>(
     ensures write { result ≡ Err TalkEnd.WriteFault → Rose (K.write_faults sink.old) (K.write_faults sink.new) }
 {
     let answer = talker.answer(words);
+    if is_lost(answer.stop) {
+        return Err(TalkEnd::Lost);
+    }
     match send(alloc, &answer.reply, text, sink) {
         Ok(()) => {}
         Err(end) => return Err(end),
