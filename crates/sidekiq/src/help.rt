@@ -1,5 +1,6 @@
 // What people ask of the program itself: its help, that of one of its commands, and its version. The top call refuses such words.
 use crate::notice::USAGE;
+use crate::relay_line::RELAY_HELP;
 use sk_line::help_of;
 use std::alloc::{AllocError, Global};
 
@@ -24,9 +25,12 @@ fn ask_help(words: &[String]) -> bool {
 
 /// The help of the command that the words begin with, or of the program, where there is no such command.
 fn help_for(alloc: Global, words: &[String]) -> Result<String, AllocError> {
-    match help_of(alloc, words)? {
-        Some(text) => Ok(text),
-        None => String::from_str(alloc, USAGE),
+    match (help_of(alloc, words)?, words) {
+        (Some(text), [name, ..]) if name.as_str() == "work" => {
+            format!(in alloc; "{text}\n{RELAY_HELP}")
+        }
+        (Some(text), _) => Ok(text),
+        (None, _) => String::from_str(alloc, USAGE),
     }
 }
 

@@ -1,11 +1,13 @@
 // What the program tells people on standard error: what it is about to do, and why it ended, where its output doesn't say so.
+use sk_launcher::{Address, WorkSettings};
 use sk_line::{
-    Address, DrillLine, ServeLine, WorkLine, help_of, read_drill, read_iterate, read_limit,
+    DrillLine, LogLine, ServeLine, help_of, read_drill, read_iterate, read_limit, read_log,
     read_push, read_serve, read_status, read_work,
 };
 use sk_policy::QueueOrder;
 use std::alloc::{AllocError, Global};
 use std::io;
+use std::io::ErrorKind;
 use std::net::ToSocketAddrs;
 
 /// What is told where the words begin with no program's name.
@@ -26,10 +28,12 @@ pub const USAGE: &str =
 #[derive(Drop)]
 pub enum Notice {
     Serve(ServeLine),
-    Work(WorkLine),
+    Work(WorkSettings),
     /// `push`, `status`, `limit` or `iterate`, of this store.
     Ask(Address),
     Drill(DrillLine),
+    /// `pipe --log`.
+    Log(LogLine),
     /// Other words, and words that are refused.
     Other,
 }
@@ -56,14 +60,14 @@ fn serving(rt: &HostRuntime, line: &ServeLine) -> io::Result<()> {
     )
 }
 
-fn working(rt: &HostRuntime, line: &WorkLine) -> io::Result<()> {
+fn working(rt: &HostRuntime, settings: &WorkSettings) -> io::Result<()> {
     eprintln!(rt;
         "sidekiq: working as {} for {}:{}, {} workers, queues {}",
-        line.ident.text(),
-        line.address.host.text(),
-        line.address.port,
-        line.threads,
-        names(rt.alloc(), &line.order)?
+        settings.ident.text(),
+        settings.address.host.text(),
+        settings.address.port,
+        settings.threads,
+        names(rt.alloc(), &settings.order)?
     )?;
     eprintln!(rt;
         "sidekiq: what it holds when it dies is given back by another's poller, a minute later"
@@ -92,6 +96,18 @@ fn unserved(rt: &HostRuntime, line: &ServeLine, cause: Option<&io::Error>) -> io
             line.port, line.loops
         ),
         None => eprintln!(rt; "sidekiq: the server at port {} has failed", line.port),
+    }
+}
+
+// Why the file couldn't be opened, or what was of it afterwards.
+fn unkept(rt: &HostRuntime, line: &LogLine, cause: Option<&io::Error>) -> io::Result<()> {
+    let file = line.path.text();
+    match cause {
+        Some(error) if error.kind() == ErrorKind::WouldBlock => {
+            eprintln!(rt; "sidekiq: can't open {file}: another process has it open")
+        }
+        Some(error) => eprintln!(rt; "sidekiq: can't open {file}: {error}"),
+        None => eprintln!(rt; "sidekiq: {file} can't be read or written any more"),
     }
 }
 
@@ -128,7 +144,7 @@ impl Notice {
                 Err(_) => Notice::Other,
             },
             "work" => match read_work(alloc, words, teams) {
-                Ok(line) => Notice::Work(line),
+                Ok(settings) => Notice::Work(settings),
                 Err(_) => Notice::Other,
             },
             "push" => match read_push(alloc, words) {
@@ -151,6 +167,10 @@ impl Notice {
                 Ok(line) => Notice::Drill(line),
                 Err(_) => Notice::Other,
             },
+            "pipe" => match read_log(alloc, words) {
+                Ok(line) => Notice::Log(line),
+                Err(_) => Notice::Other,
+            },
             _ => Notice::Other,
         }
     }
@@ -161,10 +181,10 @@ impl Notice {
             // a loop each
             Notice::Serve(line) => Some((line.loops as usize).saturating_sub(1)),
             // the poller, and a worker each
-            Notice::Work(line) => Some(line.threads as usize),
+            Notice::Work(settings) => Some(settings.threads as usize),
             // who pushes, the poller, and a worker each
             Notice::Drill(line) => Some((line.workers as usize).saturating_add(1)),
-            Notice::Ask(_) | Notice::Other => None,
+            Notice::Ask(_) | Notice::Log(_) | Notice::Other => None,
         }
     }
 
@@ -175,16 +195,20 @@ impl Notice {
         )
     }
 
-    /// Tells what a server or workers are about to do.
+    /// Tells what a server or workers are about to do, and what a pipe with a file does.
     pub fn before(&self, rt: &HostRuntime) -> io::Result<()> {
         match self {
             Notice::Serve(line) => serving(rt, line),
-            Notice::Work(line) => working(rt, line),
+            Notice::Work(settings) => working(rt, settings),
+            Notice::Log(line) => eprintln!(rt;
+                "sidekiq: the store is kept in {}; each reply is written after what it tells is on the disk",
+                line.path.text()
+            ),
             Notice::Ask(_) | Notice::Drill(_) | Notice::Other => Ok(()),
         }
     }
 
-    /// Tells why the program ended so, with this last error of its door.
+    /// Tells why the program ended so, with the last error of its door or of its shelf.
     pub fn after(
         &self,
         rt: &HostRuntime,
@@ -196,8 +220,16 @@ impl Notice {
             (2, _) => refused(rt, words),
             (5, _) => eprintln!(rt; "sidekiq: out of memory"),
             (6, Notice::Serve(line)) => unserved(rt, line, cause),
-            (6, Notice::Work(line)) => unreachable(rt, &line.address),
+            (6, Notice::Work(settings)) => unreachable(rt, &settings.address),
             (6, Notice::Ask(address)) => unreachable(rt, address),
+            (10, Notice::Log(line)) => unkept(rt, line, cause),
+            (11, Notice::Log(line)) => eprintln!(rt;
+                "sidekiq: {} is not a log, or is damaged; nothing was written to it",
+                line.path.text()
+            ),
+            (12, Notice::Log(line)) => {
+                eprintln!(rt; "sidekiq: {} is full (2^50 bytes)", line.path.text())
+            }
             (0, Notice::Serve(_)) => eprintln!(rt; "sidekiq: the server has ended"),
             (0, Notice::Work(_)) => eprintln!(rt; "sidekiq: each worker has taken its turns"),
             _ => Ok(()),

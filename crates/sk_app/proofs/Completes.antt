@@ -1,16 +1,16 @@
 -- That a program whose words are a line of it is done to its end, where nothing hinders it.
-use Rattle.std.proofs.Common.{◌≡◌, ◌≢◌, ◌⊎◌, inl, inr, ◌-◌, ℕ, true, false, List, Option, Result, Ok, Err, refl, sym, subst, ◌∙◌}
+use Rattle.std.proofs.Common.{◌≡◌, ◌≢◌, ◌⊎◌, inl, inr, ℕ, List, Option, Result, Ok, Err, refl, subst}
 use Rattle.clap.specs.Words.{Text}
 use Rattle.sk_launcher.specs.declared.counts.Counts.{Counts}
 use Rattle.sk_launcher.specs.declared.launch_fault.LaunchFault.{LaunchFault}
 use Rattle.sk_launcher.specs.declared.launch_fault.LaunchFault.TheVariants as launch
+use Rattle.sk_launcher.specs.declared.work_settings.WorkSettings.{WorkSettings}
 use Rattle.sk_line.specs.Lines.{IsServe}
 use Rattle.sk_line.specs.Soak as line
 use Rattle.sk_line.specs.Work.{IsWork}
 use Rattle.sk_line.specs.declared.serve_line.ServeLine.{ServeLine}
 use Rattle.sk_line.specs.declared.soak_line.SoakLine.{SoakLine}
 use Rattle.sk_line.specs.declared.status_line.StatusLine.{StatusLine}
-use Rattle.sk_line.specs.declared.work_line.WorkLine.{WorkLine}
 use Rattle.sk_link.specs.Call.{Call}
 use Rattle.sk_link.specs.Wire.{WireState}
 use Rattle.sk_link.specs.declared.link.LinkFault.TheVariants as link
@@ -20,7 +20,7 @@ use Rattle.sk_resp.specs.Spelling.{Bytes}
 use Rattle.sk_serve.specs.declared.serve_end.ServeEnd.{ServeEnd}
 use Rattle.sk_serve.specs.declared.serve_end.ServeEnd.TheVariants as end
 use Rattle.sk_app.specs.Completing.{DoneOr, IsBroken, ServeHindered, WorkHindered, closed, spoilt}
-use Rattle.sk_app.specs.Hindering.{FailsOver, Hinders, IsHindered}
+use Rattle.sk_app.specs.Hindering.{FailsOver, IsHindered}
 use Rattle.sk_compare.specs.declared.difference.Difference.{Difference}
 use Rattle.sk_drill.specs.declared.drill_end.DrillEnd.{DrillEnd}
 use Rattle.sk_drill.specs.declared.drill_end.DrillEnd.TheVariants as drill_end
@@ -184,7 +184,7 @@ module _ {Conn : Type 0} (before after : DoorTells Conn) (Carries : WireState Co
 
 -- ## work
 
-work_ended : (teams : ℕ) (words : List Text) (Launches : WorkLine → Result Counts LaunchFault → Type 0) (asked : WorkLine) (how : Result Counts LaunchFault)
+work_ended : (teams : ℕ) (words : List Text) (Launches : WorkSettings → Result Counts LaunchFault → Type 0) (asked : WorkSettings) (how : Result Counts LaunchFault)
     (outcome : Result Bytes Failure) → IsWork teams words asked → Launches asked how → outcome ≡ working.outcome_of how → IsHindered outcome → WorkHindered teams words Launches
 work_ended teams words Launches asked (Ok counts) outcome line launches is hindered = absurd (subst IsHindered is hindered)
 work_ended teams words Launches asked (Err launch.Memory) outcome line launches is hindered = absurd (subst IsHindered is hindered)
@@ -193,26 +193,26 @@ work_ended teams words Launches asked (Err (launch.Link f)) outcome line launche
 work_ended teams words Launches asked (Err (launch.Refused r)) outcome line launches is hindered = (asked, line, launch.Refused r, (λ e. absurd (cc e)), launches)
 work_ended teams words Launches asked (Err launch.GenLimit) outcome line launches is hindered = (asked, line, launch.GenLimit, (λ e. absurd (cc e)), launches)
 
-worked : (teams : ℕ) (words : List Text) (Launches : WorkLine → Result Counts LaunchFault → Type 0) (asked : WorkLine) (how : Result Counts LaunchFault)
+worked : (teams : ℕ) (words : List Text) (Launches : WorkSettings → Result Counts LaunchFault → Type 0) (asked : WorkSettings) (how : Result Counts LaunchFault)
     (outcome : Result Bytes Failure) → IsWork teams words asked → Launches asked how → working.IsOutcome how outcome → IsHindered outcome → WorkHindered teams words Launches
 worked teams words Launches asked how outcome line launches (inl is) hindered = work_ended teams words Launches asked how outcome line launches is hindered
 worked teams words Launches asked how outcome line launches (inr starved) hindered = absurd (subst IsHindered starved hindered)
 
-work_ran : (teams : ℕ) (words : List Text) (Untouched : Type 0) (Launches : WorkLine → Result Counts LaunchFault → Type 0) (asked : WorkLine) (outcome : Result Bytes Failure) →
+work_ran : (teams : ℕ) (words : List Text) (Untouched : Type 0) (Launches : WorkSettings → Result Counts LaunchFault → Type 0) (asked : WorkSettings) (outcome : Result Bytes Failure) →
     IsWork teams words asked → WorkRun teams words Untouched Launches outcome → IsHindered outcome → WorkHindered teams words Launches
 work_ran teams words Untouched Launches asked outcome is (working.refused none untouched) hindered = absurd (none asked is)
 work_ran teams words Untouched Launches asked outcome is working.starved hindered = absurd hindered
 work_ran teams words Untouched Launches asked outcome is (working.worked asked0 how outcome0 is0 launches comes) hindered =
     worked teams words Launches asked0 how outcome is0 launches comes hindered
 
-pub work_completes : (teams : ℕ) (words : List Text) (Untouched : Type 0) (Launches : WorkLine → Result Counts LaunchFault → Type 0) (asked : WorkLine) (outcome : Result Bytes Failure)
+pub work_completes : (teams : ℕ) (words : List Text) (Untouched : Type 0) (Launches : WorkSettings → Result Counts LaunchFault → Type 0) (asked : WorkSettings) (outcome : Result Bytes Failure)
     (status : ℕ) (taken taken' : Option Bytes) → IsWork teams words asked → WorkRun teams words Untouched Launches outcome → Concludes outcome status taken taken' → status ≢ 4 →
     DoneOr (WorkHindered teams words Launches) status
 work_completes teams words Untouched Launches asked outcome status taken taken' is came told whole =
     or_else (IsHindered outcome) (WorkHindered teams words Launches) status (concluded outcome status taken taken' told whole) (work_ran teams words Untouched Launches asked outcome is came)
 
 -- a launcher that did it with these rules did it with some
-pub with_some : {Rules : Type 0} (teams : ℕ) (words : List Text) (Launches : Rules → WorkLine → Result Counts LaunchFault → Type 0) (rules : Rules) (status : ℕ) →
+pub with_some : {Rules : Type 0} (teams : ℕ) (words : List Text) (Launches : Rules → WorkSettings → Result Counts LaunchFault → Type 0) (rules : Rules) (status : ℕ) →
     DoneOr (WorkHindered teams words (Launches rules)) status → DoneOr (WorkHindered teams words (λ line how. (rs : Rules) × Launches rs line how)) status
 with_some teams words Launches rules status (inl done) = inl done
 with_some teams words Launches rules status (inr (inl starved)) = inr (inl starved)

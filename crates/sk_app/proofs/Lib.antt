@@ -10,3 +10,6 @@ pub mod Spoilt
 pub mod Completes
 pub mod Tokens
 pub mod LimitRuns
+pub mod LogStatuses
+pub mod LogRuns
+pub mod LogDone

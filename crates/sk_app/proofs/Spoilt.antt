@@ -1,5 +1,5 @@
 -- Questions that came to a failure which is no want of memory.
-use Rattle.std.proofs.Common.{◌≡◌, ◌≢◌, true, List, [], ◌∷◌, Result, Ok, Err, subst, sym, ◌∙◌}
+use Rattle.std.proofs.Common.{◌≡◌, ◌≢◌, true, List, Result, Ok, Err, subst, sym, ◌∙◌}
 use Rattle.std.proofs.lemmas.Bool.{true≢false}
 use Rattle.sk_client.specs.declared.client_fault.ClientFault.{ClientFault}
 use Rattle.sk_client.specs.declared.client_fault.ClientFault.TheVariants as client

@@ -6,18 +6,18 @@ use Rattle.clap.specs.Words.{Text}
 use Rattle.sk_resp.specs.Spelling.{Bytes}
 use Rattle.sk_launcher.specs.declared.counts.Counts.{Counts}
 use Rattle.sk_launcher.specs.declared.launch_fault.LaunchFault.{LaunchFault}
+use Rattle.sk_launcher.specs.declared.work_settings.WorkSettings.{WorkSettings}
 use Rattle.sk_line.specs.Lines.{Reads}
 use Rattle.sk_line.specs.Work.{IsLoop, IsWork}
 use Rattle.sk_line.specs.declared.fault.LineFault.{LineFault}
 use Rattle.sk_line.specs.declared.fault.LineFault.TheVariants as line
-use Rattle.sk_line.specs.declared.work_line.WorkLine.{WorkLine}
 use Rattle.sk_poller.specs.Loop.{is_loop}
 use Rattle.sk_poller.specs.declared.poller.Loop.{Loop}
 use Rattle.sk_app.specs.Failures.{by_line}
 use Rattle.sk_app.specs.Working.{WorkRun, refused, starved}
 use Rattle.sk_app.specs.declared.failure.Failure.{Failure}
 
-pub no_line : (teams : ℕ) (words : List Text) (Untouched : Type 0) (Launches : WorkLine → Result Counts LaunchFault → Type 0) (count : ℕ) → count ≡ teams →
+pub no_line : (teams : ℕ) (words : List Text) (Untouched : Type 0) (Launches : WorkSettings → Result Counts LaunchFault → Type 0) (count : ℕ) → count ≡ teams →
     (f : LineFault) (r : Result Bytes Failure) → IsErrAnd r (λ e. e ≡ by_line f) → Reads (IsWork count words) (Err f) → Untouched →
     WorkRun teams words Untouched Launches r
 no_line teams words Untouched Launches count same f (Ok output) h none untouched = absurd h

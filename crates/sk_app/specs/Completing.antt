@@ -8,10 +8,10 @@ use Rattle.sk_edge.specs.declared.door.Door as a_door
 use Rattle.sk_launcher.specs.declared.counts.Counts.{Counts}
 use Rattle.sk_launcher.specs.declared.launch_fault.LaunchFault.{LaunchFault}
 use Rattle.sk_launcher.specs.declared.launch_fault.LaunchFault.TheVariants as launch
+use Rattle.sk_launcher.specs.declared.work_settings.WorkSettings.{WorkSettings}
 use Rattle.sk_line.specs.Lines.{IsServe}
 use Rattle.sk_line.specs.Work.{IsWork}
 use Rattle.sk_line.specs.declared.serve_line.ServeLine.{ServeLine}
-use Rattle.sk_line.specs.declared.work_line.WorkLine.{WorkLine}
 use Rattle.sk_link.specs.Call.{Call}
 use Rattle.sk_link.specs.Wire.{WireCarries, WireState}
 use Rattle.sk_serve.specs.declared.serve_end.ServeEnd.{ServeEnd}
@@ -48,5 +48,6 @@ abbrev pub PushHindered : {N Conn Ear : Type 0} → a_door.Ghosts N Conn Ear →
 PushHindered OfDoor OfSource OfSink net net_after = (job : PushJob) × Breaks OfDoor OfSource OfSink net net_after (IsPushSpoilt job)
 
 -- A launcher met a fault that is no want of memory.
-abbrev pub WorkHindered : ℕ → List Text → (WorkLine → Result Counts LaunchFault → Type 0) → Type 0
-WorkHindered teams words Launches = (line : WorkLine) × IsWork teams words line × (f : LaunchFault) × (f ≢ launch.Memory) × Launches line (Err f)
+abbrev pub WorkHindered : ℕ → List Text → (WorkSettings → Result Counts LaunchFault → Type 0) → Type 0
+WorkHindered teams words Launches = (settings : WorkSettings) × IsWork teams words settings × (f : LaunchFault) × (f ≢ launch.Memory)
+    × Launches settings (Err f)

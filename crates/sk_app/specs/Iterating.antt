@@ -1,5 +1,5 @@
 -- The program `iterate`.
-use Rattle.std.specs.Prelude.{◌≡◌, ◌≤◌, ◌++◌, ℕ, List, [], ◌∷◌, None, Result, Ok, Err, codes, true}
+use Rattle.std.specs.Prelude.{◌≡◌, ◌≤◌, ◌++◌, ℕ, List, [], None, Result, Ok, Err, codes, true}
 use Rattle.std.specs.Fmt.{decimal}
 use Rattle.sk_base.specs.Name.{is_name}
 use Rattle.sk_base.specs.declared.limits.TheConstants.{LONGEST_ID}
@@ -13,7 +13,7 @@ use Rattle.sk_iter.specs.declared.iteration.Iteration.{Iteration}
 use Rattle.sk_line.specs.declared.iterate_line.IterateLine.{IterateLine}
 use Rattle.sk_line.specs.declared.iterate_line.TheConstants.{MOST_EVERY, MOST_ITERATED}
 use Rattle.sk_link.specs.Call.{Call}
-use Rattle.sk_resp.specs.Spelling.{Bytes, lf}
+use Rattle.sk_resp.specs.Spelling.{Bytes}
 use Rattle.sk_resp.specs.declared.reply.Reply.{Reply}
 use Rattle.sk_resp.specs.declared.reply.Reply.TheVariants as reply
 use Rattle.sk_app.specs.Ending.{ended}

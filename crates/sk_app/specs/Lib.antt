@@ -16,6 +16,8 @@ pub mod Serving
 pub mod Soaking
 pub mod Drilling
 pub mod Programs
+pub mod LogOutcomes
+pub mod Logging
 pub mod Working
 pub mod Completing
 pub mod Promises

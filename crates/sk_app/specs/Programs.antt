@@ -3,7 +3,7 @@ use Rattle.std.specs.Prelude.{List, [], ◌∷◌, Option, Some, None, codes, co
 use Rattle.std.specs.Str.{bytes_eq}
 use Rattle.sk_resp.specs.Spelling.{Bytes}
 use Rattle.sk_app.specs.declared.program.Program.{Program}
-use Rattle.sk_app.specs.declared.program.Program.TheVariants.{Serve, Work, Push, Status, Soak, Drill, Limit, Iterate}
+use Rattle.sk_app.specs.declared.program.Program.TheVariants.{Serve, Work, Push, Status, Soak, Drill, Limit, Iterate, LogPipe}
 
 abbrev pub named : Bytes → Option Program
 named name = cond (bytes_eq name (codes "serve")) (Some Serve)
@@ -15,7 +15,8 @@ named name = cond (bytes_eq name (codes "serve")) (Some Serve)
     (cond (bytes_eq name (codes "limit")) (Some Limit)
     (cond (bytes_eq name (codes "iterate")) (Some Iterate) None)))))))
 
--- the first word names it
+-- The first word names it. `pipe` does where it isn't alone.
 abbrev pub program_of : List Bytes → Option Program
 program_of [] = None
-program_of (name ∷ words) = named name
+program_of (name ∷ []) = named name
+program_of (name ∷ word ∷ words) = cond (bytes_eq name (codes "pipe")) (Some LogPipe) (named name)

@@ -10,6 +10,8 @@ use Rattle.sk_base.specs.declared.clock.Clock as a_clock
 use Rattle.sk_base.specs.declared.dice.Dice as a_dice
 use Rattle.sk_base.specs.declared.sink.Sink as a_sink
 use Rattle.sk_base.specs.declared.source.Source as a_source
+use Rattle.sk_disk.specs.declared.disk.Disk as a_disk
+use Rattle.sk_disk.specs.declared.shelf.Shelf as a_shelf
 use Rattle.sk_edge.specs.declared.door.Door as a_door
 use Rattle.sk_edge.specs.declared.door.Ear as an_ear
 use Rattle.sk_resp.specs.Spelling.{Bytes}
@@ -17,6 +19,7 @@ use Rattle.sk_link.specs.Call.{Call}
 use Rattle.sk_launcher.specs.Promises.{LaunchesBy}
 use Rattle.sk_launcher.specs.declared.counts.Counts.{Counts}
 use Rattle.sk_launcher.specs.declared.launch_fault.LaunchFault.{LaunchFault}
+use Rattle.sk_launcher.specs.declared.work_settings.WorkSettings.{WorkSettings}
 use Rattle.sk_line.specs.Drill.{IsDrill}
 use Rattle.sk_line.specs.Iterate.{IsIterate}
 use Rattle.sk_line.specs.Limit.{IsLimit}
@@ -27,7 +30,6 @@ use Rattle.sk_line.specs.declared.limit_line.LimitLine.{LimitLine}
 use Rattle.sk_line.specs.declared.push_line.PushLine.{PushLine}
 use Rattle.sk_line.specs.declared.serve_line.ServeLine.{ServeLine}
 use Rattle.sk_line.specs.declared.status_line.StatusLine.{StatusLine}
-use Rattle.sk_line.specs.declared.work_line.WorkLine.{WorkLine}
 use Rattle.sk_middle.specs.declared.chain.Through.{Through}
 use Rattle.sk_payload.specs.declared.draft.JobDraft.{JobDraft}
 use Rattle.sk_pipe.specs.Run.{Completes, IsPiped, shipped, status_of}
@@ -44,6 +46,7 @@ use Rattle.sk_app.specs.Jobs.{Draws, IsJob}
 use Rattle.sk_app.specs.Hindering.{FailsOver}
 use Rattle.sk_app.specs.Iterating.{Runs}
 use Rattle.sk_app.specs.Limiting.{LimitRun, Limits}
+use Rattle.sk_app.specs.Logging.{LogCauses, LogDone, LogEnds}
 use Rattle.sk_app.specs.Paging.{Asks}
 use Rattle.sk_app.specs.Programs.{program_of}
 use Rattle.sk_app.specs.Pushing.{PushRun, Pushes}
@@ -54,7 +57,7 @@ use Rattle.sk_app.specs.declared.failure.Failure.{Failure}
 use Rattle.sk_app.specs.declared.job.PushJob.{PushJob}
 use Rattle.sk_app.specs.declared.limit.Asked.{Asked}
 use Rattle.sk_app.specs.declared.program.Program.{Program}
-use Rattle.sk_app.specs.declared.program.Program.TheVariants.{Limit}
+use Rattle.sk_app.specs.declared.program.Program.TheVariants.{Limit, LogPipe}
 
 -- ## The words of a command line
 
@@ -77,6 +80,22 @@ abbrev pub PipeDone : {S K : Type 0} → a_source.Ghosts S → a_sink.Ghosts K �
 PipeDone Source Sink source sink source_after sink_after status = Completes (Source.left source)
     (Rose (Source.read_faults source) (Source.read_faults source_after) ⊎ Rose (Sink.write_faults sink) (Sink.write_faults sink_after)) status
 
+-- ## pipe --log
+
+module _ {S K H D A : Type 0} (Source : a_source.Ghosts S) (Sink : a_sink.Ghosts K) (Shelf : a_shelf.Ghosts H D) (Disk : a_disk.Ghosts D)
+    (words : List (String A)) (source : S) (sink : K) (shelf : H) (source_after : S) (sink_after : K) (shelf_after : H) (status : ℕ) where
+  -- Where the words name it, a pipe over the file of its line ended so.
+  abbrev pub Logs : Type 0
+  Logs = Names words LogPipe → LogEnds Source Sink Shelf Disk (texts words) source sink shelf source_after sink_after shelf_after status
+
+  -- Its input is done, where neither count of faults rises and the file doesn't hinder it.
+  abbrev pub LogsDone : Type 0
+  LogsDone = Names words LogPipe → LogDone Source Sink Shelf Disk (texts words) source sink shelf source_after sink_after shelf_after status
+
+  -- A status above 9 has its cause.
+  abbrev pub LogsCaused : Type 0
+  LogsCaused = Names words LogPipe → LogCauses Source Sink Shelf Disk source sink shelf source_after sink_after shelf_after status
+
 -- ## serve
 
 module _ {N Conn Ear C : Type 0} (Door : a_door.Ghosts N Conn Ear) (OfEar : an_ear.Ghosts Ear Conn) (Source : a_source.Ghosts Conn) (Sink : a_sink.Ghosts Conn)
@@ -97,13 +116,13 @@ module _ {N Conn Ear C : Type 0} (Door : a_door.Ghosts N Conn Ear) (OfEar : an_e
 -- ## work
 
 module _ {Rule Job : Type 0} {OfRule : Rule → Type 0} {OfJob : Job → Type 0} {Delays : Mut ((rule : Rule) × OfRule rule) (ℕ × Unit {0}) ℕ} where
-  -- What a launcher did for a line with a door and teams, and with these plain rules, whatever words its dice was going to give.
+  -- What a launcher did with a door and teams, by these settings and plain rules, whatever words its dice was going to give.
   abbrev pub LaunchesTeams : {N Conn Ear : Type 0} → a_door.Ghosts N Conn Ear → a_source.Ghosts Conn → a_sink.Ghosts Conn →
       ((job : Job) × OfJob job → Option (List Run)) → Vec (DelayRule Rule OfRule Delays) Global →
       N → Vec (Registry Job Rule OfJob OfRule Delays) Global → N → Vec (Registry Job Rule OfJob OfRule Delays) Global →
-      WorkLine → Result Counts LaunchFault → Type 0
-  LaunchesTeams Door Source Sink runs rules net teams net_after teams_after line how = (words words_after : Option (ℕ → ℕ))
-      × LaunchesBy Door Source Sink runs words words_after rules net teams net_after teams_after line how
+      WorkSettings → Result Counts LaunchFault → Type 0
+  LaunchesTeams Door Source Sink runs rules net teams net_after teams_after settings how = (words words_after : Option (ℕ → ℕ))
+      × LaunchesBy Door Source Sink runs words words_after rules net teams net_after teams_after settings how
 
   -- What `work` did for these words with a door and teams, and with these plain rules, and came to.
   abbrev pub DoWork : {N Conn Ear A : Type 0} → a_door.Ghosts N Conn Ear → a_source.Ghosts Conn → a_sink.Ghosts Conn →
@@ -111,7 +130,7 @@ module _ {Rule Job : Type 0} {OfRule : Rule → Type 0} {OfJob : Job → Type 0}
       N → Vec (Registry Job Rule OfJob OfRule Delays) Global → N → Vec (Registry Job Rule OfJob OfRule Delays) Global → Result Bytes Failure → Type 0
   DoWork Door Source Sink runs words rules net teams net_after teams_after outcome =
       WorkRun (vec_len teams) (texts words) ((net_after ≡ net) × (teams_after ≡ teams))
-      (λ line how. LaunchesTeams Door Source Sink runs rules net teams net_after teams_after line how) outcome
+      (λ settings how. LaunchesTeams Door Source Sink runs rules net teams net_after teams_after settings how) outcome
 
   -- It did that, and so the program ended.
   abbrev pub WorkEnds : {N Conn Ear K A : Type 0} → a_sink.Ghosts K → a_door.Ghosts N Conn Ear → a_source.Ghosts Conn → a_sink.Ghosts Conn →
@@ -124,9 +143,9 @@ module _ {Rule Job : Type 0} {OfRule : Rule → Type 0} {OfJob : Job → Type 0}
   abbrev pub WorkDone : {N Conn Ear A : Type 0} → a_door.Ghosts N Conn Ear → a_source.Ghosts Conn → a_sink.Ghosts Conn →
       ((job : Job) × OfJob job → Option (List Run)) → List (String A) → N → Vec (Registry Job Rule OfJob OfRule Delays) Global →
       N → Vec (Registry Job Rule OfJob OfRule Delays) Global → ℕ → Type 0
-  WorkDone Door Source Sink runs words net teams net_after teams_after status = (line : WorkLine) → IsWork (vec_len teams) (texts words) line →
-      status ≢ 4 → DoneOr (WorkHindered (vec_len teams) (texts words)
-      (λ line how. (rules : _) × LaunchesTeams Door Source Sink runs rules net teams net_after teams_after line how)) status
+  WorkDone Door Source Sink runs words net teams net_after teams_after status = (settings : WorkSettings) →
+      IsWork (vec_len teams) (texts words) settings → status ≢ 4 → DoneOr (WorkHindered (vec_len teams) (texts words)
+      (λ settings how. (rules : _) × LaunchesTeams Door Source Sink runs rules net teams net_after teams_after settings how)) status
 
 -- ## push
 

@@ -16,7 +16,7 @@ use std::alloc::{AllocError, Global};
 const NO_SINK: u8 = 4;
 
 /// There was no memory.
-const NO_MEMORY: u8 = 5;
+pub const NO_MEMORY: u8 = 5;
 
 /// Two texts, and LF.
 pub fn line(alloc: Global, first: &[u8], second: &[u8]) -> Result<Word, AllocError>
@@ -68,8 +68,8 @@ fn failure_text(alloc: Global, failure: &Failure) -> Result<Option<Word>, AllocE
     }
 }
 
-// Writes a text. The status is this one, where that could be done.
-fn write<K: Sink>(sink: &mut K, text: &Word, wanted: u8) -> u8
+/// Writes a text. The status is this one, where that could be done.
+pub fn write<K: Sink>(sink: &mut K, text: &Word, wanted: u8) -> u8
     requires { wanted ≢ 4 }
     ensures told { Writes text.now wanted result (K.taken sink.old) (K.taken sink.new) }
     ensures cause { result ≡ 4 → Rose (K.write_faults sink.old) (K.write_faults sink.new) }

@@ -6,7 +6,8 @@ ghost use Rattle.sk_app.specs.Promises.{MakesJob};
 
 use sk_base::{Clock, Dice, Score};
 use sk_client::fresh_jid;
-use sk_line::{Address, PushLine};
+use sk_launcher::Address;
+use sk_line::PushLine;
 use sk_payload::{JobDraft, Lock, Until};
 use sk_resp::Text;
 use std::alloc::{AllocError, Global};

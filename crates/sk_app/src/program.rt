@@ -2,7 +2,7 @@
 ghost use Rattle.std.specs.Prelude.{◌≡◌, map, string_bytes};
 ghost use Rattle.sk_app.specs.Programs.{named, program_of};
 
-/// A program beside `pipe`, which `sk_pipe` knows.
+/// A program beside `pipe` alone, which `sk_pipe` knows.
 #[derive(Clone, Copy, Debug, PartialEq, Eq)]
 pub enum Program {
     /// A server.
@@ -21,6 +21,8 @@ pub enum Program {
     Limit,
     /// Items are run from a cursor on.
     Iterate,
+    /// A pipe over a store that a file keeps.
+    LogPipe,
 }
 
 // The program with this name.
@@ -54,11 +56,12 @@ fn named(name: &str) -> Option<Program>
     None
 }
 
-/// The program that the first word names; none where it is another word, or there is none.
+/// The program that the first word names; none where it is another word, or there is none, or it is `pipe` alone.
 pub fn program_of(words: &[String]) -> Option<Program>
     ensures { result ≡ program_of (map string_bytes words.now) }
 {
     match words {
+        [name, _, ..] if name.as_str() == "pipe" => Some(Program::LogPipe),
         [name, ..] => named(name.as_str()),
         [] => None,
     }

@@ -11,14 +11,16 @@ ghost use Rattle.sk_app.specs.Drilling.{RunsDrill};
 ghost use Rattle.sk_app.specs.Ending.{Ends};
 ghost use Rattle.sk_app.specs.Programs.{program_of};
 ghost use Rattle.sk_app.specs.Soaking.{SoakRun};
-ghost use Rattle.sk_app.specs.declared.program.Program.TheVariants.{Drill, Iterate, Limit, Push, Serve, Soak, Status, Work};
-ghost use Rattle.sk_app.specs.Promises.{DoIterate, DoPush, DoServe, DoStatus, DrillDone, IterateDone, LimitDone, Limited, Names, PipeDone, Pipes, PushDone, ServeDone, StatusDone, WorkDone, WorkEnds, texts};
+ghost use Rattle.sk_app.specs.declared.program.Program.TheVariants.{Drill, Iterate, Limit, LogPipe, Push, Serve, Soak, Status, Work};
+ghost use Rattle.sk_app.specs.Promises.{DoIterate, DoPush, DoServe, DoStatus, DrillDone, IterateDone, LimitDone, Limited, Logs, LogsCaused, LogsDone, Names, PipeDone, Pipes, PushDone, ServeDone, StatusDone, WorkDone, WorkEnds, texts};
 
 use crate::program::{Program, program_of};
 use crate::{
-    run_drill, run_limit, run_push, run_question, run_serve, run_soak, run_status, run_work,
+    run_drill, run_limit, run_log_pipe, run_push, run_question, run_serve, run_soak, run_status,
+    run_work,
 };
 use sk_base::{Clock, Dice, Sink, Source};
+use sk_disk::Shelf;
 use sk_edge::Door;
 use sk_line::IterateLine;
 use sk_middle::ClientChain;
@@ -33,6 +35,7 @@ use std::thread::Threads;
 /// program:
 ///
 /// - `pipe`, alone: commands from the source, and their replies to the sink ([`sk_pipe::run`]).
+/// - `pipe --log FILE`: the same over a store that a file of the shelf keeps ([`run_log_pipe`]).
 /// - `serve ..`: a server ([`run_serve`]).
 /// - `work ..`: workers and a poller for a server ([`run_work`]), which have these teams and rules.
 /// - `push ..`: one job is pushed to a server ([`run_push`]), as this chain makes it, which may stop it.
@@ -45,8 +48,17 @@ use std::thread::Threads;
 /// Status 0: all was done. 1: the input of `pipe` has a fault or ends inside a command. 2: the words are no command line; nothing was read, written
 /// or opened. 3, 4: the source, the sink failed. 5: there was no memory. 6: a connection failed or was unreadable, or seats were used up. 7: the
 /// store answered an error, a cursor is no number of an item, or a worker held a job whose count of failures can't rise. 8: what a drill's threads
-/// tell differs from its journal. 9: 2^40 bytes were read.
-pub fn run<R: Threads + Wait + Sync, S: Source, K: Sink, N: Door, C: Clock + Send, D: Dice>(
+/// tell differs from its journal. 9: 2^40 bytes were read. Of `pipe --log` alone, 10: the shelf gave no file, or the file failed. 11: the file is no
+/// log, or is damaged, which is told. 12: the file is full.
+pub fn run<
+    R: Threads + Wait + Sync,
+    S: Source,
+    K: Sink,
+    N: Door,
+    H: Shelf,
+    C: Clock + Send,
+    D: Dice,
+>(
     rt: &R,
     alloc: Global,
     words: &[String],
@@ -56,6 +68,7 @@ pub fn run<R: Threads + Wait + Sync, S: Source, K: Sink, N: Door, C: Clock + Sen
     source: &mut S,
     sink: &mut K,
     net: &mut N,
+    shelf: &mut H,
     clock: &mut C,
     dice: &mut D,
 ) -> u8
@@ -98,6 +111,20 @@ where
     // A drill.
     ensures drilled { Names words.now Drill → Ends K.Sink sink.old sink.new result (RunsDrill runs rules.items teams.old teams.new (texts words.now)) }
 
+    // A pipe over the store that the line's file keeps.
+    ensures logged { Logs S.Source K.Sink H.Shelf H.Disk.Disk words.now source.old sink.old shelf.old source.new sink.new shelf.new result }
+
+    // Its input is done, too, where neither count of faults rises and the file doesn't hinder it.
+    ensures log_completes { LogsDone S.Source K.Sink H.Shelf H.Disk.Disk words.now
+        source.old sink.old shelf.old source.new sink.new shelf.new result }
+
+    // With status 10 the shelf or its file failed, with 11 the file is no log or is damaged, which is told, and with 12 it is full.
+    ensures log_causes { LogsCaused S.Source K.Sink H.Shelf H.Disk.Disk words.now
+        source.old sink.old shelf.old source.new sink.new shelf.new result }
+
+    // No other program has to do with the shelf, or ends so.
+    ensures unlogged { (Names words.now LogPipe → ⊥) → (shelf.new ≡ shelf.old) × (result ≤ 9) }
+
     // A line of a program is done, where the sink takes what is told and nothing hinders it. Where something does, it is this.
     ensures serve_completes { Names words.now Serve → ServeDone N.Door N.Ear.Ear N.Conn.Source N.Conn.Sink C.Clock words.now net.old net.new result }
     ensures work_completes { Names words.now Work → WorkDone N.Door N.Conn.Source N.Conn.Sink runs words.now net.old teams.old net.new teams.new result }
@@ -111,12 +138,14 @@ where
     // Words that name no program are refused.
     ensures unknown { (IsPipeLine (texts words.now) → ⊥) → program_of (texts words.now) ≡ None → result ≡ 2 }
 
-    // Where words are refused nothing is read, written or opened. `pipe` alone reads the source.
+    // Where words are refused nothing is read, written or opened. `pipe` alone, with a file or without, reads the source.
     ensures refused { result ≡ 2 → (source.new ≡ source.old) × (sink.new ≡ sink.old) × (net.new ≡ net.old) × (teams.new ≡ teams.old) }
-    ensures source_alone { (IsPipeLine (texts words.now) → ⊥) → source.new ≡ source.old }
+    ensures unopened { result ≡ 2 → shelf.new ≡ shelf.old }
+    ensures source_alone { (IsPipeLine (texts words.now) → ⊥) → (Names words.now LogPipe → ⊥) → source.new ≡ source.old }
 
-    // `pipe`, `soak` and `drill` open nothing.
+    // `pipe`, with a file or without, `soak` and `drill` make no connection.
     ensures inside { (program_of (texts words.now) ≡ None) ⊎ Names words.now Soak ⊎ Names words.now Drill → net.new ≡ net.old }
+    ensures log_inside { Names words.now LogPipe → net.new ≡ net.old }
 
     // The teams stand in their order again, and `work` and `drill` alone have to do with them.
     ensures teams { classes_of teams.new.items ≡ classes_of teams.old.items }
@@ -134,6 +163,7 @@ where
         Some(Program::Limit) => run_limit(alloc, words, sink, net, dice),
         Some(Program::Iterate) => run_question::<K, N, IterateLine>(alloc, words, sink, net),
         Some(Program::Drill) => run_drill(rt, alloc, words, teams, rules, sink),
+        Some(Program::LogPipe) => run_log_pipe(alloc, words, source, sink, shelf),
         None => run_pipe(alloc, words, source, sink),
     }
 }

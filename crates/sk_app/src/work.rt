@@ -58,10 +58,10 @@ fn outcome_by<R: Threads + Wait + Sync, N: Door, C: Clock + Send, D: Dice>(
     ensures rules { rules_of teams.new.items ≡ rules_of teams.old.items }
     ensures untouched { result ≡ Err Line → (net.new ≡ net.old) × (teams.new ≡ teams.old) }
 {
-    let line = read_work(alloc, words, teams.len() as u32)?;
+    let settings = read_work(alloc, words, teams.len() as u32)?;
     outcome_at(
         alloc,
-        launch(rt, alloc, line, teams, rules, net, clock, dice),
+        launch(rt, alloc, settings, teams, rules, net, clock, dice),
     )
 }
 

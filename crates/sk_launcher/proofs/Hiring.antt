@@ -11,7 +11,7 @@ use Rattle.sk_launcher.specs.Connections.{one_more, Gives}
 use Rattle.sk_launcher.specs.Counting.{no_turns}
 use Rattle.sk_launcher.specs.Launching.{HasJoined, Hire, HiresAll, HiresOne, IsStarted, Office}
 use Rattle.sk_launcher.specs.Teams.{Team}
-use Rattle.sk_launcher.specs.Working.{WorkState, own_team, settings}
+use Rattle.sk_launcher.specs.Working.{WorkState, own_team, worker_settings}
 use Rattle.sk_launcher.proofs.Employed.{all_listed, map_end}
 
 module _ {Conn Delay Dice : Type 0} (Carried : WireState Conn → WireState Conn → List Call → Type 0) where
@@ -31,9 +31,9 @@ module _ {Conn Delay Dice : Type 0} (Carried : WireState Conn → WireState Conn
   pub hires_by : (ident' : Bytes) (order' : Order) (prefetch : ℕ) (a b : Office Conn Delay Dice) (conn : Conn) (ident : Bytes) (order : Order) (team : Team Delay)
       (plain : Delay) (dice : Dice) (w : WorkState (WireState Conn) Delay Dice) → Gives a.door conn b.door → a.teams ≡ team ∷ b.teams → a.rules ≡ plain ∷ b.rules →
       a.dice ≡ dice ∷ b.dice → ident ≡ ident' → order ≡ order' →
-      ((h : Hire (WireState Conn) Delay Dice) × IsStarted Carried conn (settings ident order prefetch) h × (own_team h.fresh ≡ team) × (h.fresh.plain ≡ plain)
+      ((h : Hire (WireState Conn) Delay Dice) × IsStarted Carried conn (worker_settings ident order prefetch) h × (own_team h.fresh ≡ team) × (h.fresh.plain ≡ plain)
       × (h.fresh.dice ≡ dice) × (w ≡ h.joined)) →
-      HiresOne Carried (settings ident' order' prefetch) a w b
+      HiresOne Carried (worker_settings ident' order' prefetch) a w b
   hires_by ident' order' prefetch a b conn ident order team plain dice w gives teams rules dices ident_is order_is (h, started, teamed, ruled, diced, is) = (
     h,
     record {
@@ -42,8 +42,8 @@ module _ {Conn Delay Dice : Type 0} (Carried : WireState Conn → WireState Conn
       next_team = teams ∙ ap (λ t. t ∷ b.teams) (sym teamed);
       next_rule = rules ∙ ap (λ r. r ∷ b.rules) (sym ruled);
       next_dice = dices ∙ ap (λ d. d ∷ b.dice) (sym diced);
-      starts = subst (λ z. IsStarted Carried conn (settings z order' prefetch) h) ident_is
-          (subst (λ z. IsStarted Carried conn (settings ident z prefetch) h) order_is started);
+      starts = subst (λ z. IsStarted Carried conn (worker_settings z order' prefetch) h) ident_is
+          (subst (λ z. IsStarted Carried conn (worker_settings ident z prefetch) h) order_is started);
     },
     is,
   )

@@ -4,7 +4,7 @@ use Rattle.std.specs.Prelude.{IfOk}
 use Rattle.std.specs.Result.{IsErrAnd}
 use Rattle.sk_base.specs.Outside.{Rose}
 use Rattle.sk_resp.specs.Spelling.{Bytes}
-use Rattle.sk_line.specs.declared.work_line.WorkLine.{WorkLine}
+use Rattle.sk_launcher.specs.declared.work_settings.WorkSettings.{WorkSettings}
 use Rattle.sk_link.specs.Call.{Call}
 use Rattle.sk_link.specs.Wire.{WireState}
 use Rattle.sk_poller.specs.Stage.{Watch}
@@ -33,20 +33,20 @@ rose_within before mid now le (inl lt) = inl (omega (arith, le, lt))
 rose_within before mid now le (inr top) = inr top
 
 module _ {Conn Delay : Type 0} (Carried : WireState Conn → WireState Conn → List Call → Type 0) (Answers : Delay → ℕ → ℕ → Type 0) where
-  by_cause : (DoorFailed : Type 0) (line : WorkLine) (rules : List Delay) (before after : Given Conn Delay) (f : LaunchFault) → Hindered DoorFailed (f ∷ []) →
-      after.door ≡ before.door → Launched Carried Answers DoorFailed line rules before after (Err f)
-  by_cause DoorFailed line rules before after fault.Memory h same = starved same
-  by_cause DoorFailed line rules before after fault.Door h same = closed h same
-  by_cause DoorFailed line rules before after (fault.Link f) h same = absurd h
-  by_cause DoorFailed line rules before after (fault.Refused r) h same = absurd h
-  by_cause DoorFailed line rules before after fault.GenLimit h same = absurd h
+  by_cause : (DoorFailed : Type 0) (settings : WorkSettings) (rules : List Delay) (before after : Given Conn Delay) (f : LaunchFault) → Hindered DoorFailed (f ∷ []) →
+      after.door ≡ before.door → Launched Carried Answers DoorFailed settings rules before after (Err f)
+  by_cause DoorFailed settings rules before after fault.Memory h same = starved same
+  by_cause DoorFailed settings rules before after fault.Door h same = closed h same
+  by_cause DoorFailed settings rules before after (fault.Link f) h same = absurd h
+  by_cause DoorFailed settings rules before after (fault.Refused r) h same = absurd h
+  by_cause DoorFailed settings rules before after fault.GenLimit h same = absurd h
 
   -- There was no connection for the poller, or no memory.
-  pub not_ready : (DoorFailed : Type 0) (line : WorkLine) (rules : List Delay) (before after : Given Conn Delay) (f : LaunchFault) (r : Result Counts LaunchFault) →
-      IsErrAnd r (λ e. e ≡ f) → Hindered DoorFailed (f ∷ []) → after.door ≡ before.door → Launched Carried Answers DoorFailed line rules before after r
-  not_ready DoorFailed line rules before after f (Ok counts) is h same = absurd is
-  not_ready DoorFailed line rules before after f (Err e) is h same =
-      subst (λ z. Launched Carried Answers DoorFailed line rules before after (Err z)) (sym is) (by_cause DoorFailed line rules before after f h same)
+  pub not_ready : (DoorFailed : Type 0) (settings : WorkSettings) (rules : List Delay) (before after : Given Conn Delay) (f : LaunchFault) (r : Result Counts LaunchFault) →
+      IsErrAnd r (λ e. e ≡ f) → Hindered DoorFailed (f ∷ []) → after.door ≡ before.door → Launched Carried Answers DoorFailed settings rules before after r
+  not_ready DoorFailed settings rules before after f (Ok counts) is h same = absurd is
+  not_ready DoorFailed settings rules before after f (Err e) is h same =
+      subst (λ z. Launched Carried Answers DoorFailed settings rules before after (Err z)) (sym is) (by_cause DoorFailed settings rules before after f h same)
 
 hindered_also : (A B : Type 0) → (A → B) → (faults : List LaunchFault) → Hindered A faults → Hindered B faults
 hindered_also A B f [] h = tt

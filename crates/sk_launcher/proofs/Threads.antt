@@ -24,7 +24,7 @@ use Rattle.sk_launcher.specs.Polling.{IsNoted as IsPollNoted, PollState, PollerA
 use Rattle.sk_launcher.specs.Turning.{Advances, WentOn}
 use Rattle.sk_launcher.specs.TurningLaws.{went_on_more, went_on_one}
 use Rattle.sk_launcher.proofs.Zips.{advances_on}
-use Rattle.sk_launcher.specs.Working.{IsNoted, WorkState, WorkerAdvances, WorkerTurn, begins, ends, settings}
+use Rattle.sk_launcher.specs.Working.{IsNoted, WorkState, WorkerAdvances, WorkerTurn, begins, ends, worker_settings}
 
 pub none_of : {A : Type 0} (o : Option A) → is_some o ≡ false → o ≡ None
 none_of None is = refl
@@ -103,7 +103,7 @@ poller_advances_on Carried =
     advances_on (WentOn (PollerTurn Carried)) (λ p. p.taken) (went_on_more (PollerTurn Carried) (λ p. is_some p.fault) (polling.begins Carried) (polling.ends Carried))
 
 pub same_settings : (ident ident' : Bytes) (order order' : Order) (prefetch prefetch' : ℕ) (classes classes' : List Bytes) → ident' ≡ ident → order' ≡ order
-    → prefetch' ≡ prefetch → classes' ≡ classes → settings ident' order' prefetch' classes' ≡ settings ident order prefetch classes
+    → prefetch' ≡ prefetch → classes' ≡ classes → worker_settings ident' order' prefetch' classes' ≡ worker_settings ident order prefetch classes
 same_settings ident ident' order order' prefetch prefetch' classes classes' a b c d = cc (a, b, c, d)
 
 -- A worker's state is that of another, but for its link, the jobs in hand and whether it had a fault.

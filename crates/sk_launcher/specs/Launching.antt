@@ -5,7 +5,7 @@ use Rattle.std.specs.List.{AllByRecursion, AllZip}
 use Rattle.std.specs.Result.{is_err}
 use Rattle.rand_pcg.specs.Lcg.{Lcg}
 use Rattle.sk_resp.specs.Spelling.{Bytes}
-use Rattle.sk_line.specs.declared.work_line.WorkLine.{WorkLine}
+use Rattle.sk_launcher.specs.declared.work_settings.WorkSettings.{WorkSettings}
 use Rattle.sk_link.specs.Call.{Call}
 use Rattle.sk_link.specs.Wire.{WireState}
 use Rattle.sk_worker.specs.Leaving.{Leaves as GivesBack, leaving}
@@ -19,7 +19,7 @@ use Rattle.sk_launcher.specs.Polling.{PollState, PollerTurn}
 use Rattle.sk_launcher.specs.Seeding.{SeedsAll}
 use Rattle.sk_launcher.specs.Teams.{AreDone, Team}
 use Rattle.sk_launcher.specs.Turning.{WentOn}
-use Rattle.sk_launcher.specs.Working.{WorkState, WorkerTurn, own_team, settings}
+use Rattle.sk_launcher.specs.Working.{WorkState, WorkerTurn, own_team, worker_settings}
 use Rattle.sk_launcher.specs.declared.counts.Counts.{Counts}
 use Rattle.sk_launcher.specs.declared.launch_fault.LaunchFault.{LaunchFault}
 use Rattle.sk_launcher.specs.declared.launch_fault.LaunchFault.TheVariants as fault
@@ -97,10 +97,11 @@ HiresAll Carried own a workers b = (hires : List (Hire _ _ _)) × Each (Hires Ca
 
 -- ## The poller
 
--- A poller of the line that hasn't taken a turn, over a link to this connection and with this dice.
-pub record IsFreshPoller {Conn Dice : Type 0} (conn : Conn) (line : WorkLine) (dice : Dice) (p : PollState (WireState Conn) Dice) : Type 0 where
+-- A poller with these settings that hasn't taken a turn, over a link to this connection and with this dice.
+pub record IsFreshPoller {Conn Dice : Type 0} (conn : Conn) (settings : WorkSettings) (dice : Dice)
+    (p : PollState (WireState Conn) Dice) : Type 0 where
   pub link : p.link ≡ record { conn = conn; pending = []; ended = false }
-  pub watch_is : p.watch ≡ record { ident = line.ident; loops = line.loops.items; offset = line.offset }
+  pub watch_is : p.watch ≡ record { ident = settings.ident; loops = settings.loops.items; offset = settings.offset }
   pub dice_is : p.dice ≡ dice
   pub taken : p.taken ≡ 0
   pub whole : p.fault ≡ None
@@ -232,10 +233,11 @@ given door teams words = record { door = door; teams = teams; words = words }
 
 -- The poller and each worker got a dice of its own, started by words of the dice. The poller got the first connection, and took one turn or met a
 -- fault there. The process went on, in which the i-th worker had the i-th of the teams and of the plain rules. Its answer is the counts of all workers,
--- where there was no fault, and else a fault with the least status. Where the line has no number of turns there are no counts. The jobs that were done
--- are the runs that the teams told and that returned.
+-- where there was no fault, and else a fault with the least status. Where the settings have no number of turns there are no counts. The jobs that were
+-- done are the runs that the teams told and that returned.
 pub record Launch {Conn Delay : Type 0} (Carried : WireState Conn → WireState Conn → List Call → Type 0) (Answers : Delay → ℕ → ℕ → Type 0)
-    (DoorFailed : Type 0) (line : WorkLine) (rules : List Delay) (before after : Given Conn Delay) (result : Result Counts LaunchFault) : Type 0 where
+    (DoorFailed : Type 0) (settings : WorkSettings) (rules : List Delay) (before after : Given Conn Delay)
+    (result : Result Counts LaunchFault) : Type 0 where
   pub conn : Conn
   pub door_first : DoorTells Conn
   pub own : Lcg
@@ -246,20 +248,20 @@ pub record Launch {Conn Delay : Type 0} (Carried : WireState Conn → WireState 
   pub counts : List Counts
   pub seeded : SeedsAll before.words own others after.words
   pub gives : Gives before.door conn door_first
-  pub is_fresh : IsFreshPoller conn line own fresh
+  pub is_fresh : IsFreshPoller conn settings own fresh
   pub polled : WentOn (PollerTurn Carried) fresh begun
   pub once : begun.fault ≡ None → begun.taken ≡ 1
-  pub process : Process Carried Answers DoorFailed (settings line.ident line.order line.prefetch) line.threads line.turns begun
-      (office door_first before.teams rules others) after.door faults counts
+  pub process : Process Carried Answers DoorFailed (worker_settings settings.ident settings.order settings.prefetch) settings.threads
+      settings.turns begun (office door_first before.teams rules others) after.door faults counts
   pub answered : IsAnswer faults counts result
-  pub some : IfOk result (λ _. 0 < line.turns)
+  pub some : IfOk result (λ _. 0 < settings.turns)
   pub done : IfOk result (λ counts. AreDone before.teams after.teams counts.done)
 
--- What a launcher did with the line, the plain rules and what it was given, as that was before and after, and what it answered. There was no connection
--- for the poller, or no memory; or it went on.
+-- What a launcher did with the settings, the plain rules and what it was given, as that was before and after, and what it answered. There was no
+-- connection for the poller, or no memory; or it went on.
 pub data Launched {Conn Delay : Type 0} (Carried : WireState Conn → WireState Conn → List Call → Type 0) (Answers : Delay → ℕ → ℕ → Type 0)
-    (DoorFailed : Type 0) (line : WorkLine) (rules : List Delay) (before after : Given Conn Delay) : Result Counts LaunchFault → Type 0 where
-  closed : DoorFailed → after.door ≡ before.door → Launched Carried Answers DoorFailed line rules before after (Err fault.Door)
-  starved : after.door ≡ before.door → Launched Carried Answers DoorFailed line rules before after (Err fault.Memory)
-  launched : (result : Result Counts LaunchFault) → Launch Carried Answers DoorFailed line rules before after result →
-      Launched Carried Answers DoorFailed line rules before after result
+    (DoorFailed : Type 0) (settings : WorkSettings) (rules : List Delay) (before after : Given Conn Delay) : Result Counts LaunchFault → Type 0 where
+  closed : DoorFailed → after.door ≡ before.door → Launched Carried Answers DoorFailed settings rules before after (Err fault.Door)
+  starved : after.door ≡ before.door → Launched Carried Answers DoorFailed settings rules before after (Err fault.Memory)
+  launched : (result : Result Counts LaunchFault) → Launch Carried Answers DoorFailed settings rules before after result →
+      Launched Carried Answers DoorFailed settings rules before after result

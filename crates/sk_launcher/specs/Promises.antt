@@ -12,7 +12,7 @@ use Rattle.sk_base.specs.declared.sink.Sink as a_sink
 use Rattle.sk_base.specs.declared.source.Source as a_source
 use Rattle.sk_edge.specs.declared.door.Door as a_door
 use Rattle.sk_resp.specs.Spelling.{Bytes}
-use Rattle.sk_line.specs.declared.work_line.WorkLine.{WorkLine}
+use Rattle.sk_launcher.specs.declared.work_settings.WorkSettings.{WorkSettings}
 use Rattle.sk_link.specs.Call.{Call}
 use Rattle.sk_link.specs.Wire.{WireCarries, WireState}
 use Rattle.sk_policy.specs.declared.delay.DelayRule.{DelayRule}
@@ -27,7 +27,7 @@ use Rattle.sk_launcher.specs.Launching.{Returns as GivenBack}
 use Rattle.sk_launcher.specs.Polling.{PollState, PollerTurn, own_poller}
 use Rattle.sk_launcher.specs.Teams.{HaveReturned, done_in, team_of, teams_of}
 use Rattle.sk_launcher.specs.Turning.{WentOn}
-use Rattle.sk_launcher.specs.Working.{WorkState, WorkerAdvances, hired_worker, hired_workers, own_team, settings}
+use Rattle.sk_launcher.specs.Working.{WorkState, WorkerAdvances, hired_worker, hired_workers, own_team, worker_settings}
 use Rattle.sk_launcher.specs.declared.counts.Counts.{Counts}
 use Rattle.sk_launcher.specs.declared.dismiss.Returns.{Returns}
 use Rattle.sk_launcher.specs.declared.hire.Outfit.{Outfit}
@@ -59,9 +59,9 @@ Begins Carried conn watch dice poller = (fresh : PollState (WireState _) _) × (
 
 -- ## Workers
 
--- a worker of the line, by its classes
-abbrev pub line_settings : WorkLine → List Bytes → Settings
-line_settings line = settings line.ident line.order line.prefetch
+-- each worker's own settings, by its classes
+abbrev pub own_settings : WorkSettings → List Bytes → Settings
+own_settings settings = worker_settings settings.ident settings.order settings.prefetch
 
 module _ {Rule Job : Type 0} {OfRule : Rule → Type 0} {OfJob : Job → Type 0} {Delays : Mut ((rule : Rule) × OfRule rule) (ℕ × Unit {0}) ℕ} where
   -- A worker with this team, this plain rule and this dice began over a link to this connection and joined, and this is it then.
@@ -81,18 +81,18 @@ module _ {Rule Job : Type 0} {OfRule : Rule → Type 0} {OfJob : Job → Type 0}
       N → Outfit Job Rule OfJob OfRule Delays → Office Conn (DelayRule Rule OfRule Delays) Lcg
   office_of Door runs net outfit = office (told_by Door net) (teams_of runs outfit.teams.items) outfit.rules.items outfit.dice.items
 
-  -- The next worker of the line was hired over a connection of the door, and this is it once it joined.
+  -- The next worker was hired, with these settings and over a connection of the door, and this is it once it joined.
   abbrev pub HiresNext : {N Conn Ear C : Type 0} → a_door.Ghosts N Conn Ear → a_source.Ghosts Conn → a_sink.Ghosts Conn → a_clock.Ghosts C →
-      ((job : Job) × OfJob job → Option (List Run)) → WorkLine → N → Outfit Job Rule OfJob OfRule Delays →
+      ((job : Job) × OfJob job → Option (List Run)) → WorkSettings → N → Outfit Job Rule OfJob OfRule Delays →
       WorkerThread (WireState Conn) C Lcg Rule Job OfRule OfJob Delays → N → Outfit Job Rule OfJob OfRule Delays → Type 0
-  HiresNext Door Source Sink Clock runs line net outfit worker net_after outfit_after = HiresOne (Wire Source Sink) (line_settings line)
+  HiresNext Door Source Sink Clock runs settings net outfit worker net_after outfit_after = HiresOne (Wire Source Sink) (own_settings settings)
       (office_of Door runs net outfit) (hired_worker Clock.moments runs worker) (office_of Door runs net_after outfit_after)
 
-  -- Workers of the line were hired in order, and these are they once they joined.
+  -- Workers were hired in order, with these settings, and these are they once they joined.
   abbrev pub HiresStaff : {N Conn Ear C : Type 0} → a_door.Ghosts N Conn Ear → a_source.Ghosts Conn → a_sink.Ghosts Conn → a_clock.Ghosts C →
-      ((job : Job) × OfJob job → Option (List Run)) → WorkLine → N → Outfit Job Rule OfJob OfRule Delays →
+      ((job : Job) × OfJob job → Option (List Run)) → WorkSettings → N → Outfit Job Rule OfJob OfRule Delays →
       Vec (WorkerThread (WireState Conn) C Lcg Rule Job OfRule OfJob Delays) Global → N → Outfit Job Rule OfJob OfRule Delays → Type 0
-  HiresStaff Door Source Sink Clock runs line net outfit staff net_after outfit_after = HiresAll (Wire Source Sink) (line_settings line)
+  HiresStaff Door Source Sink Clock runs settings net outfit staff net_after outfit_after = HiresAll (Wire Source Sink) (own_settings settings)
       (office_of Door runs net outfit) (hired_workers Clock.moments runs staff.items) (office_of Door runs net_after outfit_after)
 
   -- ## Turns in threads
@@ -124,30 +124,30 @@ module _ {Rule Job : Type 0} {OfRule : Rule → Type 0} {OfJob : Job → Type 0}
       AreWhole (own_poller Clock.moments poller_after) (hired_workers Clock.moments runs staff_after.items) →
       HaveTaken polls turns (own_poller Clock.moments poller_after) (hired_workers Clock.moments runs staff_after.items)
 
-  -- The same from their beginning, where the line has a number of turns: the workers take so many, and the poller one more.
-  abbrev pub FillsLine : {L C D : Type 0} → WorkLine → a_clock.Ghosts C → ((job : Job) × OfJob job → Option (List Run)) →
+  -- The same from their beginning, where the settings have a number of turns: the workers take so many, and the poller one more.
+  abbrev pub FillsSettings : {L C D : Type 0} → WorkSettings → a_clock.Ghosts C → ((job : Job) × OfJob job → Option (List Run)) →
       PollerThread L C D → Vec (WorkerThread L C D Rule Job OfRule OfJob Delays) Global →
       PollerThread L C D → Vec (WorkerThread L C D Rule Job OfRule OfJob Delays) Global → Type 0
-  FillsLine line Clock runs poller staff poller_after staff_after = 0 < line.turns →
+  FillsSettings settings Clock runs poller staff poller_after staff_after = 0 < settings.turns →
       HaveAtMost 1 0 (own_poller Clock.moments poller) (hired_workers Clock.moments runs staff.items) →
       AreWhole (own_poller Clock.moments poller_after) (hired_workers Clock.moments runs staff_after.items) →
-      HaveTaken (line.turns + 1) line.turns (own_poller Clock.moments poller_after) (hired_workers Clock.moments runs staff_after.items)
+      HaveTaken (settings.turns + 1) settings.turns (own_poller Clock.moments poller_after) (hired_workers Clock.moments runs staff_after.items)
 
-  -- Workers of the line were hired, and they and the poller took turns. These are they afterwards.
+  -- Workers were hired with these settings, and they and the poller took turns. These are they afterwards.
   abbrev pub Employ : {N Conn Ear C : Type 0} → a_door.Ghosts N Conn Ear → a_source.Ghosts Conn → a_sink.Ghosts Conn → a_clock.Ghosts C →
-      ((job : Job) × OfJob job → Option (List Run)) → WorkLine → PollerThread (WireState Conn) C Lcg → PollerThread (WireState Conn) C Lcg →
+      ((job : Job) × OfJob job → Option (List Run)) → WorkSettings → PollerThread (WireState Conn) C Lcg → PollerThread (WireState Conn) C Lcg →
       N → Outfit Job Rule OfJob OfRule Delays → N → Outfit Job Rule OfJob OfRule Delays →
       Vec (WorkerThread (WireState Conn) C Lcg Rule Job OfRule OfJob Delays) Global → Type 0
-  Employ Door Source Sink Clock runs line poller poller_after net outfit net_after outfit_after staff =
-      Employs (Wire Source Sink) Answers (line_settings line) (own_poller Clock.moments poller) (own_poller Clock.moments poller_after)
+  Employ Door Source Sink Clock runs settings poller poller_after net outfit net_after outfit_after staff =
+      Employs (Wire Source Sink) Answers (own_settings settings) (own_poller Clock.moments poller) (own_poller Clock.moments poller_after)
       (office_of Door runs net outfit) (office_of Door runs net_after outfit_after) (hired_workers Clock.moments runs staff.items)
 
-  -- Where the line has a number of turns, and none of them met a fault, there are as many workers as it says, and all took their turns.
-  abbrev pub WorksThrough : {L C D : Type 0} → WorkLine → a_clock.Ghosts C → ((job : Job) × OfJob job → Option (List Run)) →
+  -- Where the settings have a number of turns, and none of them met a fault, there are as many workers as they say, and all took their turns.
+  abbrev pub WorksThrough : {L C D : Type 0} → WorkSettings → a_clock.Ghosts C → ((job : Job) × OfJob job → Option (List Run)) →
       PollerThread L C D → Vec (WorkerThread L C D Rule Job OfRule OfJob Delays) Global → Type 0
-  WorksThrough line Clock runs poller staff = 0 < line.turns →
+  WorksThrough settings Clock runs poller staff = 0 < settings.turns →
       AreWhole (own_poller Clock.moments poller) (hired_workers Clock.moments runs staff.items) →
-      AllWorked line.threads line.turns (own_poller Clock.moments poller) (hired_workers Clock.moments runs staff.items)
+      AllWorked settings.threads settings.turns (own_poller Clock.moments poller) (hired_workers Clock.moments runs staff.items)
 
   -- ## What comes back
 
@@ -190,33 +190,33 @@ module _ {Rule Job : Type 0} {OfRule : Rule → Type 0} {OfJob : Job → Type 0}
 
   -- ## A process, and a launch
 
-  -- What a process did for the line once its poller had taken its first turn.
+  -- What a process did by these settings once its poller had taken its first turn.
   abbrev pub RunsProcess : {N Conn Ear C : Type 0} → a_door.Ghosts N Conn Ear → a_source.Ghosts Conn → a_sink.Ghosts Conn → a_clock.Ghosts C →
-      ((job : Job) × OfJob job → Option (List Run)) → WorkLine → PollerThread (WireState Conn) C Lcg →
+      ((job : Job) × OfJob job → Option (List Run)) → WorkSettings → PollerThread (WireState Conn) C Lcg →
       N → Outfit Job Rule OfJob OfRule Delays → N → Returns Job Rule OfJob OfRule Delays → Type 0
-  RunsProcess Door Source Sink Clock runs line poller net outfit net_after returns = Process (Wire Source Sink) Answers (Failed Door net net_after)
-      (line_settings line) line.threads line.turns (own_poller Clock.moments poller) (office_of Door runs net outfit) (told_by Door net_after)
-      returns.faults.items (counts_in returns)
+  RunsProcess Door Source Sink Clock runs settings poller net outfit net_after returns =
+      Process (Wire Source Sink) Answers (Failed Door net net_after) (own_settings settings) settings.threads settings.turns
+      (own_poller Clock.moments poller) (office_of Door runs net outfit) (told_by Door net_after) returns.faults.items (counts_in returns)
 
   -- Where there was no fault, the jobs that were done are the runs that the teams told and that returned.
   abbrev pub DoneByTeams : ((job : Job) × OfJob job → Option (List Run)) → Outfit Job Rule OfJob OfRule Delays → Returns Job Rule OfJob OfRule Delays → Type 0
   DoneByTeams runs outfit returns = returns.faults.items ≡ [] →
       HaveReturned (teams_of runs outfit.teams.items) (teams_of runs returns.teams.items) (done_in (counts_in returns))
 
-  -- What a launcher did with a door and teams, as they were before and after, and with these plain rules, for the line, and what it answered. Its dice was
+  -- What a launcher did with a door and teams, as they were before and after, by these settings and plain rules, and what it answered. Its dice was
   -- going to give the first words, and then the others.
   abbrev pub LaunchesBy : {N Conn Ear : Type 0} → a_door.Ghosts N Conn Ear → a_source.Ghosts Conn → a_sink.Ghosts Conn →
       ((job : Job) × OfJob job → Option (List Run)) → Option (ℕ → ℕ) → Option (ℕ → ℕ) → Vec (DelayRule Rule OfRule Delays) Global →
       N → Vec (Registry Job Rule OfJob OfRule Delays) Global → N → Vec (Registry Job Rule OfJob OfRule Delays) Global →
-      WorkLine → Result Counts LaunchFault → Type 0
-  LaunchesBy Door Source Sink runs words words_after rules net teams net_after teams_after line result =
-      Launched (Wire Source Sink) Answers (Failed Door net net_after) line rules.items
+      WorkSettings → Result Counts LaunchFault → Type 0
+  LaunchesBy Door Source Sink runs words words_after rules net teams net_after teams_after settings result =
+      Launched (Wire Source Sink) Answers (Failed Door net net_after) settings rules.items
       (given (told_by Door net) (teams_of runs teams.items) words) (given (told_by Door net_after) (teams_of runs teams_after.items) words_after) result
 
   -- The same, with this dice.
   abbrev pub Launches : {N Conn Ear D : Type 0} → a_door.Ghosts N Conn Ear → a_source.Ghosts Conn → a_sink.Ghosts Conn → a_dice.Ghosts D →
       ((job : Job) × OfJob job → Option (List Run)) → Vec (DelayRule Rule OfRule Delays) Global →
       N → D → Vec (Registry Job Rule OfJob OfRule Delays) Global → N → D → Vec (Registry Job Rule OfJob OfRule Delays) Global →
-      WorkLine → Result Counts LaunchFault → Type 0
-  Launches Door Source Sink Dice runs rules net dice teams net_after dice_after teams_after line result =
-      LaunchesBy Door Source Sink runs (Dice.words dice) (Dice.words dice_after) rules net teams net_after teams_after line result
+      WorkSettings → Result Counts LaunchFault → Type 0
+  Launches Door Source Sink Dice runs rules net dice teams net_after dice_after teams_after settings result =
+      LaunchesBy Door Source Sink runs (Dice.words dice) (Dice.words dice_after) rules net teams net_after teams_after settings result

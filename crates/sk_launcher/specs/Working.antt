@@ -39,8 +39,8 @@ pub record WorkState (Link Delay Dice : Type 0) : Type 0 where
   pub fault : Option WorkFault
   pub tally : TallyView
 
-abbrev pub settings : Bytes → Order → ℕ → List Bytes → Settings
-settings ident order prefetch classes = record { ident = ident; order = order; prefetch = prefetch; classes = classes }
+abbrev pub worker_settings : Bytes → Order → ℕ → List Bytes → Settings
+worker_settings ident order prefetch classes = record { ident = ident; order = order; prefetch = prefetch; classes = classes }
 
 -- What a thread of a worker has. A worker keeps boxed jobs and delay rules: what these are made of is as it may be.
 module _ {Rule Job : Type 0} {OfRule : Rule → Type 0} {OfJob : Job → Type 0} {Delays : Mut ((rule : Rule) × OfRule rule) (ℕ × Unit {0}) ℕ} where
@@ -52,7 +52,7 @@ module _ {Rule Job : Type 0} {OfRule : Rule → Type 0} {OfJob : Job → Type 0}
     moments = moments w.clock;
     dice = w.dice;
     words = words w.dice;
-    settings = settings w.processor.worker.ident w.processor.worker.order w.processor.worker.prefetch w.processor.registry.classes;
+    settings = worker_settings w.processor.worker.ident w.processor.worker.order w.processor.worker.prefetch w.processor.registry.classes;
     told = (team_of runs w.processor.registry).told;
     rules = w.processor.registry.rules.items;
     plain = w.processor.worker.plain;

@@ -4,16 +4,15 @@ ghost use Rattle.sk_base.specs.declared.limits.TheConstants.{MOST_PREFETCH};
 ghost use Rattle.sk_launcher.specs.Connections.{Gives};
 ghost use Rattle.sk_launcher.specs.Launching.{Hindered};
 ghost use Rattle.sk_launcher.specs.Promises.{Failed, HiresNext, HiresStaff, Starts, Wire, told_by};
-ghost use Rattle.sk_launcher.specs.Working.{settings};
+ghost use Rattle.sk_launcher.specs.Working.{worker_settings};
 
-use crate::LaunchFault;
 use crate::pace::Pace;
 use crate::processor::Processor;
 use crate::tally::Tally;
 use crate::worker_thread::WorkerThread;
+use crate::{LaunchFault, WorkSettings};
 use sk_base::Clock;
 use sk_edge::{Door, PcgDice};
-use sk_line::WorkLine;
 use sk_link::WireLink;
 use sk_policy::{DelayRule, QueueOrder};
 use sk_resp::Text;
@@ -33,20 +32,20 @@ pub(crate) struct Post<N: Door> {
 /// The next worker's post, by its number.
 pub(crate) fn open_post<N: Door>(
     alloc: Global,
-    line: &WorkLine,
+    settings: &WorkSettings,
     number: usize,
     net: &mut N,
 ) -> Result<Post<N>, LaunchFault>
     ensures given { IfOk result (λ post. Gives (told_by N.Door net.old) post.conn (told_by N.Door net.new)) }
-    ensures post { IfOk result (λ post. (post.ident ≡ line.now.ident) × (post.order ≡ line.now.order)) }
+    ensures post { IfOk result (λ post. (post.ident ≡ settings.now.ident) × (post.order ≡ settings.now.order)) }
     ensures err { OnErr result (told_by N.Door net.new ≡ told_by N.Door net.old) }
     ensures cause { IfErr result (λ f. Hindered (Failed N.Door net.old net.new) (f ∷ [])) }
     ensures later { N.door_faults net.old ≤ N.door_faults net.new }
 {
-    let ident = line.ident.copy()?;
-    let order = line.order.copy(alloc)?;
-    let conn = net.connect(line.address.host.text(), line.address.port)?;
-    let pace = Pace::new(number, line.threads);
+    let ident = settings.ident.copy()?;
+    let order = settings.order.copy(alloc)?;
+    let conn = net.connect(settings.address.host.text(), settings.address.port)?;
+    let pace = Pace::new(number, settings.threads);
     Ok(Post {
         ident,
         order,
@@ -74,7 +73,8 @@ fn start<N: Door, C: Clock>(
     clock: &C,
 ) -> WorkerThread<WireLink<N::Conn>, C, PcgDice>
     requires { (1 ≤ prefetch) × (prefetch ≤ MOST_PREFETCH) }
-    ensures { Starts (Wire N.Conn.Source N.Conn.Sink) C.Clock runs post.conn (settings post.ident post.order prefetch) registry plain dice result }
+    ensures { Starts (Wire N.Conn.Source N.Conn.Sink) C.Clock runs post.conn (worker_settings post.ident post.order prefetch)
+        registry plain dice result }
 {
     let worker = Worker::new(alloc, post.ident, post.order, plain, prefetch as usize);
     let mut thread = WorkerThread {
@@ -96,16 +96,16 @@ fn start<N: Door, C: Clock>(
 // Hires one worker, where there is an outfit left.
 fn hire_one<N: Door, C: Clock>(
     alloc: Global,
-    line: &WorkLine,
+    settings: &WorkSettings,
     outfit: &mut Outfit,
     net: &mut N,
     clock: &C,
 ) -> Result<WorkerThread<WireLink<N::Conn>, C, PcgDice>, LaunchFault>
-    requires prefetch { (1 ≤ line.now.prefetch) × (line.now.prefetch ≤ MOST_PREFETCH) }
+    requires prefetch { (1 ≤ settings.now.prefetch) × (settings.now.prefetch ≤ MOST_PREFETCH) }
     requires teams { 0 < length outfit.old.teams.items }
     requires rules { 0 < length outfit.old.rules.items }
     requires dice { 0 < length outfit.old.dice.items }
-    ensures hired { IfOk result (λ w. HiresNext N.Door N.Conn.Source N.Conn.Sink C.Clock runs line.now net.old outfit.old w net.new outfit.new) }
+    ensures hired { IfOk result (λ w. HiresNext N.Door N.Conn.Source N.Conn.Sink C.Clock runs settings.now net.old outfit.old w net.new outfit.new) }
     ensures teams { OnOk result (length outfit.new.teams.items + 1 ≡ length outfit.old.teams.items) }
     ensures rules { OnOk result (length outfit.new.rules.items + 1 ≡ length outfit.old.rules.items) }
     ensures dice { OnOk result (length outfit.new.dice.items + 1 ≡ length outfit.old.dice.items) }
@@ -113,7 +113,7 @@ fn hire_one<N: Door, C: Clock>(
     ensures cause { IfErr result (λ f. Hindered (Failed N.Door net.old net.new) (f ∷ [])) }
     ensures later { N.door_faults net.old ≤ N.door_faults net.new }
 {
-    let post = open_post(alloc, line, outfit.teams.len(), net)?;
+    let post = open_post(alloc, settings, outfit.teams.len(), net)?;
     let Some(team) = outfit.teams.pop_front() else {
         unreachable!()
     };
@@ -123,32 +123,33 @@ fn hire_one<N: Door, C: Clock>(
     let Some(dice) = outfit.dice.pop_front() else {
         unreachable!()
     };
-    Ok(start(alloc, line.prefetch, post, team, plain, dice, clock))
+    Ok(start(alloc, settings.prefetch, post, team, plain, dice, clock))
 }
 
-/// Hires as many workers as the line says, up to the first that has a fault. Where the door gives no connection, or there is no memory, there are fewer.
+/// Hires as many workers as the settings say, up to the first that has a fault. Where the door gives no connection, or there is no memory, there are
+/// fewer.
 pub(crate) fn hire_all<N: Door, C: Clock>(
     alloc: Global,
-    line: &WorkLine,
+    settings: &WorkSettings,
     outfit: &mut Outfit,
     net: &mut N,
     clock: &C,
     staff: &mut Vec<WorkerThread<WireLink<N::Conn>, C, PcgDice>>,
 ) -> Result<(), LaunchFault>
-    requires prefetch { (1 ≤ line.now.prefetch) × (line.now.prefetch ≤ MOST_PREFETCH) }
-    requires room { (vec_len staff.old ≡ 0) × (line.now.threads ≤ vec_capacity staff.old) }
-    requires teams { line.now.threads ≤ length outfit.old.teams.items }
-    requires rules { line.now.threads ≤ length outfit.old.rules.items }
-    requires dice { line.now.threads ≤ length outfit.old.dice.items }
-    ensures hired { HiresStaff N.Door N.Conn.Source N.Conn.Sink C.Clock runs line.now net.old outfit.old staff.new net.new outfit.new }
-    ensures enough { OnOk result (All (λ w. w.processor.worker.ended ≡ false) staff.new.items → vec_len staff.new ≡ line.now.threads) }
-    ensures few { vec_len staff.new ≤ line.now.threads }
+    requires prefetch { (1 ≤ settings.now.prefetch) × (settings.now.prefetch ≤ MOST_PREFETCH) }
+    requires room { (vec_len staff.old ≡ 0) × (settings.now.threads ≤ vec_capacity staff.old) }
+    requires teams { settings.now.threads ≤ length outfit.old.teams.items }
+    requires rules { settings.now.threads ≤ length outfit.old.rules.items }
+    requires dice { settings.now.threads ≤ length outfit.old.dice.items }
+    ensures hired { HiresStaff N.Door N.Conn.Source N.Conn.Sink C.Clock runs settings.now net.old outfit.old staff.new net.new outfit.new }
+    ensures enough { OnOk result (All (λ w. w.processor.worker.ended ≡ false) staff.new.items → vec_len staff.new ≡ settings.now.threads) }
+    ensures few { vec_len staff.new ≤ settings.now.threads }
     ensures left { length outfit.new.teams.items + vec_len staff.new ≡ length outfit.old.teams.items }
     ensures cause { IfErr result (λ f. Hindered (Failed N.Door net.old net.new) (f ∷ [])) }
     ensures later { N.door_faults net.old ≤ N.door_faults net.new }
 {
-    while staff.len() < line.threads as usize {
-        let worker = hire_one(alloc, line, outfit, net, clock)?;
+    while staff.len() < settings.threads as usize {
+        let worker = hire_one(alloc, settings, outfit, net, clock)?;
         let is_broken = worker.is_broken();
         staff.push_reserved(worker);
         if is_broken {

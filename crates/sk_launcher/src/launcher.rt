@@ -7,7 +7,7 @@ ghost use Rattle.sk_launcher.specs.Connections.{Each, Gives, Keeping, classes_of
 ghost use Rattle.sk_launcher.specs.Launching.{Hindered, IsAnswer, hindrance_of};
 ghost use Rattle.sk_launcher.specs.Faults.{by_poll};
 ghost use Rattle.sk_launcher.specs.Polling.{own_poller};
-ghost use Rattle.sk_launcher.specs.Promises.{Begins, DoneByTeams, Employ, Failed, Fills, FillsLine, HasOutfits, HasRoom, Launches, RunsProcess, Wire, Works, WorksThrough, told_by};
+ghost use Rattle.sk_launcher.specs.Promises.{Begins, DoneByTeams, Employ, Failed, Fills, FillsSettings, HasOutfits, HasRoom, Launches, RunsProcess, Wire, Works, WorksThrough, told_by};
 ghost use Rattle.sk_launcher.specs.Seeding.{Seeds, SeedsAll};
 ghost use Rattle.sk_launcher.specs.Teams.{teams_of};
 ghost use Rattle.sk_poller.specs.Loop.{is_loop};
@@ -21,10 +21,9 @@ use crate::poller_thread::PollerThread;
 use crate::shared::Shared;
 use crate::total::total;
 use crate::worker_thread::WorkerThread;
-use crate::{Counts, LaunchFault};
+use crate::{Counts, LaunchFault, WorkSettings};
 use sk_base::{Clock, Dice};
 use sk_edge::{Door, PcgDice};
-use sk_line::WorkLine;
 use sk_link::{Link, WireLink};
 use sk_policy::DelayRule;
 use sk_poller::Poller;
@@ -61,16 +60,16 @@ fn own_dices<D: Dice>(
     Ok(VecDeque::from(own))
 }
 
-// How many turns a worker takes. With 0 on the line it goes on until a fault: 2^64 - 1 turns have no end.
-fn turns_of(line: &WorkLine) -> u64
-    ensures is { 0 < line.now.turns → result ≡ line.now.turns }
-    ensures few { 0 < line.now.turns → result < 2 ^ 64 - 1 }
-    ensures endless { line.now.turns ≡ 0 → result ≡ 2 ^ 64 - 1 }
+// How many turns a worker takes. With 0 it goes on until a fault: 2^64 - 1 turns have no end.
+fn turns_of(settings: &WorkSettings) -> u64
+    ensures is { 0 < settings.now.turns → result ≡ settings.now.turns }
+    ensures few { 0 < settings.now.turns → result < 2 ^ 64 - 1 }
+    ensures endless { settings.now.turns ≡ 0 → result ≡ 2 ^ 64 - 1 }
 {
-    if line.turns == 0 {
+    if settings.turns == 0 {
         u64::MAX
     } else {
-        u64::from(line.turns)
+        u64::from(settings.turns)
     }
 }
 
@@ -107,28 +106,28 @@ struct Ready<N: Door> {
 
 fn make_ready<N: Door, D: Dice>(
     alloc: Global,
-    line: &WorkLine,
+    settings: &WorkSettings,
     teams: usize,
     net: &mut N,
     dice: &mut D,
 ) -> Result<Ready<N>, LaunchFault>
-    requires { line.now.threads ≤ MOST_WORKERS }
-    ensures given { IfOk result (λ r. (r.ident ≡ line.now.ident)
+    requires { settings.now.threads ≤ MOST_WORKERS }
+    ensures given { IfOk result (λ r. (r.ident ≡ settings.now.ident)
         × Gives (told_by N.Door net.old) r.conn (told_by N.Door net.new)) }
-    ensures dice { IfOk result (λ r. length r.others.items ≡ line.now.threads) }
+    ensures dice { IfOk result (λ r. length r.others.items ≡ settings.now.threads) }
     ensures seeded { IfOk result (λ r. SeedsAll (D.words dice.old) r.own r.others.items (D.words dice.new)) }
     ensures empty { IfOk result (λ r. (r.returns.teams.items ≡ []) × (r.returns.tallies.items ≡ []) × (r.returns.faults.items ≡ [])) }
     ensures err { OnErr result (told_by N.Door net.new ≡ told_by N.Door net.old) }
     ensures cause { IfErr result (λ f. Hindered (Failed N.Door net.old net.new) (f ∷ [])) }
-    ensures room { IfOk result (λ r. HasRoom teams line.now.threads r.returns) }
+    ensures room { IfOk result (λ r. HasRoom teams settings.now.threads r.returns) }
     ensures later { N.door_faults net.old ≤ N.door_faults net.new }
 {
-    let count = line.threads as usize;
+    let count = settings.threads as usize;
     let returns = Returns::with_room(alloc, teams, count)?;
     let own = own_dice(dice);
     let others = own_dices(alloc, count, dice)?;
-    let ident = line.ident.copy()?;
-    let conn = net.connect(line.address.host.text(), line.address.port)?;
+    let ident = settings.ident.copy()?;
+    let conn = net.connect(settings.address.host.text(), settings.address.port)?;
     Ok(Ready {
         ident,
         own,
@@ -182,52 +181,53 @@ fn run_threads<R: Threads + Wait + Sync, L: Link + Drop + Send, C: Clock + Send>
 fn work<R: Threads + Wait + Sync, N: Door, C: Clock + Send>(
     rt: &R,
     alloc: Global,
-    line: &WorkLine,
+    settings: &WorkSettings,
     poller: &mut PollerThread<WireLink<N::Conn>, C, PcgDice>,
     staff: &mut Vec<WorkerThread<WireLink<N::Conn>, C, PcgDice>>,
 )
-    requires { 1 ≤ line.now.threads }
+    requires { 1 ≤ settings.now.threads }
     ensures worked { Works (Wire N.Conn.Source N.Conn.Sink) C.Clock runs poller.old staff.old poller.new staff.new }
     ensures same { vec_len staff.new ≡ vec_len staff.old }
-    ensures taken { vec_len staff.old ≡ line.now.threads → FillsLine line.now C.Clock runs poller.old staff.old poller.new staff.new }
+    ensures taken { vec_len staff.old ≡ settings.now.threads → FillsSettings settings.now C.Clock runs poller.old staff.old poller.new staff.new }
 {
-    if staff.len() != line.threads as usize {
+    if staff.len() != settings.threads as usize {
         return;
     }
     if !are_whole(staff) {
         return;
     }
-    run_threads(rt, &Shared::new(alloc, turns_of(line)), poller, staff);
+    run_threads(rt, &Shared::new(alloc, turns_of(settings)), poller, staff);
 }
 
 // Workers are hired, and all take their turns, where the poller had no fault.
 fn employ<R: Threads + Wait + Sync, N: Door, C: Clock + Send>(
     rt: &R,
     alloc: Global,
-    line: &WorkLine,
+    settings: &WorkSettings,
     poller: &mut PollerThread<WireLink<N::Conn>, C, PcgDice>,
     staff: &mut Vec<WorkerThread<WireLink<N::Conn>, C, PcgDice>>,
     outfit: &mut Outfit,
     net: &mut N,
     clock: &C,
 ) -> Result<(), LaunchFault>
-    requires threads { 1 ≤ line.now.threads }
-    requires prefetch { (1 ≤ line.now.prefetch) × (line.now.prefetch ≤ MOST_PREFETCH) }
-    requires room { (vec_len staff.old ≡ 0) × (line.now.threads ≤ vec_capacity staff.old) }
-    requires outfit { HasOutfits line.now.threads outfit.old }
+    requires threads { 1 ≤ settings.now.threads }
+    requires prefetch { (1 ≤ settings.now.prefetch) × (settings.now.prefetch ≤ MOST_PREFETCH) }
+    requires room { (vec_len staff.old ≡ 0) × (settings.now.threads ≤ vec_capacity staff.old) }
+    requires outfit { HasOutfits settings.now.threads outfit.old }
     requires begun { poller.old.taken ≤ 1 }
-    ensures crew { Employ N.Door N.Conn.Source N.Conn.Sink C.Clock runs line.now poller.old poller.new net.old outfit.old net.new outfit.new staff.new }
+    ensures is { Employ N.Door N.Conn.Source N.Conn.Sink C.Clock runs settings.now poller.old poller.new
+        net.old outfit.old net.new outfit.new staff.new }
     ensures cause { Hindered (Failed N.Door net.old net.new) (hindrance_of result) }
-    ensures all { OnOk result (WorksThrough line.now C.Clock runs poller.new staff.new) }
-    ensures few { vec_len staff.new ≤ line.now.threads }
+    ensures all { OnOk result (WorksThrough settings.now C.Clock runs poller.new staff.new) }
+    ensures few { vec_len staff.new ≤ settings.now.threads }
     ensures left { length outfit.new.teams.items + vec_len staff.new ≡ length outfit.old.teams.items }
     ensures later { N.door_faults net.old ≤ N.door_faults net.new }
 {
     if poller.fault.is_some() {
         return Ok(());
     }
-    let hired = hire_all(alloc, line, outfit, net, clock, staff);
-    work::<R, N, C>(rt, alloc, line, poller, staff);
+    let hired = hire_all(alloc, settings, outfit, net, clock, staff);
+    work::<R, N, C>(rt, alloc, settings, poller, staff);
     hired
 }
 
@@ -299,7 +299,7 @@ fn keep_hindrance(hired: Result<(), LaunchFault>, faults: &mut Vec<LaunchFault>)
 fn run_process<R: Threads + Wait + Sync, N: Door, C: Clock + Send>(
     rt: &R,
     alloc: Global,
-    line: &WorkLine,
+    settings: &WorkSettings,
     mut poller: PollerThread<WireLink<N::Conn>, C, PcgDice>,
     mut staff: Vec<WorkerThread<WireLink<N::Conn>, C, PcgDice>>,
     mut outfit: Outfit,
@@ -307,14 +307,14 @@ fn run_process<R: Threads + Wait + Sync, N: Door, C: Clock + Send>(
     clock: &C,
     returns: &mut Returns,
 )
-    requires threads { 1 ≤ line.now.threads }
-    requires prefetch { (1 ≤ line.now.prefetch) × (line.now.prefetch ≤ MOST_PREFETCH) }
-    requires room { (vec_len staff ≡ 0) × (line.now.threads ≤ vec_capacity staff) }
-    requires outfit { HasOutfits line.now.threads outfit }
+    requires threads { 1 ≤ settings.now.threads }
+    requires prefetch { (1 ≤ settings.now.prefetch) × (settings.now.prefetch ≤ MOST_PREFETCH) }
+    requires room { (vec_len staff ≡ 0) × (settings.now.threads ≤ vec_capacity staff) }
+    requires outfit { HasOutfits settings.now.threads outfit }
     requires begun { poller.taken ≤ 1 }
     requires empty { (returns.old.teams.items ≡ []) × (returns.old.tallies.items ≡ []) × (returns.old.faults.items ≡ []) }
-    requires returns { HasRoom (length outfit.teams.items) line.now.threads returns.old }
-    ensures process { RunsProcess N.Door N.Conn.Source N.Conn.Sink C.Clock runs line.now poller net.old outfit net.new returns.new }
+    requires returns { HasRoom (length outfit.teams.items) settings.now.threads returns.old }
+    ensures process { RunsProcess N.Door N.Conn.Source N.Conn.Sink C.Clock runs settings.now poller net.old outfit net.new returns.new }
     ensures teams { classes_of returns.new.teams.items ≡ classes_of outfit.teams.items }
     ensures rules { rules_of returns.new.teams.items ≡ rules_of outfit.teams.items }
     ensures done { DoneByTeams runs outfit returns.new }
@@ -323,7 +323,7 @@ fn run_process<R: Threads + Wait + Sync, N: Door, C: Clock + Send>(
     let hired = employ(
         rt,
         alloc,
-        line,
+        settings,
         &mut poller,
         &mut staff,
         &mut outfit,
@@ -336,11 +336,11 @@ fn run_process<R: Threads + Wait + Sync, N: Door, C: Clock + Send>(
     keep_hindrance(hired, &mut returns.faults);
 }
 
-/// Starts a poller and as many workers as the line says, each with a connection, a clock and a dice of its own, and lets them take their turns in
+/// Starts a poller and as many workers as the settings say, each with a connection, a clock and a dice of its own, and lets them take their turns in
 /// threads. Answers how many turns of the workers came to each answer.
 ///
 /// The first worker has the first of the teams and the first of the rules (the rule of classes that have no job), and so on. Once it has joined, a
-/// worker takes as many turns as the line says, and the poller one more. Where the line says 0, they go on until a fault. Between two turns the poller
+/// worker takes as many turns as the settings say, and the poller one more; where they say 0, all go on until a fault. Between two turns the poller
 /// pauses 5,000 ms, and a worker that found no job pauses 1,000 ms. Where a thread meets a fault, each other one ends before its next turn. At the end
 /// each worker without a fault gives back the jobs that it holds; the connections go back to the door, in the order of making, and the teams stand in
 /// their order again, with their rules, whatever came of it.
@@ -351,7 +351,7 @@ fn run_process<R: Threads + Wait + Sync, N: Door, C: Clock + Send>(
 pub fn launch<R: Threads + Wait + Sync, N: Door, C: Clock + Send, D: Dice>(
     rt: &R,
     alloc: Global,
-    mut line: WorkLine,
+    mut settings: WorkSettings,
     teams: &mut Vec<Registry>,
     rules: Vec<DelayRule>,
     net: &mut N,
@@ -360,17 +360,17 @@ pub fn launch<R: Threads + Wait + Sync, N: Door, C: Clock + Send, D: Dice>(
 ) -> Result<Counts, LaunchFault>
     requires teams { vec_len rules ≡ vec_len teams.old }
     requires few { vec_len teams.old ≤ MOST_WORKERS }
-    requires threads { (1 ≤ line.threads) × (line.threads ≤ vec_len teams.old) }
-    requires prefetch { (1 ≤ line.prefetch) × (line.prefetch ≤ MOST_PREFETCH) }
-    requires offset { IsOffset line.offset }
-    requires loops { list_all is_loop line.loops.items ≡ true }
-    ensures told { Launches N.Door N.Conn.Source N.Conn.Sink D.Dice runs rules net.old dice.old teams.old net.new dice.new teams.new line result }
+    requires threads { (1 ≤ settings.threads) × (settings.threads ≤ vec_len teams.old) }
+    requires prefetch { (1 ≤ settings.prefetch) × (settings.prefetch ≤ MOST_PREFETCH) }
+    requires offset { IsOffset settings.offset }
+    requires loops { list_all is_loop settings.loops.items ≡ true }
+    ensures told { Launches N.Door N.Conn.Source N.Conn.Sink D.Dice runs rules net.old dice.old teams.old net.new dice.new teams.new settings result }
     ensures teams { classes_of teams.new.items ≡ classes_of teams.old.items }
     ensures rules { rules_of teams.new.items ≡ rules_of teams.old.items }
     ensures later { N.door_faults net.old ≤ N.door_faults net.new }
 {
-    let staff = Vec::with_capacity(alloc, line.threads as usize)?;
-    let ready = make_ready(alloc, &line, teams.len(), net, dice)?;
+    let staff = Vec::with_capacity(alloc, settings.threads as usize)?;
+    let ready = make_ready(alloc, &settings, teams.len(), net, dice)?;
     let Ready {
         ident,
         own,
@@ -378,10 +378,10 @@ pub fn launch<R: Threads + Wait + Sync, N: Door, C: Clock + Send, D: Dice>(
         mut returns,
         conn,
     } = ready;
-    let loops = mem::replace(&mut line.loops, Vec::new(alloc));
+    let loops = mem::replace(&mut settings.loops, Vec::new(alloc));
     let poller = start_poller::<N, C>(
         alloc,
-        Poller::new(ident, loops, line.offset),
+        Poller::new(ident, loops, settings.offset),
         conn,
         clock,
         own,
@@ -394,7 +394,7 @@ pub fn launch<R: Threads + Wait + Sync, N: Door, C: Clock + Send, D: Dice>(
     run_process(
         rt,
         alloc,
-        &line,
+        &settings,
         poller,
         staff,
         outfit,
@@ -404,5 +404,5 @@ pub fn launch<R: Threads + Wait + Sync, N: Door, C: Clock + Send, D: Dice>(
     );
     let (back, answer) = answer(returns);
     *teams = back;
-    settle(rt, line.turns, answer)
+    settle(rt, settings.turns, answer)
 }

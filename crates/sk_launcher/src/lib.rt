@@ -1,6 +1,7 @@
 //! The threads of a process of workers: a poller and processors, each with a link, a clock and a dice of its own, as Sidekiq's launcher runs them.
 #![tactic(auto)]
 
+mod address;
 mod counts;
 mod dismiss;
 mod faults;
@@ -14,8 +15,11 @@ mod processor;
 mod shared;
 mod tally;
 mod total;
+mod work_settings;
 mod worker_thread;
 
+pub use address::Address;
 pub use counts::Counts;
 pub use launch_fault::LaunchFault;
 pub use launcher::launch;
+pub use work_settings::WorkSettings;

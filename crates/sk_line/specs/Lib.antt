@@ -3,6 +3,7 @@ pub mod Values
 pub mod Lines
 pub mod Push
 pub mod Soak
+pub mod Log
 pub mod Drill
 pub mod Work
 pub mod Limit

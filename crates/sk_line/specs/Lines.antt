@@ -2,9 +2,9 @@
 use Rattle.std.specs.Prelude.{◌≡◌, ◌^◌, ◌-◌, List, [], Result, Ok, Err, codes}
 use Rattle.sk_base.specs.declared.limits.TheConstants.{MOST_LOOPS_SERVED}
 use Rattle.clap.specs.Words.{App, Row, Text, new_app, with_rule}
+use Rattle.sk_launcher.specs.declared.address.Address.{Address}
 use Rattle.sk_line.specs.Options.{refusal, rows, with_default}
 use Rattle.sk_line.specs.Values.{Has, IsNumber, IsPort, IsText}
-use Rattle.sk_line.specs.declared.address.Address.{Address}
 use Rattle.sk_line.specs.declared.fault.LineFault.{LineFault}
 use Rattle.sk_line.specs.declared.fault.LineFault.TheVariants as fault
 use Rattle.sk_line.specs.declared.serve_line.ServeLine.{ServeLine}

@@ -1,5 +1,5 @@
 -- The values of options.
-use Rattle.std.specs.Prelude.{◌≡◌, ◌≤◌, ◌-◌, ◌^◌, ◌&&◌, ℕ, ℤ, pos, negsuc, nat_le, List, Option, Some, None, Ok, true, codes, if◌then◌else◌}
+use Rattle.std.specs.Prelude.{◌≡◌, ◌≢◌, ◌≤◌, ◌-◌, ◌^◌, ◌&&◌, ℕ, ℤ, pos, negsuc, nat_le, List, [], Option, Some, None, Ok, true, codes, if◌then◌else◌}
 use Rattle.sk_base.specs.declared.limits.TheConstants.{MOST_RETRIES, MOST_SECONDS}
 use Rattle.std.specs.Fmt.{decimal}
 use Rattle.clap.specs.Words.{Row, Text, first_of}
@@ -25,6 +25,10 @@ MayHave Is rows name None = first_of name rows ≡ None
 -- itself
 abbrev pub IsText : Text → Text → Type 0
 IsText text value = value ≡ text
+
+-- itself, as the path of a file, which isn't empty
+abbrev pub IsPath : Text → Text → Type 0
+IsPath text value = (text ≢ []) × (value ≡ text)
 
 -- itself, as a name of at most so many bytes
 abbrev pub IsNamed : ℕ → Text → Text → Type 0

@@ -6,6 +6,7 @@ use Rattle.std.specs.List.{AllZip, join_by, list_all, slice_split}
 use Rattle.std.specs.Char.{is_ascii_digit}
 use Rattle.clap.specs.Words.{App, Row, Text, all_of, new_app, with_rule}
 use Rattle.sk_cron.specs.Times.{Means}
+use Rattle.sk_launcher.specs.declared.work_settings.WorkSettings.{WorkSettings}
 use Rattle.sk_policy.specs.Order.{IsOrder, Order, strict_order, weighted_order}
 use Rattle.sk_policy.specs.declared.order_fault.OrderFault.{OrderFault}
 use Rattle.sk_policy.specs.declared.order_fault.OrderFault.TheVariants as order_fault
@@ -16,7 +17,6 @@ use Rattle.sk_line.specs.Options.{flag, positionals, with_default}
 use Rattle.sk_line.specs.Values.{Has, IsNamed, IsNumber}
 use Rattle.sk_line.specs.declared.fault.LineFault.{LineFault}
 use Rattle.sk_line.specs.declared.fault.LineFault.TheVariants as line_fault
-use Rattle.sk_line.specs.declared.work_line.WorkLine.{WorkLine}
 
 -- the parts of a text between these bytes
 abbrev pub parts : ℕ → Text → List Text
@@ -108,16 +108,16 @@ work_app = with_rule (with_rule (with_rule (with_rule (with_rule (with_rule (wit
     (with_default (codes "prefetch") (codes "1"))) (positionals (codes "CRON"))
 
 -- The values, where there are so many teams.
-pub record IsWorkValues (teams : ℕ) (rows : List Row) (line : WorkLine) : Type 0 where
-  pub address : IsAddress rows line.address
-  pub ident : Has (IsNamed LONGEST_NAME) rows (codes "ident") line.ident
-  pub order : IsOrderLine rows line.order
-  pub threads : Has (IsNumber 1 teams) rows (codes "threads") line.threads
-  pub turns : Has (IsNumber 0 (2 ^ 32 - 1)) rows (codes "turns") line.turns
-  pub offset : Has IsOffsetText rows (codes "offset") line.offset
-  pub prefetch : Has (IsNumber 1 MOST_PREFETCH) rows (codes "prefetch") line.prefetch
-  pub loops : AllZip IsLoop (words_in rows (codes "CRON")) line.loops.items
+pub record IsWorkValues (teams : ℕ) (rows : List Row) (settings : WorkSettings) : Type 0 where
+  pub address : IsAddress rows settings.address
+  pub ident : Has (IsNamed LONGEST_NAME) rows (codes "ident") settings.ident
+  pub order : IsOrderLine rows settings.order
+  pub threads : Has (IsNumber 1 teams) rows (codes "threads") settings.threads
+  pub turns : Has (IsNumber 0 (2 ^ 32 - 1)) rows (codes "turns") settings.turns
+  pub offset : Has IsOffsetText rows (codes "offset") settings.offset
+  pub prefetch : Has (IsNumber 1 MOST_PREFETCH) rows (codes "prefetch") settings.prefetch
+  pub loops : AllZip IsLoop (words_in rows (codes "CRON")) settings.loops.items
 
 -- The words, which begin with `work`, ask for this, where there are so many teams.
-abbrev pub IsWork : ℕ → List Text → WorkLine → Type 0
+abbrev pub IsWork : ℕ → List Text → WorkSettings → Type 0
 IsWork teams = IsLine work_app (IsWorkValues teams)

@@ -1,4 +1,4 @@
-// Where the store is.
+// The options that say where the store is.
 ghost use Rattle.std.specs.Prelude.{◌≡◌, IfOk, codes};
 ghost use Rattle.clap.specs.Words.{app_of, found_of, rows_of};
 ghost use Rattle.sk_line.specs.Lines.{IsAddress, Reads, addressed};
@@ -10,17 +10,8 @@ use crate::help_lines::{HOST_HELP, PORT_HELP};
 use crate::option::with_default;
 use crate::value::{number_of, text_of};
 use clap::{ArgMatches, Command};
-use sk_resp::Text;
+use sk_launcher::Address;
 use std::alloc::{AllocError, Global};
-
-/// Where the store is.
-#[derive(Debug, Drop)]
-pub struct Address {
-    /// A name or a number of a host.
-    pub host: Text,
-    /// A port of TCP, from 1 to 65,535.
-    pub port: u16,
-}
 
 /// The options `--host` and `--port`.
 pub fn addressed<'a>(alloc: Global, command: Command<'a>) -> Result<Command<'a>, AllocError>

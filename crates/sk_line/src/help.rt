@@ -1,11 +1,12 @@
 // What people are told of words that are refused: by clap, or since a value breaks its rule.
 use crate::drill_line::drill_command;
 use crate::help_lines::{
-    DRILL_ABOUT, ITERATE_ABOUT, LIMIT_ABOUT, PUSH_ABOUT, SERVE_ABOUT, SOAK_ABOUT, STATUS_ABOUT,
-    WORK_ABOUT,
+    DRILL_ABOUT, ITERATE_ABOUT, LIMIT_ABOUT, PIPE_ABOUT, PUSH_ABOUT, SERVE_ABOUT, SOAK_ABOUT,
+    STATUS_ABOUT, WORK_ABOUT,
 };
 use crate::iterate_line::iterate_command;
 use crate::limit_line::limit_command;
+use crate::log_line::log_command;
 use crate::push_line::push_command;
 use crate::range::{Breach, breach_of};
 use crate::serve_line::serve_command;
@@ -23,6 +24,7 @@ fn command_of<'a>(alloc: Global, name: &str) -> Result<Option<Command<'a>>, Allo
         "work" => Ok(Some(work_command(alloc)?.about(WORK_ABOUT))),
         "push" => Ok(Some(push_command(alloc)?.about(PUSH_ABOUT))),
         "drill" => Ok(Some(drill_command(alloc)?.about(DRILL_ABOUT))),
+        "pipe" => Ok(Some(log_command(alloc)?.about(PIPE_ABOUT))),
         "soak" => Ok(Some(soak_command(alloc)?.about(SOAK_ABOUT))),
         "status" => Ok(Some(status_command(alloc)?.about(STATUS_ABOUT))),
         "limit" => Ok(Some(limit_command(alloc)?.about(LIMIT_ABOUT))),

@@ -29,6 +29,11 @@ pub const ITERATE_ABOUT: &str =
 
 Example: sidekiq iterate --every 100 import 1000000";
 
+pub const PIPE_ABOUT: &str =
+    "Takes commands from standard input, and writes their replies to standard output. With --log the store is kept in a file.
+
+Example: printf 'LPUSH queue:default one\\r\\n' | sidekiq pipe --log jobs.log";
+
 pub const SOAK_ABOUT: &str = "Prints a large run that is made from a number.
 
 Example: sidekiq soak 7 5000";
@@ -59,6 +64,9 @@ pub const UNIQUE_HELP: &str =
 pub const CLASS_HELP: &str = "The class that runs it, as Note, Fail or Flip";
 
 pub const ARGS_HELP: &str = "Its arguments, a JSON array, as '[1, \"two\"]'";
+
+pub const LOG_HELP: &str =
+    "The file that keeps the store, made where it isn't there; left out, all is kept in memory";
 
 pub const SEED_HELP: &str = "What the run is made from, 0 to 18446744073709551615";
 

@@ -4,15 +4,16 @@ ghost use Rattle.clap.specs.Words.{app_of, found_of, rows_of};
 ghost use Rattle.sk_line.specs.Iterate.{IsIterate, IsIterateValues, iterate_app};
 ghost use Rattle.sk_line.specs.Lines.{Reads};
 
+use crate::LineFault;
 use crate::address::{address_of, addressed};
 use crate::defaults::{EVERY, MOST_ITEMS};
 use crate::help_lines::{EVERY_HELP, ITEMS_HELP, JID_HELP, MOST_ITEMS_HELP};
 use crate::matches::matches_of;
 use crate::option::{positional, with_default};
 use crate::value::{name_of, number_of};
-use crate::{Address, LineFault};
 use clap::{ArgMatches, Command};
 use sk_base::limits::LONGEST_ID;
+use sk_launcher::Address;
 use sk_resp::Text;
 use std::alloc::{AllocError, Global};
 

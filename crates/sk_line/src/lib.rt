@@ -11,6 +11,7 @@ mod help;
 mod help_lines;
 mod iterate_line;
 mod limit_line;
+mod log_line;
 mod matches;
 mod option;
 mod push_line;
@@ -22,7 +23,6 @@ mod status_line;
 mod value;
 mod work_line;
 
-pub use address::Address;
 pub use drill_line::{DrillLine, MOST_CRASHES, MOST_DRILLED, read_drill};
 pub use fault::LineFault;
 pub use help::help_of;
@@ -30,8 +30,9 @@ pub use iterate_line::{IterateLine, MOST_EVERY, MOST_ITERATED, read_iterate};
 pub use limit_line::{
     LONGEST_LIMITER, LimitKind, LimitLine, MOST_LIMITED, MOST_LIMITED_MILLIS, read_limit,
 };
+pub use log_line::{LogLine, read_log};
 pub use push_line::{PushLine, read_push};
 pub use serve_line::{ServeLine, read_serve};
 pub use soak_line::{MOST_SOAKED, SoakLine, read_soak};
 pub use status_line::{StatusLine, read_status};
-pub use work_line::{WorkLine, read_work};
+pub use work_line::read_work;

@@ -6,13 +6,14 @@ ghost use Rattle.sk_line.specs.Lines.{Reads};
 ghost use Rattle.sk_line.specs.Values.{Has};
 ghost use Rattle.sk_line.specs.declared.limit_line.LimitKind.{LimitKind};
 
+use crate::LineFault;
 use crate::address::{address_of, addressed};
 use crate::help_lines::{KIND_HELP, LIMITER_HELP, MILLIS_HELP, MOST_HELP};
 use crate::matches::matches_of;
 use crate::option::positional;
 use crate::value::{name_of, number_of, text_in};
-use crate::{Address, LineFault};
 use clap::{ArgMatches, Command};
+use sk_launcher::Address;
 use sk_resp::Text;
 use std::alloc::{AllocError, Global};
 

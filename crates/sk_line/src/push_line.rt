@@ -5,6 +5,7 @@ ghost use Rattle.clap.specs.Words.{app_of, found_of, rows_of};
 ghost use Rattle.sk_line.specs.Lines.{Reads};
 ghost use Rattle.sk_line.specs.Push.{IsPush, IsPushValues, push_app};
 
+use crate::LineFault;
 use crate::address::{address_of, addressed};
 use crate::defaults::{QUEUE, RETRY};
 use crate::help_lines::{
@@ -13,9 +14,9 @@ use crate::help_lines::{
 use crate::matches::matches_of;
 use crate::option::{optional, positional, with_default};
 use crate::value::{args_of, retry_of, score_of, seconds_of, text_of};
-use crate::{Address, LineFault};
 use clap::{ArgMatches, Command};
 use sk_base::Score;
+use sk_launcher::Address;
 use sk_payload::{Args, Retry};
 use sk_resp::Text;
 use std::alloc::{AllocError, Global};

@@ -4,17 +4,18 @@ use crate::cron_words::loop_of;
 use crate::drill_line::{MOST_CRASHES, MOST_DRILLED};
 use crate::help_lines::{
     ARGS_HELP, AT_HELP, CLASS_HELP, CRASHES_HELP, CRON_HELP, DRILL_JOBS_HELP, EVERY_HELP,
-    IDENT_HELP, ITEMS_HELP, JID_HELP, JOBS_HELP, KIND_HELP, LIMITER_HELP, LOOPS_HELP, MILLIS_HELP,
-    MOST_HELP, MOST_ITEMS_HELP, OFFSET_HELP, PORT_HELP, PREFETCH_HELP, QUEUE_HELP, QUEUES_HELP,
-    RETRY_FOR_HELP, RETRY_HELP, SEED_HELP, SERVE_PORT_HELP, SESSIONS_HELP, THREADS_HELP,
-    TURNS_HELP, UNIQUE_HELP, WORKERS_HELP,
+    IDENT_HELP, ITEMS_HELP, JID_HELP, JOBS_HELP, KIND_HELP, LIMITER_HELP, LOG_HELP, LOOPS_HELP,
+    MILLIS_HELP, MOST_HELP, MOST_ITEMS_HELP, OFFSET_HELP, PORT_HELP, PREFETCH_HELP, QUEUE_HELP,
+    QUEUES_HELP, RETRY_FOR_HELP, RETRY_HELP, SEED_HELP, SERVE_PORT_HELP, SESSIONS_HELP,
+    THREADS_HELP, TURNS_HELP, UNIQUE_HELP, WORKERS_HELP,
 };
 use crate::iterate_line::{MOST_EVERY, MOST_ITERATED};
 use crate::limit_line::{LONGEST_LIMITER, MOST_LIMITED, MOST_LIMITED_MILLIS, kind_of};
 use crate::queues::order_of;
 use crate::soak_line::MOST_SOAKED;
 use crate::value::{
-    args_of, name_of, number_of, retry_of, score_of, seconds_of, seed_of, text_in, words_in,
+    args_of, name_of, number_of, path_of, retry_of, score_of, seconds_of, seed_of, text_in,
+    words_in,
 };
 use clap::ArgMatches;
 use sk_base::limits::{
@@ -180,6 +181,7 @@ pub fn breach_of<'a>(alloc: Global, name: &str, matches: &ArgMatches<'a>) -> Opt
         "push" => of_push(alloc, matches),
         "drill" => of_drill(matches),
         "soak" => of_soak(matches),
+        "pipe" => broken(matches, path_of(alloc, matches, "log"), "--log", LOG_HELP),
         "status" => port_breach(matches, PORT_HELP),
         "limit" => of_limit(alloc, matches),
         "iterate" => of_iterate(alloc, matches),

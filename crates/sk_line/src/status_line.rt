@@ -3,10 +3,11 @@ ghost use Rattle.std.specs.Prelude.{◌≡◌, IfOk, map, string_bytes};
 ghost use Rattle.clap.specs.Words.{app_of, found_of, rows_of};
 ghost use Rattle.sk_line.specs.Lines.{IsStatus, IsStatusValues, Reads, status_app};
 
+use crate::LineFault;
 use crate::address::{address_of, addressed};
 use crate::matches::matches_of;
-use crate::{Address, LineFault};
 use clap::{ArgMatches, Command};
+use sk_launcher::Address;
 use std::alloc::{AllocError, Global};
 
 /// What the words of `status` ask for.

@@ -3,7 +3,7 @@ ghost use Rattle.std.specs.Prelude.{◌≡◌, ℕ, ℤ, Bool, IfOk, MatchOption
 ghost use Rattle.clap.specs.Words.{all_of, first_of, found_of, rows_of};
 ghost use Rattle.sk_base.specs.Name.{is_name};
 ghost use Rattle.sk_line.specs.Lines.{Reads};
-ghost use Rattle.sk_line.specs.Values.{Has, IsArgs, IsNamed, IsNumber, IsRetry, IsScoreText, IsSeconds, IsSeed, IsText, MayHave, within};
+ghost use Rattle.sk_line.specs.Values.{Has, IsArgs, IsNamed, IsNumber, IsPath, IsRetry, IsScoreText, IsSeconds, IsSeed, IsText, MayHave, within};
 ghost use Rattle.sk_line.specs.Work.{IsFlag};
 
 use crate::LineFault;
@@ -35,6 +35,26 @@ pub fn text_of(alloc: Global, matches: &ArgMatches<'_>, name: &str) -> Result<Te
 {
     match text_in(matches, name) {
         Some(found) => Ok(text(alloc, found)?),
+        None => Err(LineFault::Refused),
+    }
+}
+
+// The path that the text is.
+fn path(alloc: Global, found: &str) -> Result<Text, LineFault>
+    ensures { Reads (IsPath found.now) result }
+{
+    if found.is_empty() {
+        return Err(LineFault::Refused);
+    }
+    Ok(text(alloc, found)?)
+}
+
+/// The path of a file that an option stands for: any text that isn't empty.
+pub fn path_of(alloc: Global, matches: &ArgMatches<'_>, option: &str) -> Result<Text, LineFault>
+    ensures { Reads (Has IsPath (rows_of (found_of matches.now)) option.now) result }
+{
+    match text_in(matches, option) {
+        Some(found) => path(alloc, found),
         None => Err(LineFault::Refused),
     }
 }

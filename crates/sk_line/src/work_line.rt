@@ -6,6 +6,7 @@ ghost use Rattle.sk_line.specs.Lines.{Reads};
 ghost use Rattle.sk_line.specs.Values.{Has};
 ghost use Rattle.sk_line.specs.Work.{IsOffsetText, IsWork, IsWorkValues, work_app};
 
+use crate::LineFault;
 use crate::address::{address_of, addressed};
 use crate::cron_words::loops_of;
 use crate::defaults::{IDENT, OFFSET, PREFETCH, QUEUE, THREADS, TURNS};
@@ -17,34 +18,10 @@ use crate::matches::matches_of;
 use crate::option::{flag, positionals, with_default};
 use crate::queues::order_of;
 use crate::value::{name_of, number_of};
-use crate::{Address, LineFault};
 use clap::{ArgMatches, Command};
 use sk_base::limits::{LAST_OFFSET, LONGEST_NAME, MOST_PREFETCH, OFFSET_UTC};
-use sk_policy::QueueOrder;
-use sk_poller::Loop;
-use sk_resp::Text;
+use sk_launcher::WorkSettings;
 use std::alloc::{AllocError, Global};
-
-/// What the words of `work` ask for.
-#[derive(Drop)]
-pub struct WorkLine {
-    /// The store that has the jobs.
-    pub address: Address,
-    /// The process, as its heartbeat names it: a name of at most 255 bytes.
-    pub ident: Text,
-    /// The queues, and in which order a turn asks them.
-    pub order: QueueOrder,
-    /// How many workers run, each in a thread of its own, from 1 to the number of teams.
-    pub threads: u32,
-    /// How many turns each worker takes; 0: as many as come until a fault.
-    pub turns: u32,
-    /// How many minutes the clock that crons go by is ahead of UTC, from -1,439 to 1,439.
-    pub offset: i32,
-    /// How many jobs a worker holds at most, from 1 to 16.
-    pub prefetch: u32,
-    /// The periodic jobs.
-    pub loops: Vec<Loop>,
-}
 
 /// The options of `work`.
 pub fn work_command<'a>(alloc: Global) -> Result<Command<'a>, AllocError>
@@ -70,7 +47,11 @@ fn offset_of(matches: &ArgMatches<'_>) -> Result<i32, LineFault>
 }
 
 // The values, where there are so many teams.
-fn line_of(alloc: Global, matches: &ArgMatches<'_>, teams: u32) -> Result<WorkLine, LineFault>
+fn settings_of(
+    alloc: Global,
+    matches: &ArgMatches<'_>,
+    teams: u32,
+) -> Result<WorkSettings, LineFault>
     ensures { Reads (IsWorkValues teams (rows_of (found_of matches.now))) result }
 {
     let address = address_of(alloc, matches)?;
@@ -81,7 +62,7 @@ fn line_of(alloc: Global, matches: &ArgMatches<'_>, teams: u32) -> Result<WorkLi
     let offset = offset_of(matches)?;
     let prefetch = number_of(matches, "prefetch", 1, MOST_PREFETCH as u32)?;
     let loops = loops_of(alloc, matches)?;
-    Ok(WorkLine {
+    Ok(WorkSettings {
         address,
         ident,
         order,
@@ -96,10 +77,10 @@ fn line_of(alloc: Global, matches: &ArgMatches<'_>, teams: u32) -> Result<WorkLi
 /// What the words, which begin with `work`, ask for, where there are so many teams.
 ///
 /// Errors: `Refused` exactly where they are no line of `work`.
-pub fn read_work(alloc: Global, words: &[String], teams: u32) -> Result<WorkLine, LineFault>
+pub fn read_work(alloc: Global, words: &[String], teams: u32) -> Result<WorkSettings, LineFault>
     ensures { Reads (IsWork teams (map string_bytes words.now)) result }
 {
     let command = work_command(alloc)?;
     let matches = matches_of(command, words)?;
-    line_of(alloc, &matches, teams)
+    settings_of(alloc, &matches, teams)
 }

@@ -6,8 +6,8 @@ use Rattle.sk_launcher.proofs.Employed.{all_placed, back, none_taken, on_ok, sto
 use Rattle.sk_launcher.proofs.Hiring.{empty_staff}
 use Rattle.sk_launcher.proofs.launcher.employ.Goals as goal
 
-pub returns-then-is_some-clause-crew : goal.returns-then-is_some-clause-crew
-returns-then-is_some-clause-crew g c =
+pub returns-then-is_some-clause-is : goal.returns-then-is_some-clause-is
+returns-then-is_some-clause-is g c =
     let nobody = empty_staff (hired_worker g.C.Clock.moments (λ v. (goal.Job-dyn g v).runs v.1)) c.args.staff.now.items (omega (arith, c.requires.room)) in
     record {
       hired = [];

@@ -6,7 +6,7 @@ use Rattle.sk_launcher.specs.Connections.{door_tells}
 use Rattle.sk_launcher.specs.Launching.{IsAnswer, Process, launched, office}
 use Rattle.sk_launcher.specs.Polling.{own_poller}
 use Rattle.sk_launcher.specs.Teams.{HaveReturned, done_in, teams_of}
-use Rattle.sk_launcher.specs.Working.{settings}
+use Rattle.sk_launcher.specs.Working.{worker_settings}
 use Rattle.sk_launcher.proofs.Launches.{are_done, not_ready, process_within, rose_within, same_watch}
 use Rattle.sk_launcher.proofs.launcher.launch.Goals as goal
 
@@ -18,7 +18,7 @@ returns-in_err-ready-clause-told g c = not_ready _ _ _ _ _ _ _ _ _ c.from_residu
 
 pub returns-clause-told : goal.returns-clause-told
 returns-clause-told g c =
-    let line = c.args.line in
+    let settings = c.args.settings in
     let ready = c.in_ok-ready.ready in
     let given = c.in_ok-ready.ensures.given in
     let begun = c.start_poller-poller.ensures.begun in
@@ -33,7 +33,7 @@ returns-clause-told g c =
     let teams_now = teams_of (λ v. (goal.Job-dyn g v).runs v.1) returns.teams.items in
     let teams : c.from.result.items ≡ c.args.teams.now.items = search rules in
     let plain : c.from-2.result.items ≡ c.args.rules.items = search rules in
-    let offset : c.new-2.result.offset ≡ line.offset = search rules in
+    let offset : c.new-2.result.offset ≡ settings.offset = search rules in
     launched c.settle.result (record {
       conn = ready.conn;
       door_first = door;
@@ -47,7 +47,7 @@ returns-clause-told g c =
       gives = given.1;
       is_fresh = record {
         link = begun.1;
-        watch_is = begun.2 ∙ same_watch line.ident _ line.loops.items _ line.offset _ (c.new-2.ensures.ident ∙ given.0)
+        watch_is = begun.2 ∙ same_watch settings.ident _ settings.loops.items _ settings.offset _ (c.new-2.ensures.ident ∙ given.0)
             (c.new-2.ensures.loops ∙ ap (λ (v : _). v.items) c.replace-loops.ensures.value) offset;
         dice_is = begun.3;
         taken = begun.4;
@@ -57,10 +57,10 @@ returns-clause-told g c =
       once = c.start_poller-poller.ensures.once;
       process = process_within _ _ _ _ (rose_within _ _ _ c.make_ready.ensures.later) _ _ _ _ _ _ _ _
           (subst (λ ts. Process (WireCarries g.N.Conn.Sink.taken g.N.Conn.Source.left g.N.Conn.Source.read_faults g.N.Conn.Sink.write_faults) Answers
-          (Rose (g.N.Door.door_faults first) (g.N.Door.door_faults last)) (settings line.ident line.order line.prefetch) line.threads line.turns poller
+          (Rose (g.N.Door.door_faults first) (g.N.Door.door_faults last)) (worker_settings settings.ident settings.order settings.prefetch) settings.threads settings.turns poller
           (office door (teams_of (λ v. (goal.Job-dyn g v).runs v.1) ts) c.args.rules.items ready.others.items) after returns.faults.items counts) teams
           (subst (λ rs. Process (WireCarries g.N.Conn.Sink.taken g.N.Conn.Source.left g.N.Conn.Source.read_faults g.N.Conn.Sink.write_faults) Answers
-          (Rose (g.N.Door.door_faults first) (g.N.Door.door_faults last)) (settings line.ident line.order line.prefetch) line.threads line.turns poller
+          (Rose (g.N.Door.door_faults first) (g.N.Door.door_faults last)) (worker_settings settings.ident settings.order settings.prefetch) settings.threads settings.turns poller
           (office door (teams_of (λ v. (goal.Job-dyn g v).runs v.1) c.from.result.items) rs ready.others.items) after returns.faults.items counts) plain
           c.run_process.ensures.process));
       answered = subst (λ r. IsAnswer returns.faults.items counts r) (sym c.settle.ensures.same) c.answer-back.ensures.answered;

@@ -30,7 +30,7 @@ returns-clause-process g c =
       done = own_poller moments c.employ-hired.new.poller;
       worked = hired_workers moments (λ v. (goal.Job-dyn g v).runs v.1) c.employ-hired.new.staff.items;
       door_then = door_tells (g.N.Door.dialled c.dismiss_poller.new.net) (g.N.Door.kept c.dismiss_poller.new.net);
-      employed = employed.crew;
+      employed = employed.is;
       gone = gone;
       leaving_them = zip;
       kept_first = c.dismiss_poller.ensures.kept;
@@ -40,7 +40,7 @@ returns-clause-process g c =
           (sym (c.dismiss_all.ensures.faults ∙ c.dismiss_poller.ensures.faults)) employed.cause;
       faults_are = are;
       counts_are = ap (map (λ t. t.counts)) (left.3.tallies ∙ ap (λ xs. xs ++ map (λ w. w.tally) gone) c.requires.empty.1) ∙ mapped (λ w. w.tally) (λ t. t.counts) gone;
-      all = all_worked _ _ _ c.args.line.now.threads c.args.line.now.turns _ _ _ _ _ gone result faults_now employed.crew zip are employed.all;
+      all = all_worked _ _ _ c.args.settings.now.threads c.args.settings.now.turns _ _ _ _ _ gone result faults_now employed.is zip are employed.all;
     }
 
 pub returns-clause-teams : goal.returns-clause-teams
@@ -50,7 +50,7 @@ returns-clause-teams g c =
     let zip = zip_seen _ (hired_worker moments (λ v. (goal.Job-dyn g v).runs v.1)) c.employ-hired.new.staff.items left.0 left.1 in
     sym (mapped (team_of (λ v. (goal.Job-dyn g v).runs v.1)) seen_classes c.return_teams.new.teams.items)
     ∙ ap (map seen_classes) (teams_now _ _ _ _ _ c.return_teams.ensures left.3.teams (ap (teams_of (λ v. (goal.Job-dyn g v).runs v.1)) c.requires.empty.0))
-    ∙ teams_back _ _ _ seen_classes (λ a b classes rules. classes) _ _ _ _ _ left.0 c.employ-hired.ensures.crew zip
+    ∙ teams_back _ _ _ seen_classes (λ a b classes rules. classes) _ _ _ _ _ left.0 c.employ-hired.ensures.is zip
     ∙ mapped (team_of (λ v. (goal.Job-dyn g v).runs v.1)) seen_classes c.args.outfit.teams.items
 
 pub returns-clause-rules : goal.returns-clause-rules
@@ -60,7 +60,7 @@ returns-clause-rules g c =
     let zip = zip_seen _ (hired_worker moments (λ v. (goal.Job-dyn g v).runs v.1)) c.employ-hired.new.staff.items left.0 left.1 in
     sym (mapped (team_of (λ v. (goal.Job-dyn g v).runs v.1)) seen_rules c.return_teams.new.teams.items)
     ∙ ap (map seen_rules) (teams_now _ _ _ _ _ c.return_teams.ensures left.3.teams (ap (teams_of (λ v. (goal.Job-dyn g v).runs v.1)) c.requires.empty.0))
-    ∙ teams_back _ _ _ seen_rules (λ a b classes rules. rules) _ _ _ _ _ left.0 c.employ-hired.ensures.crew zip
+    ∙ teams_back _ _ _ seen_rules (λ a b classes rules. rules) _ _ _ _ _ left.0 c.employ-hired.ensures.is zip
     ∙ mapped (team_of (λ v. (goal.Job-dyn g v).runs v.1)) seen_rules c.args.outfit.teams.items
 
 pub returns-clause-done : goal.returns-clause-done
@@ -74,4 +74,4 @@ returns-clause-done g c = λ no_fault.
     let counts = ap (map (λ t. t.counts)) (left.3.tallies ∙ ap (λ xs. xs ++ map (λ w. w.tally) gone) c.requires.empty.1) ∙ mapped (λ w. w.tally) (λ t. t.counts) gone in
     subst (λ n. HaveReturned (teams_of (λ v. (goal.Job-dyn g v).runs v.1) c.args.outfit.teams.items) (teams_of (λ v. (goal.Job-dyn g v).runs v.1) c.return_teams.new.teams.items) n) (ap done_in (sym counts))
     (subst (λ ts. HaveReturned (teams_of (λ v. (goal.Job-dyn g v).runs v.1) c.args.outfit.teams.items) ts (done_in (map (λ w. w.tally.counts) gone))) (sym now)
-    (teams_returned _ _ _ _ _ _ _ _ gone c.employ-hired.ensures.crew zip none))
+    (teams_returned _ _ _ _ _ _ _ _ gone c.employ-hired.ensures.is zip none))

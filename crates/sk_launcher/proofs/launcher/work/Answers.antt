@@ -4,8 +4,8 @@ use Rattle.sk_launcher.specs.Working.{hired_worker, hired_workers}
 use Rattle.sk_launcher.proofs.Employed.{all_placed, all_up, stood_still}
 use Rattle.sk_launcher.proofs.launcher.work.Goals as goal
 
-pub returns-then-len-line-clause-worked : goal.returns-then-len-line-clause-worked
-returns-then-len-line-clause-worked g c = stood_still _ _ _ _
+pub returns-then-len-settings-clause-worked : goal.returns-then-len-settings-clause-worked
+returns-then-len-settings-clause-worked g c = stood_still _ _ _ _
 
 pub returns-then-not-are_whole-clause-worked : goal.returns-then-not-are_whole-clause-worked
 returns-then-not-are_whole-clause-worked g c = stood_still _ _ _ _
@@ -19,7 +19,7 @@ returns-then-not-are_whole-clause-taken g c = λ same some most whole.
 pub returns-clause-taken : goal.returns-clause-taken
 returns-clause-taken g c = λ same some most whole.
     let moments = g.C.Clock.moments in
-    let line = c.args.line.now in
+    let settings = c.args.settings.now in
     let turns = c.new.ensures.turns ∙ c.turns_of.ensures.is some in
     let polls = c.new.ensures.polls (c.turns_of.ensures.few some) ∙ ap (λ n. n + 1) (c.turns_of.ensures.is some) in
     let taken = c.run_threads.ensures.taken (omega (arith, most.0, polls), all_up (λ w. w.tally.taken) c.new.result.turns (hired_workers moments (λ v. (goal.Job-dyn g v).runs v.1) c.args.staff.now.items) most.1) whole in

@@ -14,4 +14,4 @@ pub matches_of-requires : goal.matches_of-requires
 matches_of-requires c = ap is_simple_and_free c.in_ok-command.ensures ∙ simple
 
 pub returns : goal.returns
-returns c = line_read (IsWorkValues c.args.teams) _ _ (map string_bytes c.args.words.now) _ c.line_of.result c.in_ok-command.ensures c.in_ok-matches.ensures.taken c.in_ok-matches.ensures.values c.line_of.ensures
+returns c = line_read (IsWorkValues c.args.teams) _ _ (map string_bytes c.args.words.now) _ c.settings_of.result c.in_ok-command.ensures c.in_ok-matches.ensures.taken c.in_ok-matches.ensures.values c.settings_of.ensures
