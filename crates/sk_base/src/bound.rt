@@ -2,7 +2,7 @@
 use crate::Score;
 
 /// A lower or an upper bound of scores, as `ZRANGEBYSCORE` takes it.
-#[derive(Clone, Copy, Debug, PartialEq, Eq)]
+#[derive(Clone, Copy)]
 pub enum Bound {
     /// `-inf`: below every score
     Low,

@@ -22,7 +22,7 @@ pub trait Clock: Drop {
 }
 
 /// A clock in memory, for tests. It answers `now`, then `now + step` and so on, in milliseconds, and from 2^64 - 1 on that. It waits for nothing.
-#[derive(Clone, Copy, Debug)]
+#[derive(Clone, Copy)]
 pub struct StepClock {
     pub now: u64,
     pub step: u64,

@@ -3,7 +3,7 @@ use crate::Callbacks;
 use sk_resp::Word;
 
 /// Which callbacks of a batch were fired, whether they have a job or not.
-#[derive(Clone, Copy, Debug, PartialEq, Eq, Drop)]
+#[derive(Clone, Copy, Drop)]
 pub struct Fired {
     pub complete: bool,
     pub success: bool,

@@ -2,7 +2,7 @@
 use thiserror::Error;
 
 /// The first rule that making a batch, or adding jobs to one, would break. Nothing has changed then.
-#[derive(Clone, Copy, Debug, PartialEq, Eq, Drop, Error)]
+#[derive(Clone, Copy, Debug, Drop, Error)]
 pub enum BatchFault {
     /// The batch that jobs are added to, or the parent of the new batch, isn't there.
     #[error("no such batch")]

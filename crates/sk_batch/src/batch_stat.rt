@@ -1,7 +1,7 @@
 // The numbers of a batch.
 
 /// How many members a batch has, and what came of them.
-#[derive(Clone, Copy, Debug, PartialEq, Eq, Drop)]
+#[derive(Clone, Copy, Drop)]
 pub struct BatchStat {
     /// Its own members.
     pub members: u64,

@@ -1,7 +1,7 @@
 // What may come of a job, as it is told to its batch.
 
 /// What has come of a job.
-#[derive(Clone, Copy, Debug, PartialEq, Eq, Drop)]
+#[derive(Clone, Copy, Drop)]
 pub enum Event {
     /// A run of it has ended badly.
     Reported,

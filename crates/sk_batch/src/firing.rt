@@ -3,7 +3,7 @@ use sk_payload::Payload;
 use sk_resp::Word;
 
 /// What comes of a batch (Sidekiq's wiki, "Batches").
-#[derive(Clone, Copy, Debug, PartialEq, Eq, Drop)]
+#[derive(Clone, Copy, Drop)]
 pub enum Kind {
     /// Each job of the batch was reported.
     Complete,

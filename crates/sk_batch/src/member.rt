@@ -2,7 +2,7 @@
 use sk_resp::Word;
 
 /// What may come of a member.
-#[derive(Clone, Copy, Debug, PartialEq, Eq, Drop)]
+#[derive(Clone, Copy, Drop)]
 pub enum Mark {
     /// A run of the job has ended, well or not, or the job was buried.
     Reported,
@@ -11,7 +11,7 @@ pub enum Mark {
 }
 
 /// What has come of a member.
-#[derive(Clone, Copy, Debug, PartialEq, Eq, Drop)]
+#[derive(Clone, Copy, Drop)]
 pub struct Progress {
     pub reported: bool,
     pub returned: bool,

@@ -1,4 +1,4 @@
--- The commands that only read.
+-- The commands that only read, and those that change nothing.
 use Rattle.std.specs.Prelude.{Bool, true, false}
 use Rattle.sk_cmd.specs.declared.command.Command.{Command}
 use Rattle.sk_cmd.specs.declared.command.Command.TheVariants as command
@@ -48,3 +48,8 @@ only_reads (plain.Zremrangebyscore a b c) = false
 abbrev pub is_read : Command → Bool
 is_read (command.Plain c) = only_reads c
 is_read (command.Script c) = false
+
+-- It leaves the store as it is: it only reads, or it is SHUTDOWN.
+abbrev pub is_quiet : Command → Bool
+is_quiet (command.Plain plain.Shutdown) = true
+is_quiet other = is_read other

@@ -8,7 +8,7 @@ use sk_base::limits::MOST_DUE;
 use sk_resp::read_int;
 
 /// An end of a list.
-#[derive(Clone, Copy, Debug, PartialEq, Eq)]
+#[derive(Clone, Copy)]
 pub enum Side {
     /// `LEFT`
     Left,
@@ -17,7 +17,7 @@ pub enum Side {
 }
 
 /// A set of jobs with scores.
-#[derive(Clone, Copy, Debug, PartialEq, Eq)]
+#[derive(Clone, Copy)]
 pub enum Scored {
     /// `schedule`: jobs that are to run at a moment
     Schedule,
@@ -28,7 +28,7 @@ pub enum Scored {
 }
 
 /// When a key ends.
-#[derive(Clone, Copy, Debug, PartialEq, Eq)]
+#[derive(Clone, Copy)]
 pub enum Expire {
     /// It doesn't.
     Never,
@@ -39,7 +39,7 @@ pub enum Expire {
 }
 
 /// The options of `SET`.
-#[derive(Clone, Copy, Debug, PartialEq, Eq)]
+#[derive(Clone, Copy)]
 pub struct SetOptions {
     /// `NX`: only where the key isn't there
     pub only_new: bool,
@@ -47,7 +47,7 @@ pub struct SetOptions {
 }
 
 /// The options of `ZRANGEBYSCORE`.
-#[derive(Clone, Copy, Debug, PartialEq, Eq)]
+#[derive(Clone, Copy)]
 pub struct RangeOptions {
     /// `WITHSCORES`: each member is followed by its score.
     pub with_scores: bool,

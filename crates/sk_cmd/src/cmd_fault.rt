@@ -6,7 +6,7 @@ ghost use Rattle.sk_resp.specs.declared.reply.Reply.TheVariants as reply;
 use sk_resp::{Name, Reply, Say};
 
 /// The first rule that the words of a command break.
-#[derive(Clone, Copy, Debug, PartialEq, Eq)]
+#[derive(Clone, Copy)]
 pub enum CmdFault {
     /// The first word is no command.
     Unknown,

@@ -1,6 +1,6 @@
 // The commands, each with its arguments.
 ghost use Rattle.std.specs.Prelude.{◌≡◌};
-ghost use Rattle.sk_cmd.specs.ReadOnly.{is_read, only_reads};
+ghost use Rattle.sk_cmd.specs.ReadOnly.{is_quiet, is_read, only_reads};
 
 use crate::{Pairs, RangeOptions, Scored, Scores, SetOptions, Side};
 use sk_base::{Bound, Score};
@@ -149,6 +149,16 @@ impl Command {
         match self {
             Command::Plain(command) => command.is_read(),
             Command::Script(_) => false,
+        }
+    }
+
+    /// The command leaves the store as it is: it only reads, or it is SHUTDOWN.
+    pub fn is_quiet(&self) -> bool
+        ensures { result ≡ is_quiet self.now }
+    {
+        match self {
+            Command::Plain(PlainCommand::Shutdown) => true,
+            command => command.is_read(),
         }
     }
 }

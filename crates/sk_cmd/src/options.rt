@@ -9,7 +9,7 @@ use crate::{CmdFault, Expire, RangeOptions, SetOptions};
 use sk_resp::Word;
 
 /// What the next word of `SET` is.
-#[derive(Clone, Copy, Debug, PartialEq, Eq)]
+#[derive(Clone, Copy)]
 pub enum SetNext {
     /// An option
     Word,
@@ -20,7 +20,7 @@ pub enum SetNext {
 }
 
 /// The options of `SET` so far.
-#[derive(Clone, Copy, Debug, PartialEq, Eq)]
+#[derive(Clone, Copy)]
 pub struct SetSoFar {
     pub only_new: bool,
     pub expire: Expire,
@@ -28,7 +28,7 @@ pub struct SetSoFar {
 }
 
 /// What the next word of a range is.
-#[derive(Clone, Copy, Debug, PartialEq, Eq)]
+#[derive(Clone, Copy)]
 pub enum RangeNext {
     /// An option
     Word,
@@ -39,7 +39,7 @@ pub enum RangeNext {
 }
 
 /// The options of a range so far.
-#[derive(Clone, Copy, Debug, PartialEq, Eq)]
+#[derive(Clone, Copy)]
 pub struct RangeSoFar {
     pub with_scores: bool,
     pub limit: Option<(i64, i64)>,

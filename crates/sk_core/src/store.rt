@@ -1,14 +1,16 @@
 // The store, in which each live job stands and each pushed row is accounted for.
 ghost use Rattle.std.specs.Prelude.{◌≡◌, ◌+◌, IfOk};
-ghost use Rattle.sk_model.specs.Change.{perform};
+ghost use Rattle.sk_model.specs.Change.{moment_after, perform};
 ghost use Rattle.sk_model.specs.Outcome.{Realizes, Outcome};
 ghost use Rattle.sk_model.specs.Status.{numbers};
 ghost use Rattle.sk_model.specs.Step.{MayComeTo, cut};
 ghost use Rattle.sk_model.specs.World.{first, phase_of};
 ghost use Rattle.sk_jobs.specs.Counting.{tally_of};
+ghost use Rattle.sk_seats.specs.Next.{IsNext};
 ghost use Rattle.sk_core.specs.Whole.{KeepsLaws};
 
 use crate::dispatch::step;
+use sk_base::limits::LAST_MOMENT;
 use sk_cmd::Command;
 use sk_jobs::{numbers, tally};
 use sk_model::Limits;
@@ -79,6 +81,28 @@ impl Core {
         ensures { result.now ≡ phase_of self.now seat }
     {
         self.store.seats.get(seat)
+    }
+
+    /// The least seat above this one that isn't Plain, or the least of all where none is given. None exactly where there is none. Logarithmic, and
+    /// takes no memory.
+    pub fn next_seat(&self, after: Option<u32>) -> Option<u32>
+        ensures { IsNext self.now.phases after result }
+    {
+        self.store.seats.next(after)
+    }
+
+    /// The greatest moment that the store was handed, in milliseconds since 1970. Takes no memory.
+    pub fn moment(&self) -> u64
+        ensures { result ≡ self.now.moment }
+    {
+        self.store.moment
+    }
+
+    /// The moment at which a command acts that is handed in at the moment `now`, in milliseconds since 1970. Takes no memory.
+    pub fn acts_at(&self, now: u64) -> u64
+        ensures { result ≡ moment_after now self.now }
+    {
+        self.store.moment.max(now.min(LAST_MOMENT))
     }
 
     /// The numbers that the store tells of itself, those of the page of `SK.STATUS`. Looks at the queues and at the batches one after another.

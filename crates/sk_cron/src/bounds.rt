@@ -3,7 +3,7 @@ ghost use Rattle.std.specs.Prelude.{◌≡◌, ◌<◌, get_or};
 ghost use Rattle.sk_cron.specs.CronText.{five, minutes};
 
 /// The least and the greatest number of a field.
-#[derive(Clone, Copy, Debug, PartialEq, Eq)]
+#[derive(Clone, Copy)]
 pub struct Bounds {
     pub low: u8,
     pub high: u8,

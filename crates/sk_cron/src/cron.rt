@@ -10,7 +10,7 @@ use crate::{Civil, CronFault};
 use std::marker::Model;
 
 /// When a periodic job runs: the numbers of the five fields of a cron text (POSIX, "crontab").
-#[derive(Debug, Drop)]
+#[derive(Drop)]
 pub struct Cron {
     fields: [Field; 5],
 }

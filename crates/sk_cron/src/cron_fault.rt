@@ -1,7 +1,7 @@
 // Why a text is no cron text.
 
 /// Where a text stops being a cron text: at the first byte with which no cron text goes on, or at the end of a text that ends too early.
-#[derive(Clone, Copy, Debug, PartialEq, Eq, Drop)]
+#[derive(Clone, Copy, Drop)]
 pub struct CronFault {
     /// The field that the text before it has reached, from 0: minute, hour, day of the month, month and weekday.
     pub field: u8,

@@ -8,7 +8,7 @@ ghost use Rattle.sk_cron.specs.declared.part.Part.{Part};
 use crate::{Bounds, Part};
 
 /// The numbers of a field, of the parts of it that are read.
-#[derive(Clone, Copy, Debug)]
+#[derive(Clone, Copy)]
 pub struct Field {
     pub numbers: [bool; 60],
     pub is_empty: bool,

@@ -5,7 +5,7 @@ ghost use Rattle.sk_cron.specs.Reading.{after, after_number, after_star, asks, b
 use crate::{Bounds, Part};
 
 /// Which number of a part it is.
-#[derive(Clone, Copy, Debug, PartialEq, Eq)]
+#[derive(Clone, Copy)]
 pub enum Role {
     First,
     /// The last one of a range, whose first one is this.
@@ -17,7 +17,7 @@ pub enum Role {
 }
 
 /// Where in a field the reader is.
-#[derive(Clone, Copy, Debug, PartialEq, Eq)]
+#[derive(Clone, Copy)]
 pub enum ParserState {
     /// Behind a field and a space.
     Gap,
@@ -32,7 +32,7 @@ pub enum ParserState {
 }
 
 /// Where a byte leads.
-#[derive(Clone, Copy, Debug, PartialEq, Eq)]
+#[derive(Clone, Copy)]
 pub enum Next {
     Stays(ParserState),
     /// The part is whole, and another one follows in its field.

@@ -5,7 +5,7 @@ ghost use Rattle.sk_cron.specs.Times.{has, step_of};
 use crate::Bounds;
 
 /// What stands between two commas of a field.
-#[derive(Clone, Copy, Debug, PartialEq, Eq)]
+#[derive(Clone, Copy, PartialEq, Eq)]
 pub enum Part {
     Number(u8),
     /// From the first number to the last, and how far apart.

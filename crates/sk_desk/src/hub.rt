@@ -22,7 +22,7 @@ use std::marker::Model;
 use std::sync::{Mutex, Wait};
 
 /// Why there is no seat.
-#[derive(Clone, Copy, Debug, PartialEq, Eq)]
+#[derive(Clone, Copy)]
 pub enum HubFault {
     /// The pass has no number left.
     Spent,

@@ -3,7 +3,7 @@ ghost use Rattle.std.specs.Prelude.{◌≡◌, ◌<◌};
 ghost use Rattle.sk_drill.specs.Actors.{actor_of, process_of, queue_of};
 
 /// Who acts in a turn.
-#[derive(Clone, Copy, Debug, PartialEq, Eq)]
+#[derive(Clone, Copy)]
 pub(crate) enum Actor {
     /// A client pushes the next job.
     Client,

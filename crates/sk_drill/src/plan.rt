@@ -1,7 +1,7 @@
 // What each thread of a drill knows of it.
 
 /// What each thread of a drill knows of it.
-#[derive(Clone, Copy, Debug, PartialEq, Eq)]
+#[derive(Clone, Copy)]
 pub struct Plan {
     /// What the words of crashes and dices are made from.
     pub seed: u64,

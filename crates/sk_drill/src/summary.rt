@@ -9,7 +9,7 @@ use sk_status::{Tally, tally_text};
 use std::alloc::Global;
 
 /// What a soak or a drill came to.
-#[derive(Clone, Copy, Debug, PartialEq, Eq, Drop)]
+#[derive(Clone, Copy, Drop)]
 pub struct Summary {
     /// How many events there were.
     pub events: u64,

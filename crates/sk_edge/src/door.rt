@@ -48,7 +48,7 @@ pub trait Ear: Drop {
 }
 
 /// Why a door gave nothing.
-#[derive(Clone, Copy, Debug, PartialEq, Eq)]
+#[derive(Clone, Copy, PartialEq, Eq)]
 pub enum DoorFault {
     /// The door failed: its count rose.
     Failed,

@@ -7,7 +7,7 @@ use sk_resp::Reply;
 use sk_worker::Raised;
 
 /// Where a call stopped.
-#[derive(Debug, Drop)]
+#[derive(Drop)]
 pub enum IterEnd {
     /// Every item has returned.
     Done,

@@ -11,7 +11,7 @@ use sk_link::Link;
 use std::alloc::Global;
 
 /// Where a call began, and where it stopped.
-#[derive(Debug, Drop)]
+#[derive(Drop)]
 pub struct Iteration {
     /// The cursor that it read: the number of the first item that it might run.
     pub cursor: u64,

@@ -9,7 +9,7 @@ use sk_cmd::Scored;
 use sk_resp::{Text, Word};
 
 /// What the name of a key means to the store.
-#[derive(Clone, Copy, Debug, PartialEq, Eq)]
+#[derive(Clone, Copy)]
 pub enum KeyClass {
     /// A key of the clients' own.
     Plain,

@@ -12,7 +12,7 @@ use sk_resp::{Reply, Text};
 use std::alloc::Global;
 
 /// A slot of a limiter, with the token that stands in it until its time is over or it is given back.
-#[derive(Debug, Drop)]
+#[derive(Drop)]
 pub struct HeldSlot {
     /// The limiter's name, of at most 100 bytes.
     pub name: Text,

@@ -10,7 +10,7 @@ use sk_resp::{Reply, Words};
 use std::alloc::Global;
 
 /// What is asked of a window's key.
-#[derive(Clone, Copy, Debug)]
+#[derive(Clone, Copy)]
 pub(crate) enum Stage {
     /// It makes the window, where there is none.
     Opening,
@@ -23,7 +23,7 @@ pub(crate) enum Stage {
 }
 
 /// What follows.
-#[derive(Clone, Copy, Debug)]
+#[derive(Clone, Copy)]
 pub(crate) enum Next {
     Ask(Stage),
     /// The grant was counted so.

@@ -10,7 +10,7 @@ use sk_resp::{Reply, Say, Words};
 use std::alloc::Global;
 
 /// What a request wants as its answer.
-#[derive(Clone, Copy, Debug, PartialEq, Eq)]
+#[derive(Clone, Copy)]
 pub enum Answer {
     /// `+OK`
     Okay,

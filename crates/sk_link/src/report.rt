@@ -8,7 +8,7 @@ use sk_base::limits::MOST_REPORTED;
 use sk_resp::Reply;
 
 /// The numbers of a report: how many rows a command moved to queues, and how many it buried, each from 0 to 2^62.
-#[derive(Clone, Copy, Debug, PartialEq, Eq)]
+#[derive(Clone, Copy)]
 pub struct Report {
     pub moved: u64,
     pub buried: u64,

@@ -51,7 +51,7 @@ pub enum Through {
 }
 
 /// Why a function isn't added.
-#[derive(Clone, Copy, Debug, PartialEq, Eq, Drop)]
+#[derive(Clone, Copy, Drop)]
 pub enum ChainFault {
     /// The name is no name of at most 255 bytes.
     Name,

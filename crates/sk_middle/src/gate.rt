@@ -9,7 +9,7 @@ use sk_payload::Head;
 use sk_worker::Raised;
 
 /// What a gate says of a run that is to begin.
-#[derive(Debug, Drop)]
+#[derive(Drop)]
 pub enum Verdict {
     /// The job behind the gate runs.
     Go,

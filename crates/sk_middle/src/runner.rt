@@ -1,7 +1,7 @@
 // Whose a run is.
 
 /// Whose a run of a wrapped job is.
-#[derive(Clone, Copy, Debug, PartialEq, Eq, Drop)]
+#[derive(Clone, Copy, Drop)]
 pub enum Runner {
     /// The inner job ran.
     Inner,

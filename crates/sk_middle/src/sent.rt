@@ -10,7 +10,7 @@ use sk_payload::JobDraft;
 use std::alloc::Global;
 
 /// What came of a push through a chain.
-#[derive(Clone, Copy, Debug, PartialEq, Eq, Drop)]
+#[derive(Clone, Copy, Drop)]
 pub enum Sent {
     /// The draft that the chain gave was pushed.
     Pushed,

@@ -1,7 +1,7 @@
 // How much a store takes.
 
 /// How much a store takes before it refuses a push.
-#[derive(Clone, Copy, Debug, PartialEq, Eq)]
+#[derive(Clone, Copy)]
 pub struct Limits {
     /// The most rows in queues, private lists and sets together.
     pub rows: u64,

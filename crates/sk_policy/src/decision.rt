@@ -7,7 +7,7 @@ use sk_base::limits::{DEFAULT_RETRIES, LAST_MOMENT, LONGEST_DELAY};
 use sk_payload::{Head, Retry};
 
 /// What becomes of a job whose run failed.
-#[derive(Clone, Copy, Debug, PartialEq, Eq)]
+#[derive(Clone, Copy)]
 pub enum Decision {
     /// It is tried again at this moment, as a score of the set `retry`.
     Retry(Score),

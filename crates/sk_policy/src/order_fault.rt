@@ -6,7 +6,7 @@ use std::alloc::AllocError;
 
 /// Why a list of queues is no order. A place is an index into the list, from 0, and the first place that is wrong is named. Of two faults at one
 /// place the name's comes first, and the weight's last.
-#[derive(Clone, Copy, Debug, PartialEq, Eq)]
+#[derive(Clone, Copy)]
 pub enum OrderFault {
     /// The list is empty.
     Empty,

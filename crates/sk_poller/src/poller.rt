@@ -8,7 +8,7 @@ use sk_cron::Cron;
 use sk_resp::Text;
 
 /// A periodic job (Sidekiq Enterprise, wiki page "Ent Periodic Jobs").
-#[derive(Debug, Drop)]
+#[derive(Drop)]
 pub struct Loop {
     /// A name of at most 255 bytes.
     pub name: Text,

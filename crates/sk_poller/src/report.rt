@@ -4,7 +4,7 @@ use sk_link::LinkFault;
 use sk_resp::Reply;
 
 /// What a turn did.
-#[derive(Clone, Copy, Debug, PartialEq, Eq)]
+#[derive(Clone, Copy)]
 pub struct PollReport {
     /// Due jobs that went from the schedule and the retries to their queues.
     pub promoted: u64,

@@ -8,6 +8,7 @@ pub mod Name
 pub mod Kind
 pub mod Refusal
 pub mod Reply
+pub mod Errors
 pub mod ReplySize
 pub mod ReplyStream
 pub mod ReplyMachine

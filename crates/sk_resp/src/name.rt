@@ -3,7 +3,7 @@ ghost use Rattle.std.specs.Prelude.{◌≡◌};
 ghost use Rattle.sk_resp.specs.Name.{spelling};
 
 /// A command of the store, or one of the words that only a pipe knows.
-#[derive(Clone, Copy, Debug, PartialEq, Eq)]
+#[derive(Clone, Copy)]
 pub enum Name {
     /// `LPUSH key element ..`
     Lpush,

@@ -3,7 +3,7 @@ ghost use Rattle.std.specs.Prelude.{◌≡◌};
 ghost use Rattle.sk_resp.specs.Refusal.{refusal_text};
 
 /// Why the store refuses a command that is right in form. A refused command changes nothing.
-#[derive(Clone, Copy, Debug, PartialEq, Eq)]
+#[derive(Clone, Copy)]
 pub enum Refusal {
     /// The key is one that the store manages, and this write on it isn't one of those that it allows.
     ManagedKey,

@@ -1,5 +1,6 @@
 // Replies, and their text.
 ghost use Rattle.std.specs.Prelude.{◌≡◌, ◌++◌, OnOk, map};
+ghost use Rattle.sk_resp.specs.Errors.{is_error};
 ghost use Rattle.sk_resp.specs.Reply.{wire};
 
 mod fault;
@@ -41,6 +42,19 @@ pub enum Reply {
     Array(Replies),
     /// `*-1` on a line. The store never answers it.
     NullArray,
+}
+
+impl Reply {
+    /// An error: its text begins with `-`.
+    pub fn is_error(&self) -> bool
+        ensures { result ≡ is_error self.now }
+    {
+        match self {
+            Reply::Say(say) => say.is_error(),
+            Reply::Error(_) => true,
+            _ => false,
+        }
+    }
 }
 
 /// The elements of an array. Contracts see them as the list of their texts: two replies with one text are one reply.

@@ -1,11 +1,12 @@
 // The replies with a fixed text. They hold no memory.
 ghost use Rattle.std.specs.Prelude.{◌≡◌, ◌++◌, OnOk};
+ghost use Rattle.sk_resp.specs.Errors.{says_error};
 ghost use Rattle.sk_resp.specs.Reply.{say_text, fault_text, shown};
 
 use crate::{Kind, Memory, Name, Refusal, WireFault};
 
 /// One of the fixed texts.
-#[derive(Clone, Copy, Debug, PartialEq, Eq)]
+#[derive(Clone, Copy)]
 pub enum Say {
     /// `+OK`
     Ok,
@@ -37,6 +38,15 @@ pub enum Say {
     Oom,
     /// `-ERR Protocol error: ..`, as the stream's fault says
     Protocol(WireFault),
+}
+
+impl Say {
+    /// The text is an error's: it begins with `-`.
+    pub fn is_error(self) -> bool
+        ensures { result ≡ says_error self }
+    {
+        !matches!(self, Say::Ok | Say::Pong | Say::Kind(_))
+    }
 }
 
 // The byte as a text shows it.

@@ -5,7 +5,7 @@ ghost use Rattle.sk_resp.specs.declared.wire_fault.WireFault.TheVariants.{Memory
 use std::alloc::{AllocError, AllocFailed};
 
 /// A fault of a stream of requests. Each stands at one byte of the stream, and the connection ends there.
-#[derive(Clone, Copy, Debug, PartialEq, Eq)]
+#[derive(Clone, Copy)]
 pub enum WireFault {
     /// The line behind `*` is no canonical integer of 64 bits, or above 65,536, or has no CR before its LF, or more than 32 bytes before it.
     /// It stands at the LF, or at the first byte past 32.

@@ -1,3 +1,4 @@
 pub mod Counting
 pub mod Seating
 pub mod Working
+pub mod Upwards

@@ -1,11 +1,14 @@
 // What the seats are doing. A worker's seat is kept with its phase, by its number; every other seat is Plain. The jobs in a seat's hands change
 // without memory. A filter counts the jobs in all hands, so that the seats are looked at only for a job that they may have.
 ghost use Rattle.std.specs.Prelude.{◌≡◌, ◌<◌, [], IfOk, OnErr, OnOk, false, length, option_copied, replicate};
+ghost use Rattle.std.specs.BTreeMap.Range.{entries_between};
 ghost use Rattle.std.specs.Map.{values_of};
+ghost use Rattle.std.specs.Ordering.{nat_cmp};
 ghost use Rattle.sk_payload.specs.Head.{names};
 ghost use Rattle.sk_seats.specs.Phases.{has, holding, is_plain, or_plain, phase_in, releasing_at, staging_at, turned, works_of};
 ghost use Rattle.sk_seats.specs.Held.{held_by};
 ghost use Rattle.sk_seats.specs.JobFilter.{with_phases, without_jobs};
+ghost use Rattle.sk_seats.specs.Next.{IsNext, first_joined};
 ghost use Rattle.sk_seats.specs.Order.{InOrder};
 ghost use Rattle.sk_seats.specs.Works.{most_works};
 
@@ -19,6 +22,7 @@ use sk_resp::{Memory, Text};
 use std::alloc::Global;
 use std::collections::BTreeMap;
 use std::marker::Model;
+use std::ops::Bound;
 
 // How many counts there are at least for each seat: 64 for each job that it may have. With all hands full a place of a job is then another's once in
 // 21 times, and all three are about once in ten thousand.
@@ -87,6 +91,18 @@ impl Seats {
             }
         }
         false
+    }
+
+    /// The least seat above this one that isn't Plain, or the least of all where none is given. None exactly where there is none. Logarithmic, and
+    /// takes no memory.
+    #[tactic(auto, using(crate::proofs::Upwards::next_above, crate::proofs::Upwards::next_of_all))]
+    pub fn next(&self, after: Option<u32>) -> Option<u32>
+        ensures { IsNext self.now after result }
+    {
+        match after {
+            Some(seat) => first_from(&self.phases, Bound::Excluded(seat)),
+            None => first_from(&self.phases, Bound::Unbounded),
+        }
     }
 
     // There are counts enough for one more seat. Where they are too few, the works of all seats are counted anew, with room for twice as many seats.
@@ -159,6 +175,18 @@ impl Seats {
         count_out(&mut self.in_hands, self.phases.get(&seat));
         let_go(self.phases.remove(&seat));
     }
+}
+
+// The first seat from a bound on that isn't Plain.
+fn first_from(phases: &BTreeMap<u32, Phase>, start: Bound<u32>) -> Option<u32>
+    ensures { result ≡ first_joined (entries_between nat_cmp start Bound.Unbounded phases.now.entries) }
+{
+    for (seat, phase) in phases.range((start, Bound::Unbounded)) {
+        if let Phase::Joined(..) = phase {
+            return Some(*seat);
+        }
+    }
+    None
 }
 
 // No longer counts the jobs in the hands of a seat with this phase.

@@ -16,7 +16,7 @@ use std::marker::Model;
 use std::sync::Wait;
 
 /// How an accept loop ended.
-#[derive(Clone, Copy, Debug, PartialEq, Eq)]
+#[derive(Clone, Copy, PartialEq, Eq)]
 pub enum LoopEnd {
     /// It served as many connections as it was to, or another loop had ended.
     Done,

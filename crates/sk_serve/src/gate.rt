@@ -13,7 +13,7 @@ pub trait Gate: Sync {
 }
 
 /// Holds nothing back.
-#[derive(Clone, Copy, Debug, PartialEq, Eq)]
+#[derive(Clone, Copy)]
 pub struct OpenGate;
 
 impl Gate for OpenGate {

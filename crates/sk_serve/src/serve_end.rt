@@ -5,7 +5,7 @@ ghost use Rattle.sk_serve.specs.Ending.{end_of};
 use sk_status::Tally;
 
 /// What a server did.
-#[derive(Clone, Copy, Debug, PartialEq, Eq)]
+#[derive(Clone, Copy)]
 pub struct Served {
     /// How many connections were served.
     pub sessions: u64,
@@ -16,7 +16,7 @@ pub struct Served {
 }
 
 /// How a server ended. Of several causes it is the first of these.
-#[derive(Clone, Copy, Debug, PartialEq, Eq)]
+#[derive(Clone, Copy)]
 pub enum ServeEnd {
     /// A session ended by SHUTDOWN, or each loop served as many connections as it was to.
     Served(Served),
@@ -29,7 +29,7 @@ pub enum ServeEnd {
 }
 
 /// Why the loops of a server ended before they were done.
-#[derive(Clone, Copy, Debug, PartialEq, Eq)]
+#[derive(Clone, Copy)]
 pub enum ServeFault {
     Failed,
     Spent,

@@ -5,7 +5,7 @@ use sk_resp::Text;
 use std::marker::Model;
 
 /// Queues with the number of their jobs. Contracts see the list.
-#[derive(Debug, Drop)]
+#[derive(Drop)]
 pub struct Counts {
     list: Vec<(Text, u64)>,
 }

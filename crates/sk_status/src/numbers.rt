@@ -9,7 +9,7 @@ use crate::line::write_line;
 use std::alloc::Global;
 
 /// What the page tells.
-#[derive(Debug, Drop)]
+#[derive(Drop)]
 pub struct Numbers {
     /// Runs that came to an end, whether the job returned or failed.
     pub processed: u64,

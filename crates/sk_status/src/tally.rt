@@ -8,7 +8,7 @@ use crate::line::write_line;
 use std::alloc::Global;
 
 /// Rows by how they came, and jobs by how they ended. `outside + inner` is the sum of all others.
-#[derive(Clone, Copy, Debug, PartialEq, Eq, Drop)]
+#[derive(Clone, Copy, Drop)]
 pub struct Tally {
     /// Rows that clients pushed.
     pub outside: u64,

@@ -6,7 +6,7 @@ ghost use Rattle.sk_value.specs.Answer.{fault_say};
 use sk_resp::{Memory, Say};
 
 /// Why a command on plain keys is refused. All is then as before.
-#[derive(Clone, Copy, Debug, PartialEq, Eq)]
+#[derive(Clone, Copy)]
 pub enum KeysFault {
     /// The key holds a value of another kind than the command is for.
     WrongType,

@@ -7,7 +7,7 @@ use sk_resp::Text;
 use std::alloc::Global;
 
 /// The error of a run.
-#[derive(Debug, Drop)]
+#[derive(Drop)]
 pub struct Raised {
     /// The name of its class. A retry keeps its first 255 characters.
     pub class: Text,
@@ -16,7 +16,7 @@ pub struct Raised {
 }
 
 /// What a run came to.
-#[derive(Debug, Drop)]
+#[derive(Drop)]
 pub enum Outcome {
     Returned,
     Raised(Raised),

@@ -72,7 +72,7 @@ pub struct Registry {
 }
 
 /// Why a class isn't added.
-#[derive(Debug, Drop)]
+#[derive(Drop)]
 pub enum AddFault {
     /// This class is there already.
     Repeated(Text),

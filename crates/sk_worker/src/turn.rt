@@ -3,7 +3,7 @@ use sk_link::LinkFault;
 use sk_resp::Reply;
 
 /// What a turn did.
-#[derive(Clone, Copy, Debug, PartialEq, Eq)]
+#[derive(Clone, Copy)]
 pub enum Turn {
     /// It held no job, and each queue was empty.
     Empty,

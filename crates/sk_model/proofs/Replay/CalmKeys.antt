@@ -28,7 +28,7 @@ use Rattle.sk_value.specs.Values.{is_empty, edit_in, blank, as_value}
 use Rattle.sk_value.specs.Keys.{Keys, at}
 use Rattle.sk_value.specs.Apply.{Applied, Turn, Stays, after, latest, applied, answers, carry, deadline_at, deadline_of, edit_at, edited, expire_at, expires_at, give_at, holds_string, keeps, list_at, move_keys, move_list, refuses, set_at, set_until, turn_list, turns}
 use Rattle.sk_model.specs.Outcome.{reply_of}
-use Rattle.sk_model.specs.Replay.{is_error}
+use Rattle.sk_resp.specs.Errors.{is_error}
 use Rattle.sk_model.proofs.Replay.Calm.{Mild, MildTurn, mild_turn, mild_either, mild_either_turn}
 
 -- ## Edits

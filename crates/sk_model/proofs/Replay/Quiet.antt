@@ -11,7 +11,7 @@ use Rattle.sk_model.specs.World.{World}
 use Rattle.sk_model.specs.Change.{perform}
 use Rattle.sk_model.specs.Outcome.{Outcome, says, refuses}
 use Rattle.sk_model.specs.Step.{by_seat}
-use Rattle.sk_model.specs.Replay.{is_quiet}
+use Rattle.sk_cmd.specs.ReadOnly.{is_quiet}
 
 -- an answer or a refusal
 silent : (w : World) (b : Bool) (reply : Reply) → perform w (cond b (says reply) (refuses OutOfTurn)).changes ≡ w

@@ -3,10 +3,12 @@ use Rattle.std.proofs.Common.{◌≡◌, ◌⊎◌, ◌≤◌, inl, inr, refl, s
 use Rattle.std.specs.Prelude.{Option, Some, None, Ok, Err}
 use Rattle.sk_base.specs.Score.{last_moment}
 use Rattle.sk_resp.specs.Spelling.{Bytes}
+use Rattle.sk_resp.specs.Errors.{is_error, says_error}
 use Rattle.sk_resp.specs.declared.reply.Reply.{Reply}
 use Rattle.sk_resp.specs.declared.reply.Reply.TheVariants as reply
 use Rattle.sk_resp.specs.declared.say.Say.TheVariants as say
 use Rattle.sk_cmd.specs.Fault.{fault_say}
+use Rattle.sk_cmd.specs.ReadOnly.{is_quiet}
 use Rattle.sk_cmd.specs.Reading.{Read}
 use Rattle.sk_cmd.specs.Table.{IsRead}
 use Rattle.sk_cmd.specs.declared.cmd_fault.CmdFault.{CmdFault}
@@ -27,7 +29,7 @@ use Rattle.sk_model.specs.Reading.{Words}
 use Rattle.sk_model.specs.Event.{Event, Ask, Cut, ResultsIn, Happens, Run, Step, after, world_after}
 use Rattle.sk_model.specs.Starving.{IsServed}
 use Rattle.sk_model.specs.declared.limits.Limits.{Limits}
-use Rattle.sk_model.specs.Replay.{Entry, Idles, IsKept, Logged, Replay, Rerun, Served, Written, acted, entry_of, is_error, is_fault, is_quiet, told}
+use Rattle.sk_model.specs.Replay.{Entry, Idles, IsKept, Logged, Replay, Rerun, Served, Written, acted, entry_of, told}
 use Rattle.sk_model.proofs.Replay.Calm.{Calm}
 use Rattle.sk_model.proofs.Replay.CalmCommands.{calm_by_seat, calm_run}
 use Rattle.sk_model.proofs.Replay.Quiet.{quiet_by_seat}
@@ -102,7 +104,7 @@ quiet_still : (w : World) (seat now : ℕ) (c : Command) → is_quiet c ≡ true
 quiet_still w seat now (command.Plain c) quiet = quiet_by_seat (passed now w) seat (phase_of w seat) c quiet
 quiet_still w seat now (command.Script c) quiet = absurd (cc quiet)
 
-is_told_fault : (f : CmdFault) → is_fault (fault_say f) ≡ true
+is_told_fault : (f : CmdFault) → says_error (fault_say f) ≡ true
 is_told_fault fault.Unknown = refl
 is_told_fault (fault.Arity name) = refl
 is_told_fault fault.NotInt = refl

@@ -5,7 +5,7 @@ ghost use Rattle.sk_resp.specs.declared.reply.fault.ReplyFault.TheVariants.{Memo
 use std::alloc::{AllocError, AllocFailed};
 
 /// A fault of a stream of replies. The connection ends there.
-#[derive(Clone, Copy, Debug, PartialEq, Eq)]
+#[derive(Clone, Copy)]
 pub enum ReplyFault {
     /// No list of replies within the limits begins with the bytes. It stands at the first byte of which that is so.
     Unreadable,

@@ -16,7 +16,7 @@ use std::alloc::Global;
 pub const SHORTEST_REPLY: usize = 3;
 
 /// What the number in a line is.
-#[derive(Clone, Copy, Debug, PartialEq, Eq)]
+#[derive(Clone, Copy)]
 pub enum Kind {
     /// An integer.
     Int,
@@ -75,7 +75,7 @@ impl Kind {
 }
 
 /// What the next byte is part of.
-#[derive(Clone, Copy, Debug, PartialEq, Eq)]
+#[derive(Clone, Copy)]
 pub enum Stage {
     /// The mark of a reply.
     Start,

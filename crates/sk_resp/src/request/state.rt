@@ -5,7 +5,7 @@ use crate::Word;
 use std::alloc::Global;
 
 /// What the next byte is part of.
-#[derive(Clone, Copy, Debug, PartialEq, Eq)]
+#[derive(Clone, Copy)]
 pub enum Stage {
     /// The first byte of an item.
     Start,
