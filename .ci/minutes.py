@@ -6,6 +6,8 @@
 The command keeps its input and output, and its status is ours, whatever goes wrong here. Every two seconds /proc tells which processes of it
 there are. A process `rattle` counts for the crate that it names: as an edit where it stands in a folder of edits, else as a test, else as a
 proof; each other process counts as `other`. What ended between two looks is only in the sum, which the system counts.
+The last line tells the machine's load as well: how much of its processors' time went to what isn't of the command. Beside much else the same
+proof takes more processor seconds, so a figure says little without it.
 """
 import collections
 import os
@@ -18,6 +20,7 @@ import threading
 import time
 
 CEILING = 200                                   # processor minutes that the gate may take
+QUIET = 5                                       # percent of the processors' time that others may take of a quiet machine
 SECONDS = 2
 TICKS = os.sysconf('SC_CLK_TCK')
 COLUMNS = ('proof', 'tests', 'edits')
@@ -118,10 +121,17 @@ class Meter:
 
 
 def busy():
-    """The seconds in which the machine's processors have done something."""
+    """The seconds in which the machine's processors have done something, for us or, where the machine is a guest, for its host's others."""
     with open('/proc/stat') as it:
-        words = [int(word) for word in it.readline().split()[1:8]]
+        words = [int(word) for word in it.readline().split()[1:9]]
     return (sum(words) - words[3] - words[4]) / TICKS        # (not idle, not waiting for a disk)
+
+
+def load(others, wall, processors):
+    """What the figures were measured under: how much of the processors' time went to what isn't of the command."""
+    share = 100 * others / (wall * processors)
+    how = 'a quiet machine' if share < QUIET else 'a busy machine, on which the same work takes more processor minutes'
+    return 'What else ran took %.1f processor minutes, %.0f %% of the %d processors: %s.' % (others / 60, share, processors, how)
 
 
 def row(*cells):
@@ -148,10 +158,10 @@ def report(meter, command, wall, of_all):
     crates, names = meter.by_crate()
     used = resource.getrusage(resource.RUSAGE_CHILDREN)
     total = max(used.ru_utime + used.ru_stime, seen(crates, names))
-    others = max(of_all - total, 0)
+    processors = len(os.sched_getaffinity(0))
+    said = load(max(of_all - total, 0), wall, processors)
     lines = ['', 'Processor minutes of `%s`, by `.ci/minutes.py`:' % ' '.join(command), '', *table(crates, names, total), '']
-    lines.append('%.1f processor minutes, in %.1f minutes on %d processors. What else ran on the machine took %.1f, as much as %.1f processors.'
-                 % (total / 60, wall / 60, len(os.sched_getaffinity(0)), others / 60, others / wall))
+    lines.append('%.1f processor minutes, in %.1f minutes on %d processors. %s' % (total / 60, wall / 60, processors, said))
     if total > CEILING * 60:
         lines.append('!!! %.0f PROCESSOR MINUTES: MORE THAN THE %d THAT THE GATE MAY TAKE !!!' % (total / 60, CEILING))
     print('\n'.join(lines), flush=True)

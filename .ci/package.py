@@ -160,9 +160,8 @@ def man_page(deb, root):
         assert len(commands) == 9, usage
         for name in commands:
             assert re.search(r'(?m)^ +sidekiq %s\b' % name, text), name
-            if name != 'pipe':
-                for option in re.findall(r'--[a-z-]+', output(root / 'usr/bin/sidekiq', name, '--help').partition('Options:')[2]):
-                    assert option in text or option == '--help', (name, option)
+            for option in re.findall(r'--[a-z-]+', output(root / 'usr/bin/sidekiq', name, '--help').partition('Options:')[2]):
+                assert option in text or option == '--help', (name, option)
 
 
 def units(deb, root):

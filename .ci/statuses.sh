@@ -1,6 +1,6 @@
 #!/bin/sh
-# Runs the program until each exit status that a machine can bring about, and compares. Three aren't brought about: 5, want of memory; 8,
-# since the journal of a drill has what its threads tell; and 9, which comes only after 2^40 bytes.
+# Runs the program until each exit status that a machine can bring about, and compares. Four aren't brought about: 5, want of memory; 8,
+# since the journal of a drill has what its threads tell; 9, which comes only after 2^40 bytes; and 12, of a file of 2^50 bytes.
 #
 #     statuses.sh PROGRAM
 #
@@ -35,6 +35,42 @@ if [ -w /dev/full ]; then
     printf 'PING\r\n' | "$program" pipe >/dev/full
     expect 'a write that fails' 4 $?
 fi
+# A store that a file keeps: WHAT, the status, what is written, the commands and the words behind `pipe`.
+log() {
+    what=$1 status=$2 wanted=$3 commands=$4
+    shift 4
+    said=$(printf "$commands" | "$program" pipe "$@" 2>/dev/null)
+    expect "$what" "$status" $?
+    [ "$said" = "$(printf -- "$wanted")" ] || { echo "statuses: $what: '$said' in place of '$wanted'"; failed=1; }
+}
+kept=$(mktemp -d)
+log 'a file that is made' 0 ':1\r' 'LPUSH jobs one\r\n' --log "$kept/log"
+size=$(wc -c <"$kept/log")
+log 'the same file again' 0 ':1\r' 'LLEN jobs\r\n' --log="$kept/log"
+[ "$(wc -c <"$kept/log")" -eq "$size" ]
+expect 'a file that only reads leave as it is' 0 $?
+log 'a fault of the stream behind a file' 1 '-ERR Protocol error: quotes in inline request\r' 'PING "x\r\n' --log "$kept/log"
+log 'a folder that is not there' 10 '' 'PING\r\n' --log "$kept/none/log"
+log 'a folder in place of a file' 10 '' 'PING\r\n' --log "$kept"
+printf abc >"$kept/abc"
+log 'a file that is no log' 11 'not a log' 'PING\r\n' --log "$kept/abc"
+[ "$(cat "$kept/abc")" = abc ]
+expect 'a file that is no log stays as it is' 0 $?
+printf 'SKLOG001\001\000\000\000\001x\000' >"$kept/damaged"
+log 'a file that is damaged' 11 'damaged at 8' 'PING\r\n' --log "$kept/damaged"
+log 'no file behind --log' 2 '' 'PING\r\n' --log
+log 'an empty name of a file' 2 '' 'PING\r\n' --log ''
+log 'a word behind the file' 2 '' 'PING\r\n' --log "$kept/log" more
+mkfifo "$kept/commands"
+"$program" pipe --log "$kept/log" <"$kept/commands" >"$kept/replies" 2>/dev/null &
+exec 3>"$kept/commands"
+printf 'PING\r\n' >&3
+until [ -s "$kept/replies" ]; do sleep 0.05; done
+log 'a file that another process has open' 10 '' 'PING\r\n' --log "$kept/log"
+exec 3>&-
+wait $!
+expect 'the process that had it' 0 $?
+rm -rf "$kept"
 "$program" serve --port 0 </dev/null 2>/dev/null
 expect 'a port of 0' 2 $?
 "$program" serve --loops 65 </dev/null 2>/dev/null
@@ -88,7 +124,8 @@ help() {                                # WHAT FRONT WORD.. : it begins so, on s
 help 'the help of the program' 'usage: sidekiq pipe ' --help
 help 'the same, in short' 'usage: sidekiq pipe ' -h
 help 'the same, by a command' 'usage: sidekiq pipe ' help
-help 'help of the pipe' 'usage: sidekiq pipe ' pipe --help
+"$program" pipe --help 2>/dev/null | grep -q '^Usage: sidekiq pipe '
+expect 'the help of the pipe' 0 $?
 "$program" work --help 2>/dev/null | grep -q '^Usage: sidekiq work '
 expect 'the help of a command' 0 $?
 "$program" help work 2>/dev/null | grep -q '^Usage: sidekiq work '

@@ -4,22 +4,23 @@ divided by their number, once what a program with one job takes is left out. End
 
     bench/bytes.py [JOBS]             300,000, if left out
 """
-import os
 import subprocess
 import sys
 
-from client import PROGRAM, command, job
+from client import PROGRAM, Pipe, command, job
 
 BAR = 400
 
 
 def greatest(jobs):
     """The greatest size of a pipe to which so many jobs are pushed, in bytes."""
-    pipe = subprocess.Popen([PROGRAM, 'pipe'], stdin=subprocess.PIPE, stdout=subprocess.DEVNULL)
+    pipe = Pipe()
     for at in range(0, jobs, 1_000):
-        pipe.stdin.write(b''.join(command(b'LPUSH', b'queue:default', job(n)) for n in range(at, min(jobs, at + 1_000))))
-    pipe.stdin.close()
-    return 1024 * os.wait4(pipe.pid, 0)[2].ru_maxrss
+        rows = range(at, min(jobs, at + 1_000))
+        pipe.replied(b''.join(command(b'LPUSH', b'queue:default', job(n)) for n in rows), sum(len(b':%d\r\n' % (n + 1)) for n in rows))
+    size = pipe.greatest()
+    pipe.end()
+    return size
 
 
 def main():

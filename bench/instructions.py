@@ -18,19 +18,11 @@ import sys
 import tempfile
 
 import tap
+from client import command, job
 
 TOP = os.path.dirname(os.path.dirname(os.path.abspath(__file__)))
 PROGRAM = os.path.join(TOP, 'bin', 'sidekiq')
 NOW = b'1700000000000'
-
-
-def command(*words):
-    return b'*%d\r\n' % len(words) + b''.join(b'$%d\r\n%s\r\n' % (len(word), word) for word in words)
-
-
-def job(n, batch=b''):
-    """A job of 118 bytes, or a member of a batch."""
-    return b'{"args":[1],%s"class":"Note","created_at":%s,"jid":"%024d","queue":"default","retry":true}' % (batch, NOW, n)
 
 
 def letter(n):
@@ -85,6 +77,21 @@ def beside(seats, rounds):
     return busy(seats) + cycle(10, rounds)
 
 
+def oldest(seats, rounds):
+    """Seats of one process with sixteen jobs each, which are done in the order in which they came: the one that is released is the oldest of all."""
+    take = command(b'LMOVE', b'queue:default', b'sq:w', b'RIGHT', b'LEFT')
+    made = [command(b'SK.NOW', NOW), command(b'SK.BEAT', b'w')]
+    for seat in range(seats):
+        made += [command(b'SK.AS', b'%d' % (1 + seat)), command(b'SK.JOIN', b'w')]
+        made += [command(b'LPUSH', b'queue:default', job(15 * seat + n)) + take for n in range(15)]
+    for n in range(rounds):
+        made += [command(b'SK.AS', b'%d' % (1 + n // 15 % seats))] if n % 15 == 0 else []
+        text = job(n)
+        made += [command(b'LPUSH', b'queue:default', job(15 * seats + n)), take, command(b'SK.START', text), command(b'SK.OK', text),
+                 command(b'LREM', b'sq:w', b'1', text)]
+    return b''.join(made)
+
+
 def schedule(rows, rounds):
     return b''.join(command(b'ZADD', b'schedule', b'%d' % (1_700_000_000 + n * 7919 % 100_003), job(n)) for n in range(rows + rounds))
 
@@ -136,6 +143,7 @@ WORKLOADS = [
     ('a job pushed, fetched, started, done, released, 10 rows', cycle, 10, 300, 36_000),
     ('the same, 1,000 rows', cycle, 1_000, 300, 36_000),
     ('the same, 10 rows, beside 64 seats of 16 jobs each', beside, 64, 300, 36_000),
+    ('the same, of 16 seats of one process, the oldest of its 256 jobs', oldest, 16, 300, 100_000),
     ('ZADD of one more job on a schedule of 1,000', schedule, 1_000, 100, 30_000),
     ('the same, of 10,000', schedule, 10_000, 20, 33_000),
     ('SK.DUE of one job of 10,000', due, 10_000, 300, 60_000),

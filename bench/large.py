@@ -1,12 +1,15 @@
 #!/usr/bin/env python3
-"""Three large inputs through `sidekiq pipe`, each reply checked. Each has to end within 60 seconds.
+"""Large inputs through `sidekiq pipe`, each reply checked. Each has to end within 60 seconds.
 
-    bench/large.py                    300,000 members, and 200,000 jobs
+    bench/large.py                    300,000 members, 200,000 jobs, and 100,000 to delete
     bench/large.py --part 10          a tenth of each
 
 - ranks    ZADD of members in falling score, so that each goes before all others; then what stands at each rank, which is a ZRANGE of one
 - pushes   an LPUSH of each job alone
 - batch    a batch of as many jobs: each is fetched, started, done and released, and the last one fires `complete` and `success`
+- ZREM, DEL, FLUSHALL   one command that takes many jobs at once, while no other client is answered: 3,999 texts of a schedule, a whole queue, and
+           all that there is. Of these the time that the command has a processor is measured. Its bound is some twenty times what it takes: who
+           misses it has lost an index
 
 The script ends with status 1 where a reply is wrong or the time is over. Wanted: python3, and the program, which bin/sidekiq builds; `SIDEKIQ` names
 another one.
@@ -16,9 +19,11 @@ import subprocess
 import sys
 import time
 
-from client import PROGRAM, command, job
+from client import PROGRAM, Pipe, command, job
 
 MEMBERS, JOBS, SECONDS = 300_000, 200_000, 60
+ROWS = 100_000      # jobs that stand when many are deleted
+TEXTS = 3_999       # of one ZREM
 ADDED = 1_000       # jobs in one SK.BPUSH or SK.BADD
 OK = b'+OK\r\n'
 
@@ -46,7 +51,7 @@ def pushes(count):
 
 
 def batch(count):
-    jobs = [job(n).replace(b'"class"', b'"bid":"b","class"') for n in range(count)]
+    jobs = [job(n, b'"bid":"b",') for n in range(count)]
     yield command(b'SK.NOW', b'1700000000000') + command(b'SK.BEAT', b'w') + command(b'SK.AS', b'1') + command(b'SK.JOIN', b'w'), 4 * OK
     yield command(b'SK.BPUSH', b'b', b'', b'', b'', b'', *jobs[:ADDED]), b'*0\r\n'
     for at in range(ADDED, count, ADDED):
@@ -91,8 +96,33 @@ def tried(name, rows):
     return True
 
 
+def removals(count):
+    """Commands that take many jobs at once: with what fills the store, the replies, and the seconds that it may take."""
+    jobs = [job(n) for n in range(count)]
+    queue = b''.join(command(b'LPUSH', b'queue:default', *jobs[at:at + ADDED]) for at in range(0, count, ADDED))
+    queued = b''.join(number(min(count, at + ADDED)) for at in range(0, count, ADDED))
+    schedule = b''.join(command(b'ZADD', b'schedule', b'%d' % (1_700_000_000 + n * 7919 % 100_003), text) for n, text in enumerate(jobs))
+    texts = jobs[::max(1, count // TEXTS)][:TEXTS]
+    yield f'ZREM of {len(texts):,} texts of {count:,}', schedule, count * number(1), command(b'ZREM', b'schedule', *texts), number(len(texts)), 1
+    yield f'DEL of a queue of {count:,}', queue, queued, command(b'DEL', b'queue:default'), number(1), 4
+    yield f'FLUSHALL of {count:,}', queue, queued, command(b'FLUSHALL'), OK, 4
+
+
+def taken(name, filling, filled, text, reply, bound):
+    """Whether the command's reply is right, and comes in time."""
+    pipe = Pipe()
+    if pipe.replied(filling, len(filled)) != filled:
+        print(f'{name}: the store is not filled', flush=True)
+        return False
+    began = pipe.seconds()
+    replied = pipe.replied(text, len(reply))
+    seconds = pipe.seconds() - began
+    print(f'{name}: {1000 * seconds:.1f} ms of a processor, at most {1000 * bound:,}' + ('' if replied == reply else f'; {fault(reply, replied)}'), flush=True)
+    return pipe.end() == 0 and replied == reply and seconds <= bound
+
+
 def main():
-    parser = argparse.ArgumentParser(description='Three large inputs through `sidekiq pipe`.')
+    parser = argparse.ArgumentParser(description='Large inputs through `sidekiq pipe`.')
     parser.add_argument('--part', type=int, default=1, help='of so many parts of each input one')
     part = parser.parse_args().part
     subprocess.run([PROGRAM, 'pipe'], stdin=subprocess.DEVNULL, stdout=subprocess.DEVNULL, check=True)     # builds it, where it is stale
@@ -100,6 +130,7 @@ def main():
         tried('ranks', ranks(MEMBERS // part)),
         tried('pushes', pushes(JOBS // part)),
         tried('batch', batch(JOBS // part)),
+        *(taken(*row) for row in removals(ROWS // part)),
     ]
     return not all(right)
 

@@ -4,17 +4,14 @@
 # at its push, which Redis doesn't do.
 set -eu
 . "$(dirname "$0")/common.sh"
-python3 - "$folder" <<'PY'
+PYTHONPATH=$top/bench python3 - "$folder" <<'PY'
 import sys
-job = b'{"args":[1],"class":"Note","created_at":1700000000000,"jid":"%024d","queue":"default","retry":true}'
+from client import command, job
 
-def command(*words):
-    return b'*%d\r\n' % len(words) + b''.join(b'$%d\r\n%s\r\n' % (len(word), word) for word in words)
-
-for name, text in (('bytes', b'x' + job[1:]), ('jobs', job)):
+for name, first in (('bytes', b'x'), ('jobs', b'{')):
     with open(sys.argv[1] + '/' + name, 'wb') as out:
         for n in range(100_000):
-            out.write(command(b'LPUSH', b'queue:default', text % n))
+            out.write(command(b'LPUSH', b'queue:default', first + job(n)[1:]))
             out.write(command(b'LMOVE', b'queue:default', b'queue:low', b'RIGHT', b'LEFT'))
             out.write(command(b'PING'))
 PY
