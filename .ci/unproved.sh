@@ -5,7 +5,6 @@
 
 cd "$(dirname "$0")/.." || exit 1
 program=out/unproved/sidekiq
-data=crates/sk_rows/data
 failed=0
 
 fail() {
@@ -20,21 +19,9 @@ case $(bin/sidekiq --unproved soak 1 1 2>&1 >/dev/null) in
 *) fail "it doesn't say that it isn't proved" ;;
 esac
 
-rows=0
-room=$(mktemp -d) || exit 1
-trap 'rm -rf "$room"' EXIT
-while read -r form status name words; do
-    [ "$form" = wire ] && [ "$words" = pipe ] || continue
-    rows=$((rows + 1))
-    "$program" pipe <"$data/$name.in" >"$room/out" 2>/dev/null
-    came=$?
-    [ "$came" -eq "$status" ] || fail "$name: status $came in place of $status"
-    cmp -s "$room/out" "$data/$name.out" || fail "$name: it writes something else than $data/$name.out"
-done <"$data/rows.txt"
-echo "unproved: $rows worked rows piped"
-
 sh .ci/statuses.sh "$program" || failed=1
 if command -v python3 >/dev/null; then
+    python3 .ci/rows.py "$program" || failed=1
     python3 .ci/tour.py --program "$program" || failed=1
     python3 .ci/cuts.py "$program" || failed=1
     python3 .ci/drills.py "$program" || failed=1

@@ -6,6 +6,13 @@ use std::alloc::{AllocError, Global};
 /// How many bytes of a difference are shown.
 const SHOWN: usize = 60;
 
+// Some bytes from there on, as text.
+fn shown(alloc: Global, bytes: &[u8], at: usize) -> Result<String, AllocError> {
+    let rest = &bytes[at.min(bytes.len())..];
+    let front = &rest[..rest.len().min(SHOWN)];
+    format!(in alloc; "{}", front.escape_ascii())
+}
+
 // How many bytes both have in common at their fronts.
 fn common_front(a: &[u8], b: &[u8]) -> usize {
     let most = a.len().min(b.len());
@@ -17,33 +24,6 @@ fn common_front(a: &[u8], b: &[u8]) -> usize {
     most
 }
 
-// The number of the line in which a byte stands, counted from 1.
-fn line_at(bytes: &[u8], at: usize) -> u64 {
-    let mut line: u64 = 1;
-    for byte in &bytes[..at.min(bytes.len())] {
-        if *byte == b'\n' {
-            line = line.saturating_add(1);
-        }
-    }
-    line
-}
-
-// Some bytes from there on, as text.
-fn shown(alloc: Global, bytes: &[u8], at: usize) -> Result<String, AllocError> {
-    let rest = &bytes[at.min(bytes.len())..];
-    let front = &rest[..rest.len().min(SHOWN)];
-    format!(in alloc; "{}", front.escape_ascii())
-}
-
-// Where the two begin to differ, and how.
-fn told(alloc: Global, came: &[u8], wanted: &[u8]) -> Result<String, AllocError> {
-    let at = common_front(came, wanted);
-    let line = line_at(wanted, at);
-    let came = shown(alloc, came, at)?;
-    let wanted = shown(alloc, wanted, at)?;
-    format!(in alloc; "line {line}, from byte {at} on '{came}', wanted '{wanted}'")
-}
-
 /// How what came differs from what is wanted; nothing where both are the same.
 pub fn difference(alloc: Global, came: &[u8], wanted: &[u8]) -> Result<Option<String>, AllocError>
     ensures { IfOk result (λ d. d ≡ None → came.now ≡ wanted.now) }
@@ -51,13 +31,13 @@ pub fn difference(alloc: Global, came: &[u8], wanted: &[u8]) -> Result<Option<St
     if came == wanted {
         return Ok(None);
     }
-    Ok(Some(told(alloc, came, wanted)?))
-}
-
-/// What is wrong with a row that must differ.
-pub fn sameness(alloc: Global, difference: Option<String>) -> Result<Option<String>, AllocError> {
-    match difference {
-        Some(_) => Ok(None),
-        None => Ok(Some(String::from_str(alloc, "differs in nothing, and must")?)),
+    let at = common_front(came, wanted);
+    let mut line: u64 = 1;
+    for byte in &wanted[..at.min(wanted.len())] {
+        line = line.saturating_add(u64::from(*byte == b'\n'));
     }
+    let came = shown(alloc, came, at)?;
+    let wanted = shown(alloc, wanted, at)?;
+    let told = format!(in alloc; "line {line}, from byte {at} on '{came}', wanted '{wanted}'")?;
+    Ok(Some(told))
 }

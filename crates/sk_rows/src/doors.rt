@@ -1,69 +1,53 @@
-// Rows of the program's top call over doors in memory: who connects and what he sends, what the clock and the dice tell, and what must come of it.
-mod action;
-mod call;
-mod chain;
+// Rows of calls in memory: who connects and what he sends, what the clock and the dice tell, and what must come of it.
 mod desks;
 mod ending;
-mod held;
+mod given;
+mod items;
 mod iterating;
-mod iterating_job;
-mod journal;
 mod order;
-mod peer;
-mod play;
+mod peers;
 mod poller;
 mod pushers;
-mod rules;
-mod seating;
-mod setting;
-mod small;
-mod worker;
+mod serving;
+mod top;
+mod workers;
 
-use crate::difference::{difference, sameness};
+use crate::difference::difference;
+use crate::drills::compare_row;
 use crate::report::Report;
-use crate::text::invalid;
-use play::play;
-use setting::Setting;
+use crate::teams::with_teams;
+use crate::text::{halves, invalid};
+use crate::transcripts::talk_row;
+pub use ending::add_bytes;
+pub use given::Given;
+pub use items::{Lines, import_of};
+pub use peers::Peers;
 use std::alloc::Global;
 use std::io;
 use std::sync::Wait;
 use std::thread::Threads;
+pub use top::run_top;
+pub use workers::run_workers;
 
-/// Between what is given in a row and what must come of it.
-const THEN: &str = "\nthen\n";
-
-/// The same in a row of which something else must come: it tries the comparison.
-const BUT_NOT: &str = "\nbut not\n";
-
-// How what comes of a row differs from what is wanted; nothing where both are the same.
-fn difference_of<R: Threads + Wait + Sync>(
-    rt: &R,
-    alloc: Global,
-    given: &str,
-    wanted: &str,
-) -> io::Result<Option<String>> {
-    let setting = Setting::read(alloc, given)?;
-    let came = play(rt, alloc, setting)?;
-    Ok(difference(alloc, came.as_bytes(), wanted.as_bytes())?)
-}
-
-// What is wrong with a row behind its name.
-fn wrong_with<R: Threads + Wait + Sync>(
-    rt: &R,
-    alloc: Global,
-    row: &str,
-) -> io::Result<Option<String>> {
-    if let Some((given, wanted)) = row.split_once(THEN) {
-        return difference_of(rt, alloc, given, wanted);
+// What comes of the call.
+fn play<R: Threads + Wait + Sync>(rt: &R, alloc: Global, given: &Given<'_>) -> io::Result<Vec<u8>> {
+    match given.call {
+        "run" | "work" | "iterjob" | "lane" | "drill" => with_teams(rt, alloc, given),
+        "small" | "held" => serving::serve_row(rt, alloc, given),
+        "poll" => poller::poll_row(alloc, given),
+        "order" => order::turn_row(alloc, given),
+        "decide" => order::decision_row(alloc, given),
+        "desks" => desks::act_row(rt, alloc, given),
+        "threads" => pushers::push_row(rt, alloc, given),
+        "iterate" => iterating::call_row(alloc, given),
+        "compare" => compare_row(alloc, given.words),
+        "talk" => talk_row(alloc, given.words),
+        _ => Err(invalid()),
     }
-    let Some((given, unwanted)) = row.split_once(BUT_NOT) else {
-        return Err(invalid());
-    };
-    let difference = difference_of(rt, alloc, given, unwanted)?;
-    Ok(sameness(alloc, difference)?)
 }
 
-/// Runs the rows. Empty lines stand between them, and between them and remarks, which begin with `#`.
+/// Runs the rows. Empty lines stand between them, and between them and remarks, which begin with `#`. Between what is given in a row and what must
+/// come of it stands `then`; with `but not` in its place something else must come.
 pub fn run<R: Threads + Wait + Sync + Print>(
     rt: &R,
     alloc: Global,
@@ -77,8 +61,49 @@ pub fn run<R: Threads + Wait + Sync + Print>(
         let Some((name, row)) = row.split_once('\n') else {
             return Err(invalid());
         };
-        let wrong = wrong_with(rt, alloc, row)?;
+        let must_differ = !row.contains("\nthen\n");
+        let between = if must_differ {
+            "\nbut not\n"
+        } else {
+            "\nthen\n"
+        };
+        let Some((given, wanted)) = row.split_once(between) else {
+            return Err(invalid());
+        };
+        let came = play(rt, alloc, &Given::read(given)?)?;
+        let came = came.strip_suffix(b"\n").unwrap_or(&came);
+        let wrong = match difference(alloc, came, wanted.as_bytes())? {
+            None if must_differ => Some(String::from_str(alloc, "differs in nothing, and must")?),
+            Some(_) if must_differ => None,
+            wrong => wrong,
+        };
         report.add(rt, name, wrong)?;
     }
     Ok(())
+}
+
+/// The rows of lanes or of drills, and behind each what came of it; of transcripts that alone. Lines that begin with `#` say what the next row shows.
+pub fn told<R: Threads + Wait + Sync>(
+    rt: &R,
+    alloc: Global,
+    name: &str,
+    rows: &str,
+) -> io::Result<Vec<u8>> {
+    let mut out = Vec::new(alloc);
+    for line in rows.lines() {
+        let is_remark = line.is_empty() || line.starts_with('#');
+        if is_remark || name != "transcripts" {
+            say!(out, "{line}\n");
+        }
+        if is_remark {
+            continue;
+        }
+        let (call, words) = match name {
+            "lanes" => ("lane", line),
+            "transcripts" => ("talk", line),
+            _ => halves(line)?,
+        };
+        out.extend_from_slice(&play(rt, alloc, &Given::new(call, words))?)?;
+    }
+    Ok(out)
 }

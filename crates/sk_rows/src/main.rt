@@ -1,70 +1,58 @@
-//! Runs all rows: what is given, and what must come of it. Contracts leave want of memory free as an answer, and none can say what a call through the
-//! store's lock did; rows show both.
+//! Runs all rows but those of the program's own input and output: what is given, and what must come of it. Contracts leave want of memory free as an
+//! answer, and none can say what a call through the store's lock did; rows show both.
 #![tactic(auto)]
 
+/// Appends a text to bytes.
+macro_rules! say {
+    ($out:expr, $($text:tt)*) => {{
+        let alloc = *$out.allocator();
+        let text = format!(in alloc; $($text)*)?;
+        $out.extend_from_slice(text.as_bytes())?;
+    }};
+}
+
 mod command;
+mod counted;
 mod difference;
 mod doors;
 mod drills;
 mod faults;
-mod job;
 mod lanes;
-mod limits;
 mod report;
+mod store_link;
+mod teams;
 mod text;
 mod transcripts;
 mod worked;
 
-use difference::difference;
 use report::Report;
-use std::io::{self, ErrorKind};
 use std::process::ExitCode;
-use std::{env, fs};
-
-// Compares what came of a file of rows with what must, `NAME.out`.
-fn compare(rt: &HostRuntime, name: &str, came: &str, report: &mut Report) -> io::Result<()> {
-    let path = format!(in rt.alloc(); "{name}.out")?;
-    let wanted = fs::read(rt, path.as_str())?;
-    let wrong = difference(rt.alloc(), came.as_bytes(), &wanted)?;
-    report.add(rt, name, wrong)
-}
-
-// Compares what clients asked and were told.
-fn compare_transcripts(rt: &HostRuntime, report: &mut Report) -> io::Result<()> {
-    let mut told = String::new(rt.alloc());
-    transcripts::add_transcripts(&mut told)?;
-    compare(rt, "transcripts", told.as_str(), report)
-}
-
-// Prints how many bytes so many pushes are, for a measurement of time.
-fn measure(rt: &HostRuntime, pushes: u64) -> io::Result<()> {
-    let mut text = String::new(rt.alloc());
-    transcripts::add_bytes_of(&mut text, pushes)?;
-    print!(rt; "{text}")
-}
+use std::{env, fs, io};
 
 /// With no words all rows. With the words `pushes` and a number so many jobs are pushed, for a measurement of time.
 fn main(rt: HostRuntime) -> io::Result<ExitCode> {
+    let alloc = rt.alloc();
     let mut words = env::args(&rt)?;
     if let Some(word) = words.nth(1) {
-        return match words.next() {
-            Some(count) if word.as_str() == "pushes" => {
-                measure(&rt, text::number(count.as_str())?)?;
-                Ok(ExitCode::SUCCESS)
-            }
-            _ => Err(io::Error::from(ErrorKind::InvalidInput)),
+        let Some(count) = words.next() else {
+            return Err(text::invalid());
         };
+        if word.as_str() != "pushes" {
+            return Err(text::invalid());
+        }
+        let len = transcripts::len_of_pushes(alloc, text::number(count.as_str())?)?;
+        println!(rt; "{len} bytes")?;
+        return Ok(ExitCode::SUCCESS);
     }
-    let mut report = Report::new();
+    let mut report = Report { rows: 0, wrong: 0 };
     worked::run(&rt, &mut report)?;
-    let doors = fs::read_to_string(&rt, "doors.txt")?;
-    doors::run(&rt, rt.alloc(), doors.as_str(), &mut report)?;
-    let lanes = fs::read_to_string(&rt, "lanes.txt")?;
-    let told = lanes::told(rt.alloc(), lanes.as_str())?;
-    compare(&rt, "lanes", told.as_str(), &mut report)?;
-    let drills = fs::read_to_string(&rt, "drills.txt")?;
-    let told = drills::told(&rt, rt.alloc(), drills.as_str())?;
-    compare(&rt, "drills", told.as_str(), &mut report)?;
-    compare_transcripts(&rt, &mut report)?;
-    report.end(&rt)
+    let rows = fs::read_to_string(&rt, "doors.txt")?;
+    doors::run(&rt, alloc, rows.as_str(), &mut report)?;
+    for name in ["lanes", "drills", "transcripts"] {
+        let rows = fs::read_to_string(&rt, format!(in alloc; "{name}.txt")?.as_str())?;
+        let came = doors::told(&rt, alloc, name, rows.as_str())?;
+        report.compare(&rt, name, &came)?;
+    }
+    println!(rt; "{} rows, {} differ", report.rows, report.wrong)?;
+    Ok(ExitCode::from(u8::from(report.wrong > 0)))
 }

@@ -1,19 +1,15 @@
 // How the rows went: a line each, and how many there were and how many went wrong.
-use std::io;
-use std::process::ExitCode;
+use crate::difference::difference;
+use std::{fs, io};
 
 /// How many rows there were, and how many went wrong.
 #[derive(Drop)]
 pub struct Report {
-    rows: u64,
-    wrong: u64,
+    pub rows: u64,
+    pub wrong: u64,
 }
 
 impl Report {
-    pub fn new() -> Report {
-        Report { rows: 0, wrong: 0 }
-    }
-
     /// Prints how a row went, and counts it: `ok`, or what is wrong.
     pub fn add<R: Print>(&mut self, rt: &R, name: &str, wrong: Option<String>) -> io::Result<()> {
         self.rows = self.rows.saturating_add(1);
@@ -26,9 +22,10 @@ impl Report {
         }
     }
 
-    /// Prints both numbers. The status is 0 where no row went wrong.
-    pub fn end<R: Print>(&self, rt: &R) -> io::Result<ExitCode> {
-        println!(rt; "{} rows, {} differ", self.rows, self.wrong)?;
-        Ok(ExitCode::from(u8::from(self.wrong > 0)))
+    /// Compares what came of a file of rows with what must, `NAME.out`.
+    pub fn compare(&mut self, rt: &HostRuntime, name: &str, came: &[u8]) -> io::Result<()> {
+        let path = format!(in rt.alloc(); "{name}.out")?;
+        let wanted = fs::read(rt, path.as_str())?;
+        self.add(rt, name, difference(rt.alloc(), came, &wanted)?)
     }
 }

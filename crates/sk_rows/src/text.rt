@@ -1,38 +1,22 @@
-// What stands in rows: numbers, and bytes as text.
-use percent_encoding::{AsciiSet, CONTROLS, ascii_set, percent_decode, percent_encode};
+// What stands in rows: numbers, words, and bytes as text.
+use percent_encoding::{AsciiSet, CONTROLS, ascii_set, percent_decode};
+use sk_model::Limits;
+use sk_pipe::SHIPPED_LIMITS;
 use std::alloc::{AllocError, Global};
 use std::io::{self, ErrorKind};
 
 /// What stands as `%XX` in a row, beside what isn't ASCII.
-const ESCAPED: AsciiSet = ascii_set!(CONTROLS.add(b'%'));
+pub const ESCAPED: AsciiSet = ascii_set!(CONTROLS.add(b'%'));
 
 /// The error of a row that isn't as it must be.
 pub fn invalid() -> io::Error {
     io::Error::from(ErrorKind::InvalidData)
 }
 
-/// The bytes as text. Bytes that aren't UTF-8 are invalid data.
-pub fn text_of(bytes: &[u8]) -> io::Result<&str> {
-    match str::from_utf8(bytes) {
-        Ok(text) => Ok(text),
-        Err(_) => Err(invalid()),
-    }
-}
-
-/// Appends the bytes as text.
-pub fn add_escaped(out: &mut String, bytes: &[u8]) -> Result<(), AllocError> {
-    percent_encode(bytes, ESCAPED).append_to(out)
-}
-
-/// Appends the bytes that a text stands for.
-pub fn add_bytes_of(out: &mut Vec<u8>, text: &str) -> Result<(), AllocError> {
-    percent_decode(text.as_bytes()).append_to(out)
-}
-
-/// The bytes that a text stands for.
+/// The bytes that a text stands for, in which `%XX` is any byte.
 pub fn bytes_of(alloc: Global, text: &str) -> Result<Vec<u8>, AllocError> {
     let mut bytes = Vec::new(alloc);
-    add_bytes_of(&mut bytes, text)?;
+    percent_decode(text.as_bytes()).append_to(&mut bytes)?;
     Ok(bytes)
 }
 
@@ -42,6 +26,18 @@ pub fn word(alloc: Global, text: &str) -> io::Result<String> {
         Ok(word) => Ok(word),
         Err(_) => Err(invalid()),
     }
+}
+
+/// The words of a command line, with one blank between each two. No text is no words.
+pub fn words(alloc: Global, text: &str) -> io::Result<Vec<String>> {
+    let mut words = Vec::new(alloc);
+    if text.is_empty() {
+        return Ok(words);
+    }
+    for part in text.split(' ') {
+        words.push(word(alloc, part)?)?;
+    }
+    Ok(words)
 }
 
 /// The text's number. Another text is invalid data.
@@ -69,12 +65,23 @@ pub fn numbers(alloc: Global, text: &str) -> io::Result<Vec<u64>> {
     Ok(numbers)
 }
 
-/// The first word of a line, and what stands behind the blank.
-pub fn key_of(line: &str) -> (&str, &str) {
-    line.split_once(' ').unwrap_or((line, ""))
+/// What a store has room for: the rows, the bytes and the batches that the numbers tell; for none what the program's has. Others are invalid data.
+pub fn limits(numbers: &[u64]) -> io::Result<Limits> {
+    match numbers {
+        [] => Ok(SHIPPED_LIMITS),
+        [rows, bytes, batches] => {
+            let (rows, bytes, batches) = (*rows, *bytes, *batches);
+            Ok(Limits {
+                rows,
+                bytes,
+                batches,
+            })
+        }
+        _ => Err(invalid()),
+    }
 }
 
-/// The same of a line that has a blank. Another line is invalid data.
+/// What stands before the first blank of a line, and what stands behind it. Another line is invalid data.
 pub fn halves(line: &str) -> io::Result<(&str, &str)> {
     match line.split_once(' ') {
         Some(halves) => Ok(halves),

@@ -1,92 +1,74 @@
-// Worked rows: files of input and of what must be answered. `rows.txt` lists them.
-mod crons;
-mod desk;
-mod failures;
-mod follows;
+// Worked rows: files of input and of what must be answered. `rows.txt` lists them, a line `FORM STATUS NAME LIMITS` each.
 mod heads;
-mod limiters;
-mod outcome;
+mod lines;
 mod repeats;
-mod replies;
-mod requests;
-mod row;
 mod steps;
 mod streams;
-mod wire;
 
-use crate::difference::sameness;
+use crate::difference::difference;
 use crate::report::Report;
-use outcome::Outcome;
-use row::{Form, Row};
-use std::alloc::{AllocError, Global};
+use crate::text::{halves, invalid, limits, numbers};
+use sk_resp::{ReplyFeeder, write_reply};
+use std::alloc::Global;
 use std::{fs, io};
 
-// The bytes of a row's file: what it is given (`in`) or what it must answer (`out`).
-fn file(rt: &HostRuntime, row: &Row<'_>, kind: &str) -> io::Result<Vec<u8>> {
-    let path = format!(in rt.alloc(); "{}.{kind}", row.name)?;
-    let bytes = fs::read(rt, path.as_str())?;
-    if row.repeats {
-        repeats::expand(rt.alloc(), &bytes)
-    } else {
-        Ok(bytes)
+// The bytes of a row's file: what it is given (`in`) or what it must answer (`out`), where `repeats:` stands before its form in the notation of
+// repeats.
+fn file(rt: &HostRuntime, form: &str, name: &str, kind: &str) -> io::Result<Vec<u8>> {
+    let path = format!(in rt.alloc(); "{name}.{kind}")?;
+    if !form.starts_with("repeats:") {
+        return fs::read(rt, path.as_str());
     }
+    let lines = fs::read_to_string(rt, path.as_str())?;
+    repeats::expand(rt.alloc(), lines.as_str())
 }
 
-// What the row's input comes to, once in each cutting.
-fn outcomes(alloc: Global, row: &Row<'_>, input: &[u8]) -> io::Result<Vec<Outcome>> {
-    match row.form {
-        Form::Wire => wire::in_all_pieces(alloc, &row.words, input),
-        Form::Repeats => wire::in_one_piece(alloc, &row.words, input),
-        Form::Heads => Outcome::alone(heads::heads(alloc, input)?),
-        Form::Failures => Outcome::alone(failures::failed_texts(alloc, input)?),
-        Form::Follows => Outcome::alone(follows::answers(alloc, input)?),
-        Form::Crons => Outcome::alone(crons::slots(alloc, input)?),
-        Form::Requests => Outcome::alone(requests::written(alloc, input)?),
-        Form::Replies => Outcome::alone(replies::written_again(alloc, input)?),
-        Form::Streams => Outcome::alone(streams::read_again(alloc, input)?),
-        Form::Steps => Outcome::alone(steps::answers(alloc, &row.words, input)?),
-        Form::Desk => Outcome::alone(desk::answers(alloc, &row.words, input)?),
-        Form::Limiters => Outcome::alone(limiters::answers(alloc, &row.words, input)?),
+// `replies`: the replies of the stream as they are written, and behind them a line where the rest can't be read.
+fn written_again(alloc: Global, stream: &[u8]) -> io::Result<Vec<u8>> {
+    let mut feeder = ReplyFeeder::new(alloc);
+    let mut replies = Vec::new(alloc);
+    let read = feeder.feed(stream, &mut replies);
+    let mut out = Vec::new(alloc);
+    for reply in &replies {
+        write_reply(alloc, reply, &mut out)?;
     }
+    if read.is_err() {
+        out.extend_from_slice(b"unreadable\n")?;
+    }
+    Ok(out)
 }
 
-// How the first outcome that differs does so; nothing where none does.
-fn first_difference(
-    alloc: Global,
-    outcomes: &[Outcome],
-    wanted: &Outcome,
-) -> Result<Option<String>, AllocError> {
-    for outcome in outcomes {
-        if let Some(difference) = outcome.difference(alloc, wanted)? {
-            return Ok(Some(difference));
-        }
+// What comes of an input in this form. Behind the row's name stand the limits of its store.
+fn came_of(alloc: Global, form: &str, room: &str, input: &[u8]) -> io::Result<Vec<u8>> {
+    let form = form.strip_prefix("repeats:").unwrap_or(form);
+    if form == "replies" {
+        return written_again(alloc, input);
     }
-    Ok(None)
-}
-
-// What is wrong with a row.
-fn wrong_with(rt: &HostRuntime, row: &Row<'_>) -> io::Result<Option<String>> {
-    let alloc = rt.alloc();
-    let input = file(rt, row, "in")?;
-    let wanted = Outcome {
-        status: row.status,
-        text: file(rt, row, "out")?,
+    let Ok(input) = str::from_utf8(input) else {
+        return Err(invalid());
     };
-    let outcomes = outcomes(alloc, row, &input)?;
-    let difference = first_difference(alloc, &outcomes, &wanted)?;
-    if row.must_differ {
-        return Ok(sameness(alloc, difference)?);
+    let limits = limits(&numbers(alloc, room)?)?;
+    match form {
+        "steps" => steps::answers(alloc, limits, input),
+        "desk" | "limiters" => lines::over_a_store(alloc, form, limits, input),
+        _ => lines::alone(alloc, form, input),
     }
-    Ok(difference)
 }
 
-/// Runs the worked rows.
+/// Runs the worked rows but those in the forms `wire` and `repeats`: these are the program's own input and output, and it runs them itself.
 pub fn run(rt: &HostRuntime, report: &mut Report) -> io::Result<()> {
+    let alloc = rt.alloc();
     let index = fs::read_to_string(rt, "rows.txt")?;
     for line in index.lines() {
-        let row = Row::read(rt.alloc(), line)?;
-        let wrong = wrong_with(rt, &row)?;
-        report.add(rt, row.name, wrong)?;
+        let (form, rest) = halves(line)?;
+        if form == "wire" || form == "repeats" || form == "unlike:wire" {
+            continue;
+        }
+        let (_status, rest) = halves(rest)?;
+        let (name, room) = rest.split_once(' ').unwrap_or((rest, ""));
+        let came = came_of(alloc, form, room, &file(rt, form, name, "in")?)?;
+        let wanted = file(rt, form, name, "out")?;
+        report.add(rt, name, difference(alloc, &came, &wanted)?)?;
     }
     Ok(())
 }

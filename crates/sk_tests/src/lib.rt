@@ -2,14 +2,10 @@
 #![tactic(auto)]
 
 #[cfg(test)]
-mod batches;
-#[cfg(test)]
 mod clocks;
+#[cfg(test)]
+mod files;
 #[cfg(test)]
 mod gates;
 #[cfg(test)]
 mod streams;
-#[cfg(test)]
-mod undo;
-#[cfg(test)]
-mod zset;

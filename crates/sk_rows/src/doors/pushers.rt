@@ -2,13 +2,12 @@
 ghost use Rattle.std.specs.Prelude.{◌≡◌, ◌+◌, ◌*◌, ◌<◌, ◌^◌, All, IfOk, OnErr, vec_len};
 
 use crate::command::{hand_in, words_of};
+use crate::doors::Given;
 use crate::doors::desks::{Size, read_size};
-use crate::doors::setting::Setting;
-use crate::text::{invalid, number};
+use crate::text::{invalid, numbers};
 use sk_base::StepClock;
 use sk_desk::{Desk, Hub, HubBlank, HubId, NoBook, Pass};
 use sk_resp::Reply;
-use sk_status::Tally;
 use std::alloc::{AllocError, Global};
 use std::io;
 use std::marker::Brand;
@@ -41,17 +40,6 @@ fn push<D: Desk>(alloc: Global, desk: &mut D, seat: u32, number: u64) -> io::Res
     hand_in(alloc, desk, &words, &mut clock)
 }
 
-// How many of the desk's pushes were answered by a number.
-fn push_each<D: Desk>(alloc: Global, desk: &mut D, seat: u32, pushes: u64) -> u64 {
-    let mut pushed: u64 = 0;
-    for number in 0..pushes {
-        if let Ok(Reply::Int(_)) = push(alloc, desk, seat, number) {
-            pushed = pushed.saturating_add(1);
-        }
-    }
-    pushed
-}
-
 impl<I: HubId> Pusher<I> {
     // Pushes its jobs on its seat.
     fn run<R: Wait + Sync>(&mut self, shared: &Shared<'_, R, I>)
@@ -61,11 +49,16 @@ impl<I: HubId> Pusher<I> {
             return;
         };
         let seat = desk.number();
-        self.pushed = push_each(shared.alloc, &mut desk, seat, shared.pushes);
+        let mut pushed: u64 = 0;
+        for number in 0..shared.pushes {
+            if let Ok(Reply::Int(_)) = push(shared.alloc, &mut desk, seat, number) {
+                pushed = pushed.saturating_add(1);
+            }
+        }
+        self.pushed = pushed;
         desk.end(&mut self.pass);
     }
 }
-
 // A pusher for each thread.
 fn pushers<I: HubId>(
     alloc: Global,
@@ -125,25 +118,13 @@ fn push_all<R: Threads + Wait + Sync, I: HubId + Send + Sync>(
     Ok(gather(pushers, pass))
 }
 
-fn sums(
-    alloc: Global,
-    pushed: u64,
-    acknowledged: u64,
-    tally: &Tally,
-) -> Result<String, AllocError> {
-    format!(in alloc;
-        "pushed {pushed} acknowledged {acknowledged} outside {} live {}",
-        tally.outside, tally.live
-    )
-}
-
 fn threads_on<R: Threads + Wait + Sync, I: HubId + Send + Sync>(
     rt: &R,
     blank: HubBlank,
     alloc: Global,
     size: Size,
     pushes: u64,
-) -> Result<String, AllocError>
+) -> Result<Vec<u8>, AllocError>
     requires blank { blank ≡ record { acks = I.acks; asks = I.asks; cuts = I.cuts } }
     requires limits { size.limits ≡ I.limits }
     requires size { (0 < size.numbers) × (size.numbers + 1 < 2 ^ 32) }
@@ -157,17 +138,23 @@ fn threads_on<R: Threads + Wait + Sync, I: HubId + Send + Sync>(
     };
     let pushed = push_all(&shared, &mut pass, u64::from(size.numbers));
     let (acknowledged, tally) = hub.close().finish(&mut pass);
-    sums(alloc, pushed?, acknowledged, &tally)
+    let mut out = Vec::new(alloc);
+    say!(out, "pushed {} acknowledged {acknowledged}", pushed?);
+    say!(out, " outside {} live {}\n", tally.outside, tally.live);
+    Ok(out)
 }
 
-/// What comes of threads that push. The first word is how many jobs each of them pushes; then come how many threads there are, and the rows, the bytes
-/// and the batches of the store.
-pub fn threads<R: Threads + Wait + Sync>(rt: &R, setting: &Setting) -> io::Result<String> {
-    let alloc = *setting.words.allocator();
-    let [pushes, rest @ ..] = setting.words.as_slice() else {
+/// What comes of threads that push. The first word is how many jobs each of them pushes; then come how many threads there are, and the rows, the
+/// bytes and the batches of the store.
+pub fn push_row<R: Threads + Wait + Sync>(
+    rt: &R,
+    alloc: Global,
+    given: &Given<'_>,
+) -> io::Result<Vec<u8>> {
+    let numbers = numbers(alloc, given.words)?;
+    let [pushes, rest @ ..] = numbers.as_slice() else {
         return Err(invalid());
     };
-    let pushes = number(pushes)?;
     let size = read_size(rest)?;
-    Ok(threads_on::<R, Brand>(rt, HubBlank::new(), alloc, size, pushes)?)
+    Ok(threads_on::<R, Brand>(rt, HubBlank::new(), alloc, size, *pushes)?)
 }

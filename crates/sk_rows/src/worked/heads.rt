@@ -1,83 +1,57 @@
-// What the texts of jobs say of them, a line each.
-use crate::text::{bytes_of, text_of};
-use percent_encoding::{AsciiSet, CONTROLS, ascii_set, percent_encode};
-use sk_payload::{Head, Lock, Payload, Retry, Until};
+// What the texts of jobs say of them.
+use crate::text::bytes_of;
+use percent_encoding::{AsciiSet, CONTROLS, PercentEncode, ascii_set, percent_encode};
+use sk_payload::{Head, Payload, Retry, Until};
 use sk_resp::{Text, Word};
 use std::alloc::{AllocError, Global};
-use std::io;
 
 /// What stands as `%XX` in a line, beside what isn't ASCII.
 const ESCAPED: AsciiSet = ascii_set!(CONTROLS.add(b' ').add(b'%'));
 
-fn escaped(alloc: Global, text: &Text) -> Result<String, AllocError> {
-    let mut out = String::new(alloc);
-    percent_encode(text.text().as_bytes(), ESCAPED).append_to(&mut out)?;
-    Ok(out)
+fn escaped(text: &Text) -> PercentEncode<'_> {
+    percent_encode(text.text().as_bytes(), ESCAPED)
 }
 
-fn retry(alloc: Global, retry: Retry) -> Result<String, AllocError> {
-    match retry {
-        Retry::Default => String::from_str(alloc, "default"),
-        Retry::Never => String::from_str(alloc, "never"),
-        Retry::Count(count) => format!(in alloc; "{count}"),
-    }
-}
-
-fn bid(alloc: Global, bid: &Option<Text>) -> Result<String, AllocError> {
-    match bid {
-        Some(bid) => escaped(alloc, bid),
-        None => String::from_str(alloc, "none"),
-    }
-}
-
-fn lock(alloc: Global, lock: Option<Lock>) -> Result<String, AllocError> {
-    match lock {
-        None => String::from_str(alloc, "none"),
-        Some(
-            Lock {
-                seconds,
-                until: Until::Success,
-            },
-        ) => format!(in alloc; "{seconds}s,success"),
-        Some(
-            Lock {
-                seconds,
-                until: Until::Start,
-            },
-        ) => format!(in alloc; "{seconds}s,start"),
-    }
-}
-
-fn number(alloc: Global, number: Option<u64>) -> Result<String, AllocError> {
+// Appends a number, or that there is none.
+fn add_number(out: &mut Vec<u8>, name: &str, number: Option<u64>) -> Result<(), AllocError> {
     match number {
-        Some(number) => format!(in alloc; "{number}"),
-        None => String::from_str(alloc, "none"),
+        Some(number) => say!(out, " {name}={number}"),
+        None => say!(out, " {name}=none"),
     }
+    Ok(())
 }
 
-// The members of a head.
-fn members(alloc: Global, head: &Head) -> Result<String, AllocError> {
-    let names = format!(in alloc;
-        "jid={} class={} queue={} args={}",
-        escaped(alloc, &head.jid)?,
-        escaped(alloc, &head.class)?,
-        escaped(alloc, &head.queue)?,
-        escaped(alloc, &head.args)?
-    )?;
-    let runs = format!(in alloc;
-        "retry={} generation={} dead={} created={}",
-        retry(alloc, head.retry)?,
+// Appends what the head says of the runs of its job.
+fn add_runs(out: &mut Vec<u8>, head: &Head) -> Result<(), AllocError> {
+    match head.retry {
+        Retry::Default => say!(out, " retry=default"),
+        Retry::Never => say!(out, " retry=never"),
+        Retry::Count(count) => say!(out, " retry={count}"),
+    }
+    say!(
+        out,
+        " generation={} dead={} created={}",
         head.gen_,
         head.dead,
         head.created
-    )?;
-    let bid = bid(alloc, &head.bid)?;
-    let lock = lock(alloc, head.lock)?;
-    let retry_for = number(alloc, head.retry_for.map(u64::from))?;
-    let first_failed = number(alloc, head.first_failed)?;
-    format!(in alloc;
-        "{names} {runs} bid={bid} lock={lock} retry_for={retry_for} first_failed={first_failed}\n"
-    )
+    );
+    match &head.bid {
+        Some(bid) => say!(out, " bid={}", escaped(bid)),
+        None => say!(out, " bid=none"),
+    }
+    match head.lock {
+        None => say!(out, " lock=none"),
+        Some(lock) => {
+            let until = if matches!(lock.until, Until::Start) {
+                "start"
+            } else {
+                "success"
+            };
+            say!(out, " lock={}s,{until}", lock.seconds)
+        }
+    }
+    add_number(out, "retry_for", head.retry_for.map(u64::from))?;
+    add_number(out, "first_failed", head.first_failed)
 }
 
 /// The payload of a text, in which `%XX` stands for any byte.
@@ -85,20 +59,23 @@ pub fn payload_of(alloc: Global, text: &str) -> Result<Payload, AllocError> {
     Payload::of(alloc, Word::new(bytes_of(alloc, text)?))
 }
 
-// The line of a text, in which `%XX` stands for any byte.
-fn line(alloc: Global, text: &str) -> Result<String, AllocError> {
-    let payload = payload_of(alloc, text)?;
-    match payload.head() {
-        Some(head) => members(alloc, head),
-        None => String::from_str(alloc, "no head\n"),
-    }
-}
-
-/// The lines of the texts, of which each stands on a line.
-pub fn heads(alloc: Global, texts: &[u8]) -> io::Result<Vec<u8>> {
-    let mut out = Vec::new(alloc);
-    for text in text_of(texts)?.lines() {
-        out.extend_from_slice(line(alloc, text)?.as_bytes())?;
-    }
-    Ok(out)
+/// Appends the line of a payload: the members of its head.
+pub fn add_head(out: &mut Vec<u8>, payload: &Payload) -> Result<(), AllocError> {
+    let Some(head) = payload.head() else {
+        return out.extend_from_slice(b"no head\n");
+    };
+    say!(
+        out,
+        "jid={} class={} ",
+        escaped(&head.jid),
+        escaped(&head.class)
+    );
+    say!(
+        out,
+        "queue={} args={}",
+        escaped(&head.queue),
+        escaped(&head.args)
+    );
+    add_runs(out, head)?;
+    out.extend_from_slice(b"\n")
 }

@@ -1,7 +1,6 @@
 // Streams of replies: the kinds of the replies that are read, and the byte with which nothing can go on, however a stream is cut.
 //
 // In a stream `~` stands for CRLF, `^` for CR, `_` for LF and `@` for 65,536 times `x`.
-use crate::text::text_of;
 use sk_resp::{Reply, ReplyFault, ReplyFeeder, write_reply};
 use std::alloc::{AllocError, Global};
 use std::io;
@@ -12,52 +11,45 @@ const CUT: usize = 200;
 /// How much `@` stands for.
 const MANY: usize = 65_536;
 
-/// What is read of a stream.
-#[derive(Drop)]
-struct Reading {
-    replies: Vec<Reply>,
-    /// The first byte that is refused; the greatest number where none is.
-    place: usize,
-}
-
 // Appends what a byte of a stream's text stands for.
-fn add_byte(out: &mut Vec<u8>, byte: u8) -> Result<(), AllocError> {
+fn add_byte(stream: &mut Vec<u8>, byte: u8) -> Result<(), AllocError> {
     match byte {
-        b'~' => out.extend_from_slice(b"\r\n")?,
-        b'^' => out.push(b'\r')?,
-        b'_' => out.push(b'\n')?,
-        b'@' => out.resize(out.len().saturating_add(MANY), b'x')?,
-        other => out.push(other)?,
+        b'~' => stream.extend_from_slice(b"\r\n")?,
+        b'^' => stream.push(b'\r')?,
+        b'_' => stream.push(b'\n')?,
+        b'@' => stream.resize(stream.len().saturating_add(MANY), b'x')?,
+        other => stream.push(other)?,
     }
     Ok(())
 }
 
-fn stream_of(alloc: Global, text: &str) -> Result<Vec<u8>, AllocError> {
-    let mut stream = Vec::new(alloc);
-    for byte in text.as_bytes() {
-        add_byte(&mut stream, *byte)?;
-    }
-    Ok(stream)
-}
-
-fn kind_of(reply: &Reply) -> u8 {
-    match reply {
-        Reply::Say(_) => b'?',
-        Reply::Simple(_) => b'S',
-        Reply::Error(_) => b'E',
-        Reply::Int(_) => b'I',
-        Reply::Bulk(_) => b'B',
-        Reply::Null => b'N',
-        Reply::Array(_) => b'A',
-        Reply::NullArray => b'Z',
+// Whether the bytes were taken, or nothing can go on with them.
+fn feed(
+    feeder: &mut ReplyFeeder,
+    bytes: &[u8],
+    replies: &mut Vec<Reply>,
+) -> Result<bool, AllocError> {
+    match feeder.feed(bytes, replies) {
+        Ok(()) => Ok(true),
+        Err(ReplyFault::Unreadable) => Ok(false),
+        Err(ReplyFault::Memory) => Err(AllocError),
     }
 }
 
-// The kinds of the replies, a letter each, or `-`.
+// The kinds of the replies, a letter each, or `-`: Simple, Error, Int, Bulk, Array, Null, or `Z` for a null array.
 fn kinds_of(alloc: Global, replies: &[Reply]) -> Result<Vec<u8>, AllocError> {
     let mut kinds = Vec::new(alloc);
     for reply in replies {
-        kinds.push(kind_of(reply))?;
+        kinds.push(match reply {
+            Reply::Say(_) => b'?',
+            Reply::Simple(_) => b'S',
+            Reply::Error(_) => b'E',
+            Reply::Int(_) => b'I',
+            Reply::Bulk(_) => b'B',
+            Reply::Null => b'N',
+            Reply::Array(_) => b'A',
+            Reply::NullArray => b'Z',
+        })?;
     }
     if kinds.is_empty() {
         kinds.push(b'-')?;
@@ -65,75 +57,62 @@ fn kinds_of(alloc: Global, replies: &[Reply]) -> Result<Vec<u8>, AllocError> {
     Ok(kinds)
 }
 
-// The texts of the replies.
-fn texts_of(alloc: Global, replies: &[Reply]) -> Result<Vec<u8>, AllocError> {
-    let mut texts = Vec::new(alloc);
-    for reply in replies {
-        write_reply(alloc, reply, &mut texts)?;
-    }
-    Ok(texts)
-}
-
-// The bytes were taken, or nothing can go on with them.
-fn is_taken(fed: Result<(), ReplyFault>) -> Result<bool, AllocError> {
-    match fed {
-        Ok(()) => Ok(true),
-        Err(ReplyFault::Unreadable) => Ok(false),
-        Err(ReplyFault::Memory) => Err(AllocError),
-    }
-}
-
-// What is read of a stream that comes a byte at a time.
-fn read_bytes(alloc: Global, stream: &[u8]) -> Result<Reading, AllocError> {
-    let mut replies = Vec::new(alloc);
-    let mut feeder = ReplyFeeder::new(alloc);
-    let mut place = usize::MAX;
-    for (i, byte) in stream.iter().enumerate() {
-        let taken = is_taken(feeder.feed(&[*byte], &mut replies))?;
-        if !taken && place == usize::MAX {
-            place = i;
-        }
-    }
-    Ok(Reading { replies, place })
-}
-
-// Whether the stream, cut in two, comes to the same: these kinds, and a piece is refused where it ends behind the place.
+// Whether the stream, cut there in two, comes to the same: these kinds, and a piece is refused where it ends behind the place.
 fn is_read_so(
     alloc: Global,
-    first: &[u8],
-    second: &[u8],
+    pieces: (&[u8], &[u8]),
     kinds: &[u8],
     place: usize,
 ) -> Result<bool, AllocError> {
+    let (first, second) = pieces;
     let mut replies = Vec::new(alloc);
     let mut feeder = ReplyFeeder::new(alloc);
-    let one = is_taken(feeder.feed(first, &mut replies))?;
-    let two = is_taken(feeder.feed(second, &mut replies))?;
+    let one = feed(&mut feeder, first, &mut replies)?;
+    let two = feed(&mut feeder, second, &mut replies)?;
     let whole = first.len().saturating_add(second.len());
     let as_many = kinds_of(alloc, &replies)?.as_slice() == kinds;
     Ok(as_many && one == (first.len() <= place) && two == (whole <= place))
 }
 
-// The first place at which the stream, cut there, comes to anything else.
-fn other_cut(
-    alloc: Global,
-    stream: &[u8],
-    kinds: &[u8],
-    place: usize,
-) -> Result<Option<usize>, AllocError> {
-    let cuts = if stream.len() < CUT { stream.len() } else { 0 };
-    for cut in 0..=cuts {
-        if !is_read_so(alloc, &stream[..cut], &stream[cut..], kinds, place)? {
-            return Ok(Some(cut));
+// Appends the kinds of what is read of the stream. Answers the first byte that is refused; the greatest number where none is.
+fn add_reading(alloc: Global, out: &mut Vec<u8>, stream: &[u8]) -> io::Result<usize> {
+    let mut replies = Vec::new(alloc);
+    let mut feeder = ReplyFeeder::new(alloc);
+    let mut place = usize::MAX;
+    for (i, byte) in stream.iter().enumerate() {
+        if !feed(&mut feeder, &[*byte], &mut replies)? {
+            place = place.min(i);
         }
     }
-    Ok(None)
+    let mut again = Vec::new(alloc);
+    for reply in &replies {
+        write_reply(alloc, reply, &mut again)?;
+    }
+    if !stream.starts_with(&again) {
+        say!(out, "other replies than the stream's: ");
+    }
+    let kinds = kinds_of(alloc, &replies)?;
+    let cuts = if stream.len() < CUT { stream.len() } else { 0 };
+    for cut in 0..=cuts {
+        if !is_read_so(alloc, stream.split_at(cut), &kinds, place)? {
+            say!(out, "other in pieces, cut at {cut}: ");
+            break;
+        }
+    }
+    out.extend_from_slice(&kinds)?;
+    Ok(place)
 }
 
-// Appends the stream's text, with `!` before what begins at the place, or with `?` at its end where the place is in the middle of what a byte stands for.
-fn add_marked(out: &mut Vec<u8>, text: &str, place: usize) -> Result<(), AllocError> {
-    let alloc = *out.allocator();
+/// Appends the line of a stream: the kinds of its replies, and the stream, with `!` before the byte with which nothing can go on, or with `?` at its
+/// end where that is in the middle of what a byte stands for.
+pub fn add_stream(alloc: Global, out: &mut Vec<u8>, text: &str) -> io::Result<()> {
     let mut stream = Vec::new(alloc);
+    for byte in text.as_bytes() {
+        add_byte(&mut stream, *byte)?;
+    }
+    let place = add_reading(alloc, out, &stream)?;
+    out.push(b' ')?;
+    stream.clear();
     let mut is_marked = place == usize::MAX;
     for byte in text.as_bytes() {
         if stream.len() == place {
@@ -143,37 +122,6 @@ fn add_marked(out: &mut Vec<u8>, text: &str, place: usize) -> Result<(), AllocEr
         out.push(*byte)?;
         add_byte(&mut stream, *byte)?;
     }
-    if !is_marked {
-        out.push(b'?')?;
-    }
+    say!(out, "{}\n", if is_marked { "" } else { "?" });
     Ok(())
-}
-
-// Appends the line of a stream.
-fn add_line(alloc: Global, out: &mut Vec<u8>, text: &str) -> io::Result<()> {
-    let stream = stream_of(alloc, text)?;
-    let Reading { replies, place } = read_bytes(alloc, &stream)?;
-    let kinds = kinds_of(alloc, &replies)?;
-    if !stream.starts_with(&texts_of(alloc, &replies)?) {
-        out.extend_from_slice(b"other replies than the stream's: ")?;
-    }
-    if let Some(cut) = other_cut(alloc, &stream, &kinds, place)? {
-        let told = format!(in alloc; "other in pieces, cut at {cut}: ")?;
-        out.extend_from_slice(told.as_bytes())?;
-    }
-    out.extend_from_slice(&kinds)?;
-    out.push(b' ')?;
-    add_marked(out, text, place)?;
-    out.push(b'\n')?;
-    Ok(())
-}
-
-/// A line for each stream, of which each stands on a line: the kinds of its replies, Simple, Error, Int, Bulk, Array, Null, or `Z` for a null array,
-/// `-` for none; and the stream, with `!` before the byte with which nothing can go on.
-pub fn read_again(alloc: Global, streams: &[u8]) -> io::Result<Vec<u8>> {
-    let mut out = Vec::new(alloc);
-    for text in text_of(streams)?.lines() {
-        add_line(alloc, &mut out, text)?;
-    }
-    Ok(out)
 }

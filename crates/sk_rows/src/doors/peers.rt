@@ -1,0 +1,126 @@
+// Who is at the other ends of the program: what each sends, in which pieces, and which reads and writes fail; and the program's file.
+use crate::command::words_of;
+use crate::text::{invalid, number, numbers};
+use percent_encoding::percent_decode;
+use sk_base::{Feed, MemConn, Tray};
+use sk_disk::MemDisk;
+use sk_resp::write_request;
+use std::alloc::{AllocError, Global};
+use std::io;
+
+/// One end of the program, or its file.
+#[derive(Drop)]
+struct End {
+    bytes: Vec<u8>,
+    // the most bytes that a read gives; 0: as many as fit
+    piece: usize,
+    unread: Vec<u64>,
+    unwritten: Vec<u64>,
+    passes: u64,
+}
+
+impl End {
+    // What the lines say:
+    //
+    // - `line`, `text` and `bytes`: he sends the bytes, or the file has them, with CR LF, with LF, or with nothing behind them;
+    // - `asks`: the same with the words as a command;
+    // - `pieces`: a read gives so many bytes at most;
+    // - `unread`, `unwritten`: the reads or writes with these numbers fail, counted from 1;
+    // - `passes`: so many calls of the file pass, and each later one fails.
+    //
+    // Another line is invalid data.
+    fn read(alloc: Global, lines: &str) -> io::Result<End> {
+        let mut end = End {
+            bytes: Vec::new(alloc),
+            piece: 0,
+            unread: Vec::new(alloc),
+            unwritten: Vec::new(alloc),
+            passes: u64::MAX,
+        };
+        for line in lines.lines() {
+            let (key, rest) = line.split_once(' ').unwrap_or((line, ""));
+            match key {
+                "line" | "text" | "bytes" => {
+                    percent_decode(rest.as_bytes()).append_to(&mut end.bytes)?;
+                    match key {
+                        "line" => end.bytes.extend_from_slice(b"\r\n")?,
+                        "text" => end.bytes.push(b'\n')?,
+                        _ => {}
+                    }
+                }
+                "asks" => write_request(alloc, &words_of(alloc, rest)?, &mut end.bytes)?,
+                "pieces" => end.piece = number(rest)? as usize,
+                "unread" => end.unread = numbers(alloc, rest)?,
+                "unwritten" => end.unwritten = numbers(alloc, rest)?,
+                "passes" => end.passes = number(rest)?,
+                _ => return Err(invalid()),
+            }
+        }
+        Ok(end)
+    }
+
+    // What he sends, and what takes what is sent to him.
+    fn into_ways(self, alloc: Global) -> Result<(Feed, Tray), AllocError> {
+        let pieces = if self.piece == 0 {
+            Vec::new(alloc)
+        } else {
+            vec![in alloc; self.piece; self.bytes.len()]?
+        };
+        let feed = Feed::new(self.bytes, pieces, self.unread);
+        Ok((feed, Tray::new(alloc, self.unwritten)))
+    }
+}
+
+/// The ends of the program.
+#[derive(Drop)]
+pub struct Peers {
+    pub source: Feed,
+    pub sink: Tray,
+    /// The connections that each ear hears.
+    pub heard: Vec<Vec<MemConn>>,
+    /// The connections that the door makes.
+    pub dialled: Vec<MemConn>,
+    /// The file on the shelf, where the row tells of it.
+    pub file: Option<MemDisk>,
+}
+
+impl Peers {
+    /// The ends that the parts say: the standard streams (`streams`), a further ear (`ear`), a further connection that the last ear hears (`heard`),
+    /// or that the door makes (`dialled`), or the file (`file`). Another part is invalid data.
+    pub fn read(alloc: Global, parts: &str) -> io::Result<Peers> {
+        let (source, sink) = End::read(alloc, "")?.into_ways(alloc)?;
+        let mut peers = Peers {
+            source,
+            sink,
+            heard: Vec::new(alloc),
+            dialled: Vec::new(alloc),
+            file: None,
+        };
+        if parts.is_empty() {
+            return Ok(peers);
+        }
+        for part in parts.split("\n@") {
+            let (key, lines) = part.split_once('\n').unwrap_or((part, ""));
+            let end = End::read(alloc, lines)?;
+            if key == "file" {
+                peers.file = Some(MemDisk::new(alloc, end.bytes, end.passes)?);
+                continue;
+            }
+            let (source, sink) = end.into_ways(alloc)?;
+            match key {
+                "streams" => {
+                    peers.source = source;
+                    peers.sink = sink;
+                }
+                "ear" => peers.heard.push(Vec::new(alloc))?,
+                "heard" => match peers.heard.last_mut() {
+                    Some(ear) => ear.push(MemConn::new(source, sink))?,
+                    None => return Err(invalid()),
+                },
+                "dialled" => peers.dialled.push(MemConn::new(source, sink))?,
+                _ => return Err(invalid()),
+            }
+        }
+        Ok(peers)
+    }
+}
