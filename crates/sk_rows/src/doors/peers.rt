@@ -40,23 +40,32 @@ impl End {
         for line in lines.lines() {
             let (key, rest) = line.split_once(' ').unwrap_or((line, ""));
             match key {
-                "line" | "text" | "bytes" => {
-                    percent_decode(rest.as_bytes()).append_to(&mut end.bytes)?;
-                    match key {
-                        "line" => end.bytes.extend_from_slice(b"\r\n")?,
-                        "text" => end.bytes.push(b'\n')?,
-                        _ => {}
-                    }
-                }
+                "line" => end.send(rest, b"\r\n")?,
+                "text" => end.send(rest, b"\n")?,
+                "bytes" => end.send(rest, b"")?,
                 "asks" => write_request(alloc, &words_of(alloc, rest)?, &mut end.bytes)?,
-                "pieces" => end.piece = number(rest)? as usize,
-                "unread" => end.unread = numbers(alloc, rest)?,
-                "unwritten" => end.unwritten = numbers(alloc, rest)?,
-                "passes" => end.passes = number(rest)?,
-                _ => return Err(invalid()),
+                _ => end.set(alloc, key, rest)?,
             }
         }
         Ok(end)
+    }
+
+    // The bytes that the text stands for are sent, and others behind them.
+    fn send(&mut self, text: &str, behind: &[u8]) -> Result<(), AllocError> {
+        percent_decode(text.as_bytes()).append_to(&mut self.bytes)?;
+        self.bytes.extend_from_slice(behind)
+    }
+
+    // How reads, writes and calls go.
+    fn set(&mut self, alloc: Global, key: &str, rest: &str) -> io::Result<()> {
+        match key {
+            "pieces" => self.piece = number(rest)? as usize,
+            "unread" => self.unread = numbers(alloc, rest)?,
+            "unwritten" => self.unwritten = numbers(alloc, rest)?,
+            "passes" => self.passes = number(rest)?,
+            _ => return Err(invalid()),
+        }
+        Ok(())
     }
 
     // What he sends, and what takes what is sent to him.
@@ -68,6 +77,12 @@ impl End {
         };
         let feed = Feed::new(self.bytes, pieces, self.unread);
         Ok((feed, Tray::new(alloc, self.unwritten)))
+    }
+
+    // A connection to him.
+    fn into_conn(self, alloc: Global) -> Result<MemConn, AllocError> {
+        let (feed, tray) = self.into_ways(alloc)?;
+        Ok(MemConn::new(feed, tray))
     }
 }
 
@@ -96,31 +111,38 @@ impl Peers {
             dialled: Vec::new(alloc),
             file: None,
         };
-        if parts.is_empty() {
-            return Ok(peers);
-        }
-        for part in parts.split("\n@") {
-            let (key, lines) = part.split_once('\n').unwrap_or((part, ""));
-            let end = End::read(alloc, lines)?;
-            if key == "file" {
-                peers.file = Some(MemDisk::new(alloc, end.bytes, end.passes)?);
-                continue;
-            }
-            let (source, sink) = end.into_ways(alloc)?;
-            match key {
-                "streams" => {
-                    peers.source = source;
-                    peers.sink = sink;
-                }
-                "ear" => peers.heard.push(Vec::new(alloc))?,
-                "heard" => match peers.heard.last_mut() {
-                    Some(ear) => ear.push(MemConn::new(source, sink))?,
-                    None => return Err(invalid()),
-                },
-                "dialled" => peers.dialled.push(MemConn::new(source, sink))?,
-                _ => return Err(invalid()),
+        if !parts.is_empty() {
+            for part in parts.split("\n@") {
+                peers.add(alloc, part)?;
             }
         }
         Ok(peers)
+    }
+
+    // The end that a part says.
+    fn add(&mut self, alloc: Global, part: &str) -> io::Result<()> {
+        let (key, lines) = part.split_once('\n').unwrap_or((part, ""));
+        let end = End::read(alloc, lines)?;
+        match key {
+            "file" => self.file = Some(MemDisk::new(alloc, end.bytes, end.passes)?),
+            "streams" => {
+                let (source, sink) = end.into_ways(alloc)?;
+                self.source = source;
+                self.sink = sink;
+            }
+            "ear" => self.heard.push(Vec::new(alloc))?,
+            "heard" => self.hear(end.into_conn(alloc)?)?,
+            "dialled" => self.dialled.push(end.into_conn(alloc)?)?,
+            _ => return Err(invalid()),
+        }
+        Ok(())
+    }
+
+    // The last ear hears the connection.
+    fn hear(&mut self, conn: MemConn) -> io::Result<()> {
+        match self.heard.last_mut() {
+            Some(ear) => Ok(ear.push(conn)?),
+            None => Err(invalid()),
+        }
     }
 }
