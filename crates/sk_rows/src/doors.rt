@@ -99,6 +99,17 @@ impl<'a> Row<'a> {
     }
 }
 
+// What is wrong with what comes of a row.
+fn wrong_with<R: Threads + Wait + Sync>(
+    rt: &R,
+    alloc: Global,
+    row: &Row<'_>,
+) -> io::Result<Option<Output>> {
+    let given = Given::read(row.given)?;
+    let came = play(rt, alloc, &given)?.into_bytes()?;
+    Ok(row.wrong(alloc, &came))
+}
+
 /// Runs the rows. Empty lines stand between them, and between them and remarks, which begin with `#`.
 pub fn run<R: Threads + Wait + Sync + Print>(
     rt: &R,
@@ -109,8 +120,7 @@ pub fn run<R: Threads + Wait + Sync + Print>(
     for row in rows.trim_end().split("\n\n") {
         if !row.starts_with('#') {
             let row = Row::read(row)?;
-            let came = play(rt, alloc, &Given::read(row.given)?)?.into_bytes()?;
-            report.add(rt, row.name, row.wrong(alloc, &came))?;
+            report.add(rt, row.name, wrong_with(rt, alloc, &row)?)?;
         }
     }
     Ok(())

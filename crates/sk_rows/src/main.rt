@@ -29,7 +29,7 @@ fn measure(alloc: Global, word: &str, count: &str) -> io::Result<usize> {
     if word != "pushes" {
         return Err(text::invalid());
     }
-    Ok(transcripts::len_of_pushes(alloc, text::number(count)?)?)
+    transcripts::len_of_pushes(alloc, text::number(count)?)
 }
 
 /// With no words all rows. With the words `pushes` and a number so many jobs are pushed, for a measurement of time.

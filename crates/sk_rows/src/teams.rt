@@ -40,11 +40,15 @@ struct Scene {
 
 impl Scene {
     fn of(alloc: Global, given: &Given<'_>) -> io::Result<Scene> {
+        let words = words(alloc, given.words)?;
+        let lines = Lines::new(alloc)?;
+        let runs = Arc::new(alloc, AtomicU64::new(0))?;
+        let peers = Peers::read(alloc, given.parts)?;
         Ok(Scene {
-            words: words(alloc, given.words)?,
-            peers: Peers::read(alloc, given.parts)?,
-            lines: Lines::new(alloc)?,
-            runs: Arc::new(alloc, AtomicU64::new(0))?,
+            words,
+            peers,
+            lines,
+            runs,
         })
     }
 
@@ -90,13 +94,53 @@ impl Scene {
         match class {
             "Flip" => Ok(RowJob::Flip(Flip)),
             "Fail" => Ok(RowJob::Fail(Fail)),
-            "Import" => {
-                let import = import_of(alloc, &self.words, &mut self.peers, &self.lines)?;
-                Ok(RowJob::import(import))
-            }
+            "Import" => self.import(alloc),
             _ => Ok(RowJob::note()),
         }
     }
+
+    // The job that is cut.
+    fn import(&mut self, alloc: Global) -> io::Result<RowJob> {
+        let import = import_of(alloc, &self.words, &mut self.peers, &self.lines)?;
+        Ok(RowJob::import(import))
+    }
+
+    // The classes of a team, each with its job. Only the first team has the job that is cut.
+    fn jobs(
+        &mut self,
+        alloc: Global,
+        given: &Given<'_>,
+        classes: &[String],
+        is_first: bool,
+    ) -> io::Result<Vec<(Text, RowJob)>> {
+        let mut jobs = Vec::new(alloc);
+        if given.call == "iterjob" && !is_first {
+            return Ok(jobs);
+        }
+        for class in classes {
+            let name = Text::new(class.clone()?);
+            jobs.push((name, self.job(alloc, given, class)?))?;
+        }
+        Ok(jobs)
+    }
+
+    // The teams, each with its classes.
+    fn crew(&mut self, alloc: Global, given: &Given<'_>) -> io::Result<Vec<Crew>> {
+        let classes = self.classes(alloc, given)?;
+        let mut crew = Vec::new(alloc);
+        for team in self.teams(alloc, given)? {
+            let jobs = self.jobs(alloc, given, &classes, crew.is_empty())?;
+            crew.push(Crew { team, jobs })?;
+        }
+        Ok(crew)
+    }
+}
+
+/// A team and its classes, each with its job.
+#[derive(Drop)]
+struct Crew {
+    team: Team,
+    jobs: Vec<(Text, RowJob)>,
 }
 
 // The classes that the words of a drill name.
@@ -170,33 +214,43 @@ fn play_first(
     lane_row(alloc, &words, team, rule, &runs)
 }
 
-/// What comes of a call with teams.
-pub fn with_teams<R: Threads + Wait + Sync>(
+// Adds a class to a team.
+fn add(
+    team: &mut Registry,
+    class: Text,
+    job: Box<dyn Job + Send>,
+    rule: DelayRule,
+) -> io::Result<()>
+    requires { 0 ≤ 1 }
+{
+    match team.add(class, job, rule) {
+        Ok(()) => Ok(()),
+        Err(_) => Err(invalid()),
+    }
+}
+
+// What comes of the call with this crew.
+fn play_crew<R: Threads + Wait + Sync>(
     rt: &R,
     alloc: Global,
     given: &Given<'_>,
+    scene: Scene,
+    crew: Vec<Crew>,
 ) -> io::Result<Output> {
-    let mut scene = Scene::of(alloc, given)?;
-    let classes = scene.classes(alloc, given)?;
     let mut teams = Vec::new(alloc);
     let mut rules = Vec::new(alloc);
-    for Team { own, plain } in scene.teams(alloc, given)? {
-        let mut team = Registry::new(alloc);
-        for class in &classes {
-            if given.call == "iterjob" && !teams.is_empty() {
-                break;
-            }
-            let name = Text::new(class.clone()?);
-            let job: Box<dyn Job + Send> = Box::new(alloc, scene.job(alloc, given, class)?)?;
+    for Crew { team, jobs } in crew {
+        let Team { own, plain } = team;
+        let mut registry = Registry::new(alloc);
+        for (class, job) in jobs {
+            let job: Box<dyn Job + Send> = Box::new(alloc, job)?;
             let rule: Box<dyn Fn(u32) -> u64 + Send> = Box::new(
                 alloc,
                 move |count: u32| -> u64
                     ensures { result ≤ LONGEST_DELAY }
                 { delay(own, count) },
             )?;
-            if team.add(name, job, DelayRule::new(rule)).is_err() {
-                return Err(invalid());
-            }
+            add(&mut registry, class, job, DelayRule::new(rule))?;
         }
         let rule: Box<dyn Fn(u32) -> u64 + Send> = Box::new(
             alloc,
@@ -204,8 +258,19 @@ pub fn with_teams<R: Threads + Wait + Sync>(
                 ensures { result ≤ LONGEST_DELAY }
             { delay(plain, count) },
         )?;
-        teams.push(team)?;
+        teams.push(registry)?;
         rules.push(DelayRule::new(rule))?;
     }
     play_with(rt, alloc, given, scene, teams, rules)
+}
+
+/// What comes of a call with teams.
+pub fn with_teams<R: Threads + Wait + Sync>(
+    rt: &R,
+    alloc: Global,
+    given: &Given<'_>,
+) -> io::Result<Output> {
+    let mut scene = Scene::of(alloc, given)?;
+    let crew = scene.crew(alloc, given)?;
+    play_crew(rt, alloc, given, scene, crew)
 }

@@ -24,11 +24,32 @@ const MOST: usize = 8;
 
 const FIRST: usize = 3;
 
+/// The moment at which jobs are due that are pushed for later.
+const LATER: u64 = 1_700_000_060_000;
+
 // A copy of the text.
 fn copied(alloc: Global, text: &str) -> Result<Text, AllocError>
     ensures { IfOk result (λ copy. copy ≡ text.now) }
 {
     Ok(Text::new(String::from_str(alloc, text)?))
+}
+
+// A job of this id with these arguments.
+fn job(jid: Text, class: Text, queue: Text, args: Args) -> JobDraft
+    ensures { result.queue ≡ queue }
+{
+    JobDraft {
+        jid,
+        class,
+        queue,
+        args,
+        retry: Retry::Default,
+        retry_for: None,
+        bid: None,
+        lock: None,
+        dead: true,
+        created: MADE,
+    }
 }
 
 // A job with this argument and this number as its id, in 24 digits.
@@ -37,18 +58,10 @@ fn draft(alloc: Global, n: u64, argument: Value) -> Result<JobDraft, AllocError>
 {
     let mut values = Vec::new(alloc);
     values.push(argument)?;
-    Ok(JobDraft {
-        jid: Text::new(format!(in alloc; "{n:024}")?),
-        class: copied(alloc, "Note")?,
-        queue: copied(alloc, "default")?,
-        args: Args::new(values),
-        retry: Retry::Default,
-        retry_for: None,
-        bid: None,
-        lock: None,
-        dead: true,
-        created: MADE,
-    })
+    let jid = Text::new(format!(in alloc; "{n:024}")?);
+    let class = copied(alloc, "Note")?;
+    let queue = copied(alloc, "default")?;
+    Ok(job(jid, class, queue, Args::new(values)))
 }
 
 // The same with the argument 1.
@@ -149,7 +162,7 @@ fn add_bulk<L: Link>(
     out: &mut Output,
     link: &mut L,
     count: u64,
-) -> Result<(), AllocError> {
+) -> io::Result<()> {
     match bulk(alloc, link, count)? {
         Ok(count) => out.count("= ok ", count, "\n"),
         Err(bulk) => {
@@ -160,20 +173,29 @@ fn add_bulk<L: Link>(
     Ok(())
 }
 
-// The batch b1 with the job 1, and with the callbacks 9 for its success and 8 for a death.
-fn batch(alloc: Global) -> Result<BatchDraft, AllocError> {
-    Ok(BatchDraft {
-        bid: copied(alloc, "b1")?,
+// A batch with these jobs, and with callbacks for its success and for a death.
+fn batch_of(bid: Text, success: JobDraft, death: JobDraft, jobs: Vec<JobDraft>) -> BatchDraft {
+    BatchDraft {
+        bid,
         parent: None,
         complete: None,
-        success: Some(note(alloc, 9)?),
-        death: Some(note(alloc, 8)?),
-        jobs: members(alloc, 1)?,
-    })
+        success: Some(success),
+        death: Some(death),
+        jobs,
+    }
+}
+
+// The batch b1 with the job 1, and with the callbacks 9 for its success and 8 for a death.
+fn batch(alloc: Global) -> Result<BatchDraft, AllocError> {
+    let bid = copied(alloc, "b1")?;
+    let success = note(alloc, 9)?;
+    let death = note(alloc, 8)?;
+    let jobs = members(alloc, 1)?;
+    Ok(batch_of(bid, success, death, jobs))
 }
 
 // Appends what comes of making the batch.
-fn add_batch<L: Link>(alloc: Global, out: &mut Output, link: &mut L) -> Result<(), AllocError> {
+fn add_batch<L: Link>(alloc: Global, out: &mut Output, link: &mut L) -> io::Result<()> {
     let batch = batch(alloc)?;
     match batch.send(alloc, link) {
         Ok(reply) => {
@@ -201,29 +223,48 @@ fn fraction(alloc: Global, n: u64) -> Result<JobDraft, AllocError> {
     draft(alloc, n, half)
 }
 
-// What comes of a push of the job of this number: at once, later, with a fraction, or as a unique job.
+// The job of this number that a step pushes: with a fraction, unique, or as any other.
+fn draft_of(alloc: Global, what: &str, n: u64) -> Result<JobDraft, AllocError> {
+    match what {
+        "fraction" => fraction(alloc, n),
+        "unique" | "unique later" => unique(alloc, n),
+        _ => note(alloc, n),
+    }
+}
+
+// What comes of a push of a job: at once, or later, and of a unique job.
 fn pushed<L: Link>(
     alloc: Global,
     link: &mut L,
     what: &str,
-    n: u64,
-) -> io::Result<Result<(), ClientFault>> {
-    let (later, unique_later) = (1_700_000_060_000, 1_700_000_060_500);
+    draft: &JobDraft,
+) -> Result<(), ClientFault> {
     match what {
-        "push" => Ok(push(alloc, link, &note(alloc, n)?)),
-        "later" => Ok(push_at(alloc, link, &note(alloc, n)?, Score::of_moment(later))),
-        "fraction" => Ok(push(alloc, link, &fraction(alloc, n)?)),
-        "unique" => Ok(push_unique(alloc, link, &unique(alloc, n)?, None)),
-        "unique later" => {
-            let at = Score::of_moment(unique_later);
-            Ok(push_unique(alloc, link, &unique(alloc, n)?, Some(at)))
-        }
-        _ => Err(invalid()),
+        "later" => push_at(alloc, link, draft, Score::of_moment(LATER)),
+        "unique" => push_unique(alloc, link, draft, None),
+        "unique later" => push_unique(alloc, link, draft, Some(Score::of_moment(LATER + 500))),
+        _ => push(alloc, link, draft),
     }
 }
 
+// Appends what comes of a step that pushes a job of this number. Another step is invalid data.
+fn add_push<L: Link>(
+    alloc: Global,
+    out: &mut Output,
+    link: &mut L,
+    what: &str,
+    n: u64,
+) -> io::Result<()> {
+    if !["push", "later", "fraction", "unique", "unique later"].contains(&what) {
+        return Err(invalid());
+    }
+    let draft = draft_of(alloc, what, n)?;
+    add_outcome(out, pushed(alloc, link, what, &draft));
+    Ok(())
+}
+
 // Appends a job's id, drawn from two words.
-fn add_jid(alloc: Global, out: &mut Output) -> Result<(), AllocError> {
+fn add_jid(alloc: Global, out: &mut Output) -> io::Result<()> {
     let words = vec![in alloc; 0x0123_4567_89ab_cdef, 0x0123_4567_0000_0000]?;
     let jid = fresh_jid(alloc, &mut ListDice::new(words))?;
     out.say(jid.text());
@@ -237,7 +278,7 @@ fn add_member<L: Link>(
     out: &mut Output,
     link: &mut L,
     bid: &str,
-) -> Result<(), AllocError> {
+) -> io::Result<()> {
     let members = members(alloc, 2)?;
     add_outcome(out, batch_add(alloc, link, bid, &members));
     Ok(())
@@ -251,14 +292,11 @@ fn add_step<L: Link>(alloc: Global, out: &mut Output, link: &mut L, step: &str) 
     };
     let n = number(word).unwrap_or(0);
     match what {
-        "bulk" => Ok(add_bulk(alloc, out, link, n)?),
-        "jid" => Ok(add_jid(alloc, out)?),
-        "batch" => Ok(add_batch(alloc, out, link)?),
-        "add" => Ok(add_member(alloc, out, link, word)?),
-        _ => {
-            add_outcome(out, pushed(alloc, link, what, n)?);
-            Ok(())
-        }
+        "bulk" => add_bulk(alloc, out, link, n),
+        "jid" => add_jid(alloc, out),
+        "batch" => add_batch(alloc, out, link),
+        "add" => add_member(alloc, out, link, word),
+        _ => add_push(alloc, out, link, what, n),
     }
 }
 
@@ -301,33 +339,44 @@ fn conn_of(alloc: Global, replies: Vec<u8>) -> Result<MemConn, AllocError> {
     Ok(MemConn::new(feed, Tray::new(alloc, Vec::new(alloc))))
 }
 
+// What comes of the steps over a connection.
+fn add_steps(alloc: Global, link: &mut WireLink<MemConn>, steps: &str) -> io::Result<Output> {
+    let mut out = Output::new(alloc);
+    for step in steps.split(',') {
+        add_step(alloc, &mut out, link, step)?;
+    }
+    Ok(out)
+}
+
+// What comes of the steps, and the requests that were sent.
+fn talk(alloc: Global, conn: MemConn, steps: &str) -> io::Result<Output> {
+    let mut link = WireLink::new(alloc, conn);
+    let mut out = add_steps(alloc, &mut link, steps)?;
+    add_requests(alloc, &mut out, link.into_conn().tray().taken());
+    Ok(out)
+}
+
 /// What a client asks over a connection and is told, `STEP,STEP | REPLIES`: of each step what came of it, and then the requests that were sent.
 /// Another text is invalid data.
 pub fn talk_row(alloc: Global, row: &str) -> io::Result<Output> {
     let Some((steps, replies)) = row.split_once('|') else {
         return Err(invalid());
     };
-    let conn = conn_of(alloc, bytes_of(alloc, replies.trim())?)?;
-    let mut link = WireLink::new(alloc, conn);
-    let mut out = Output::new(alloc);
-    for step in steps.trim().split(',') {
-        add_step(alloc, &mut out, &mut link, step)?;
-    }
-    add_requests(alloc, &mut out, link.into_conn().tray().taken());
-    Ok(out)
+    let replies = bytes_of(alloc, replies.trim())?;
+    talk(alloc, conn_of(alloc, replies)?, steps.trim())
 }
 
-/// How many bytes so many jobs are in requests of a thousand, each of which is accepted.
-pub fn len_of_pushes(alloc: Global, count: u64) -> Result<usize, AllocError> {
-    let replies = ":1\r\n".repeat(alloc, count.div_ceil(1_000) as usize)?;
-    let feed = Feed::new(
-        replies.as_bytes().to_vec(alloc)?,
-        Vec::new(alloc),
-        Vec::new(alloc),
-    );
-    let conn = MemConn::new(feed, Tray::new(alloc, Vec::new(alloc)));
+// Pushes so many jobs over a connection. How many bytes it took.
+fn pushes(alloc: Global, conn: MemConn, count: u64) -> io::Result<usize> {
     let mut link = WireLink::new(alloc, conn);
     let mut out = Output::new(alloc);
     add_bulk(alloc, &mut out, &mut link, count)?;
     Ok(link.into_conn().tray().taken().len())
+}
+
+/// How many bytes so many jobs are in requests of a thousand, each of which is accepted.
+pub fn len_of_pushes(alloc: Global, count: u64) -> io::Result<usize> {
+    let replies = ":1\r\n".repeat(alloc, count.div_ceil(1_000) as usize)?;
+    let feed = Feed::new(replies.into_bytes(), Vec::new(alloc), Vec::new(alloc));
+    pushes(alloc, MemConn::new(feed, Tray::new(alloc, Vec::new(alloc))), count)
 }

@@ -15,6 +15,13 @@ use std::alloc::{AllocError, Global};
 use std::io;
 use std::sync::{Arc, Mutex};
 
+// An item raises.
+fn raised(alloc: Global) -> Result<Outcome, AllocError> {
+    let class = Text::new(String::from_str(alloc, "ItemFault")?);
+    let message = Text::new(String::new(alloc));
+    Ok(Outcome::Raised(Raised { class, message }))
+}
+
 /// Items of which one raises, where there is one.
 #[derive(Drop)]
 pub struct ShownItems {
@@ -35,10 +42,7 @@ impl Items for ShownItems {
     fn item(&mut self, alloc: Global, index: u64) -> Result<Outcome, AllocError> {
         self.out.count("item ", index, "\n");
         if self.raises == Some(index) {
-            return Ok(Outcome::Raised(Raised {
-                class: Text::new(String::from_str(alloc, "ItemFault")?),
-                message: Text::new(String::new(alloc)),
-            }));
+            return raised(alloc);
         }
         Ok(Outcome::Returned)
     }
@@ -127,12 +131,13 @@ pub fn import_of(
     if peers.dialled.is_empty() {
         return Err(invalid());
     }
+    let lines = lines.share()?;
+    let link = WireLink::new(alloc, peers.dialled.remove(0));
     let items = CutItems {
         len,
         cut: Some(cut),
         ran: Vec::new(alloc),
-        lines: lines.share()?,
+        lines,
     };
-    let link = WireLink::new(alloc, peers.dialled.remove(0));
     Ok(IterJob { link, items, every })
 }

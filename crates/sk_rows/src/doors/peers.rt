@@ -1,6 +1,6 @@
 // Who is at the other ends of the program: what each sends, in which pieces, and which reads and writes fail; and the program's file.
 use crate::command::words_of;
-use crate::text::{invalid, number, numbers};
+use crate::text::{invalid, numbers};
 use percent_encoding::percent_decode;
 use sk_base::{Feed, MemConn, Tray};
 use sk_disk::MemDisk;
@@ -38,31 +38,43 @@ impl End {
             passes: u64::MAX,
         };
         for line in lines.lines() {
-            let (key, rest) = line.split_once(' ').unwrap_or((line, ""));
-            match key {
-                "line" => end.send(rest, b"\r\n")?,
-                "text" => end.send(rest, b"\n")?,
-                "bytes" => end.send(rest, b"")?,
-                "asks" => write_request(alloc, &words_of(alloc, rest)?, &mut end.bytes)?,
-                _ => end.set(alloc, key, rest)?,
-            }
+            end.add(alloc, line)?;
         }
         Ok(end)
     }
 
+    // What a line says.
+    fn add(&mut self, alloc: Global, line: &str) -> io::Result<()> {
+        let (key, rest) = line.split_once(' ').unwrap_or((line, ""));
+        match key {
+            "line" => self.send(rest, b"\r\n"),
+            "text" => self.send(rest, b"\n"),
+            "bytes" => self.send(rest, b""),
+            "asks" => self.ask(alloc, rest),
+            _ => self.set(key, numbers(alloc, rest)?),
+        }
+    }
+
     // The bytes that the text stands for are sent, and others behind them.
-    fn send(&mut self, text: &str, behind: &[u8]) -> Result<(), AllocError> {
+    fn send(&mut self, text: &str, behind: &[u8]) -> io::Result<()> {
         percent_decode(text.as_bytes()).append_to(&mut self.bytes)?;
-        self.bytes.extend_from_slice(behind)
+        Ok(self.bytes.extend_from_slice(behind)?)
+    }
+
+    // A command is sent.
+    fn ask(&mut self, alloc: Global, command: &str) -> io::Result<()> {
+        let words = words_of(alloc, command)?;
+        Ok(write_request(alloc, &words, &mut self.bytes)?)
     }
 
     // How reads, writes and calls go.
-    fn set(&mut self, alloc: Global, key: &str, rest: &str) -> io::Result<()> {
+    fn set(&mut self, key: &str, numbers: Vec<u64>) -> io::Result<()> {
+        let first = numbers.first().copied().unwrap_or(0);
         match key {
-            "pieces" => self.piece = number(rest)? as usize,
-            "unread" => self.unread = numbers(alloc, rest)?,
-            "unwritten" => self.unwritten = numbers(alloc, rest)?,
-            "passes" => self.passes = number(rest)?,
+            "pieces" => self.piece = first as usize,
+            "passes" => self.passes = first,
+            "unread" => self.unread = numbers,
+            "unwritten" => self.unwritten = numbers,
             _ => return Err(invalid()),
         }
         Ok(())
@@ -124,17 +136,26 @@ impl Peers {
         let (key, lines) = part.split_once('\n').unwrap_or((part, ""));
         let end = End::read(alloc, lines)?;
         match key {
-            "file" => self.file = Some(MemDisk::new(alloc, end.bytes, end.passes)?),
-            "streams" => {
-                let (source, sink) = end.into_ways(alloc)?;
-                self.source = source;
-                self.sink = sink;
-            }
-            "ear" => self.heard.push(Vec::new(alloc))?,
-            "heard" => self.hear(end.into_conn(alloc)?)?,
-            "dialled" => self.dialled.push(end.into_conn(alloc)?)?,
-            _ => return Err(invalid()),
+            "file" => self.put(alloc, end),
+            "streams" => self.stream(alloc, end),
+            "ear" => Ok(self.heard.push(Vec::new(alloc))?),
+            "heard" => self.hear(end.into_conn(alloc)?),
+            "dialled" => self.dial(end.into_conn(alloc)?),
+            _ => Err(invalid()),
         }
+    }
+
+    // The shelf has the file.
+    fn put(&mut self, alloc: Global, end: End) -> io::Result<()> {
+        self.file = Some(MemDisk::new(alloc, end.bytes, end.passes)?);
+        Ok(())
+    }
+
+    // The standard streams.
+    fn stream(&mut self, alloc: Global, end: End) -> io::Result<()> {
+        let (source, sink) = end.into_ways(alloc)?;
+        self.source = source;
+        self.sink = sink;
         Ok(())
     }
 
@@ -144,5 +165,10 @@ impl Peers {
             Some(ear) => Ok(ear.push(conn)?),
             None => Err(invalid()),
         }
+    }
+
+    // The door makes the connection.
+    fn dial(&mut self, conn: MemConn) -> io::Result<()> {
+        Ok(self.dialled.push(conn)?)
     }
 }

@@ -1,18 +1,20 @@
 // Turns of a poller over a connection whose replies are given.
-ghost use Rattle.std.specs.Prelude.{◌≡◌};
+ghost use Rattle.std.specs.Prelude.{◌≡◌, true, IfOk};
 ghost use Rattle.std.specs.List.{list_all};
 ghost use Rattle.sk_base.specs.Name.{is_name};
 ghost use Rattle.sk_base.specs.declared.limits.TheConstants.{LONGEST_NAME};
 ghost use Rattle.sk_poller.specs.Loop.{is_loop};
+ghost use Rattle.sk_cron.specs.Offset.{IsOffset};
 
 use crate::doors::workers::TEAMS;
 use crate::doors::{Given, Peers, add_conns};
 use crate::faults::link_fault;
 use crate::output::Output;
-use crate::text::{invalid, words};
+use crate::text::{invalid, words as words_in};
 use sk_base::is_name;
 use sk_base::limits::{LONGEST_NAME, OFFSET_UTC};
 use sk_base::{ListDice, MemConn, StepClock};
+use sk_launcher::WorkSettings;
 use sk_line::read_work;
 use sk_link::WireLink;
 use sk_poller::{Loop, PollFault, PollReport, Poller};
@@ -90,32 +92,41 @@ impl Polling {
     }
 }
 
-// The poller that the words ask for, as a line of `work`, and how many turns it takes.
-fn polling_of(alloc: Global, given: &Given<'_>) -> io::Result<(Polling, u32)> {
-    let Ok(settings) = read_work(alloc, &words(alloc, given.words)?, TEAMS) else {
+// What the words ask for, as a line of `work`.
+fn settings_of(alloc: Global, words: &str) -> io::Result<WorkSettings>
+    ensures { IfOk result (λ settings. IsOffset settings.offset × (list_all is_loop settings.loops.items ≡ true)) }
+{
+    let words = words_in(alloc, words)?;
+    let Ok(settings) = read_work(alloc, &words, TEAMS) else {
         return Err(invalid());
     };
-    let (offset, turns) = (settings.offset, settings.turns);
+    let offset = settings.offset;
     if offset < -OFFSET_UTC || offset > OFFSET_UTC || !are_loops(&settings.loops) {
         return Err(invalid());
     }
-    let polling = Polling {
-        poller: Poller::new(settings.ident, settings.loops, offset),
-        clock: given.clock()?,
-        dice: given.dice(alloc)?,
-        out: Output::new(alloc),
-    };
-    Ok((polling, turns))
+    Ok(settings)
+}
+
+// What a poller of these settings reports, and the connection.
+fn polled(alloc: Global, given: &Given<'_>, settings: WorkSettings, conn: MemConn) -> io::Result<Output>
+    requires offset { IsOffset settings.offset }
+    requires loops { list_all is_loop settings.loops.items ≡ true }
+{
+    let (clock, dice) = (given.clock()?, given.dice(alloc)?);
+    let poller = Poller::new(settings.ident, settings.loops, settings.offset);
+    let out = Output::new(alloc);
+    let mut polling = Polling { poller, clock, dice, out };
+    polling.out.say("polled\n");
+    let conn = polling.turns(alloc, conn, settings.turns);
+    add_conns(&mut polling.out, &[conn], "@dialled\n");
+    Ok(polling.out)
 }
 
 /// What comes of the poller that the words ask for, as a line of `work`: what each of its turns reports, and what its connection took.
 pub fn poll_row(alloc: Global, given: &Given<'_>) -> io::Result<Output> {
-    let Some(conn) = Peers::read(alloc, given.parts)?.dialled.pop() else {
-        return Err(invalid());
-    };
-    let (mut polling, turns) = polling_of(alloc, given)?;
-    polling.out.say("polled\n");
-    let conn = polling.turns(alloc, conn, turns);
-    add_conns(&mut polling.out, &[conn], "@dialled\n");
-    Ok(polling.out)
+    let settings = settings_of(alloc, given.words)?;
+    match Peers::read(alloc, given.parts)?.dialled.pop() {
+        Some(conn) => polled(alloc, given, settings, conn),
+        None => Err(invalid()),
+    }
 }

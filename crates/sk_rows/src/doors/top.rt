@@ -31,6 +31,14 @@ fn hold(draft: JobDraft) -> Option<JobDraft>
     Some(draft)
 }
 
+// A shelf with the file, or with an empty one.
+fn shelf_of(alloc: Global, file: Option<MemDisk>) -> Result<MemShelf, AllocError> {
+    match file {
+        Some(file) => Ok(MemShelf::new(file)),
+        None => Ok(MemShelf::new(MemDisk::new(alloc, Vec::new(alloc), u64::MAX)?)),
+    }
+}
+
 /// What the top call talks to and goes by.
 #[derive(Drop)]
 struct Scene {
@@ -47,18 +55,17 @@ struct Scene {
 impl Scene {
     fn of(alloc: Global, given: &Given<'_>, peers: Peers) -> io::Result<Scene> {
         let tells_file = peers.file.is_some();
-        let file = match peers.file {
-            Some(file) => file,
-            None => MemDisk::new(alloc, Vec::new(alloc), u64::MAX)?,
-        };
+        let shelf = shelf_of(alloc, peers.file)?;
+        let words = words(alloc, given.words)?;
+        let (clock, dice) = (given.clock()?, given.dice(alloc)?);
         Ok(Scene {
-            words: words(alloc, given.words)?,
+            words,
             source: peers.source,
             sink: peers.sink,
             door: MemDoor::new(alloc, peers.heard, peers.dialled),
-            shelf: MemShelf::new(file),
-            clock: given.clock()?,
-            dice: given.dice(alloc)?,
+            shelf,
+            clock,
+            dice,
             tells_file,
         })
     }

@@ -136,12 +136,9 @@ pub fn run_workers(
 ) -> io::Result<Output>
     requires { 0 ≤ 1 }
 {
-    let mut scene = Scene {
-        clock: given.clock()?,
-        dice: given.dice(alloc)?,
-        lines,
-        out: Output::new(alloc),
-    };
+    let (clock, dice) = (given.clock()?, given.dice(alloc)?);
+    let out = Output::new(alloc);
+    let mut scene = Scene { clock, dice, lines, out };
     let mut past = Vec::new(alloc);
     for conn in conns {
         let settings = settings_of(alloc, given, words)?;

@@ -98,18 +98,21 @@ fn add_request(alloc: Global, out: &mut Output, line: &str) -> io::Result<()> {
     Ok(())
 }
 
-// Appends what comes of a line in this form: `heads` is the head of a job's text; `streams` the kinds of a stream's replies, and where reading ends.
+// `heads`: the head of a job's text.
+fn add_job(alloc: Global, out: &mut Output, line: &str) -> io::Result<()> {
+    add_head(out, &payload_of(alloc, line)?);
+    Ok(())
+}
+
+// Appends what comes of a line in this form: `streams` is the kinds of a stream's replies, and where reading ends.
 fn add_line(alloc: Global, out: &mut Output, form: &str, line: &str) -> io::Result<()> {
     match form {
-        "heads" => {
-            add_head(out, &payload_of(alloc, line)?);
-            Ok(())
-        }
+        "heads" => add_job(alloc, out, line),
         "failures" => add_failed(alloc, out, line),
         "follows" => add_following(alloc, out, line),
         "crons" => add_slot(out, line),
         "requests" => add_request(alloc, out, line),
-        "streams" => Ok(add_stream(alloc, out, line)?),
+        "streams" => add_stream(alloc, out, line),
         _ => Err(invalid()),
     }
 }

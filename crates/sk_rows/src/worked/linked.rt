@@ -55,11 +55,9 @@ fn add_held(out: &mut Output, held: &Result<Option<HeldSlot>, LimitFault>) {
 
 // A slot that is held under a token.
 fn slot_of(alloc: Global, name: &str, slot: u32, token: &str) -> Result<HeldSlot, AllocError> {
-    Ok(HeldSlot {
-        name: Text::new(String::from_str(alloc, name)?),
-        slot,
-        token: Text::new(String::from_str(alloc, token)?),
-    })
+    let name = Text::new(String::from_str(alloc, name)?);
+    let token = Text::new(String::from_str(alloc, token)?);
+    Ok(HeldSlot { name, slot, token })
 }
 
 // `give NAME SLOT TOKEN`: whether it was.

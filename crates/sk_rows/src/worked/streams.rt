@@ -4,6 +4,7 @@
 use crate::output::Output;
 use sk_resp::{Reply, ReplyFault, ReplyFeeder};
 use std::alloc::{AllocError, Global};
+use std::io;
 
 /// Streams below this length are cut at each of their bytes.
 const CUT: usize = 200;
@@ -124,7 +125,7 @@ fn add_reading(alloc: Global, out: &mut Output, stream: &[u8]) -> usize {
 
 /// Appends the line of a stream: the kinds of its replies, and the stream, with `!` before the byte with which nothing can go on, or with `?` at its
 /// end where that is in the middle of what a byte stands for.
-pub fn add_stream(alloc: Global, out: &mut Output, text: &str) -> Result<(), AllocError> {
+pub fn add_stream(alloc: Global, out: &mut Output, text: &str) -> io::Result<()> {
     let place = add_reading(alloc, out, &stream_of(alloc, text)?);
     out.say(" ");
     let mut before = Vec::new(alloc);
