@@ -4,3 +4,4 @@ pub mod Lists
 pub mod Cuts
 pub mod Crons
 pub mod OrderLines
+pub mod Args

@@ -8,3 +8,4 @@ pub mod Drill
 pub mod Work
 pub mod Limit
 pub mod Iterate
+pub mod Adds

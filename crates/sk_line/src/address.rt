@@ -1,24 +1,24 @@
 // The options that say where the store is.
 ghost use Rattle.std.specs.Prelude.{◌≡◌, IfOk, codes};
-ghost use Rattle.clap.specs.Words.{app_of, found_of, rows_of};
+ghost use Rattle.clap.specs.Words.{App, app_of, found_of, rows_of};
 ghost use Rattle.sk_line.specs.Lines.{IsAddress, Reads, addressed};
 ghost use Rattle.sk_line.specs.Values.{Has, IsPort};
 
 use crate::LineFault;
 use crate::defaults::{HOST, PORT};
 use crate::help_lines::{HOST_HELP, PORT_HELP};
-use crate::option::with_default;
+use crate::option::{Options, with_default};
 use crate::value::{number_of, text_of};
-use clap::{ArgMatches, Command};
+use clap::ArgMatches;
 use sk_launcher::Address;
-use std::alloc::{AllocError, Global};
+use std::alloc::Global;
 
 /// The options `--host` and `--port`.
-pub fn addressed<'a>(alloc: Global, command: Command<'a>) -> Result<Command<'a>, AllocError>
-    ensures { IfOk result (λ c. app_of c ≡ addressed (app_of command.entry)) }
+pub fn addressed<'a>(alloc: Global, options: Options<'a>) -> Options<'a>
+    ensures { (app : App) → IfOk options.entry (λ c. app_of c ≡ app) → IfOk result (λ c. app_of c ≡ addressed app) }
 {
-    let command = with_default(alloc, command, "host", HOST, HOST_HELP)?;
-    with_default(alloc, command, "port", PORT, PORT_HELP)
+    let options = with_default(alloc, options, "host", HOST, HOST_HELP);
+    with_default(alloc, options, "port", PORT, PORT_HELP)
 }
 
 /// Their values.

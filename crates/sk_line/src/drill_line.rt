@@ -7,10 +7,10 @@ ghost use Rattle.sk_line.specs.Lines.{Reads};
 use crate::LineFault;
 use crate::help_lines::{CRASHES_HELP, DRILL_JOBS_HELP, SEED_HELP, WORKERS_HELP};
 use crate::matches::matches_of;
-use crate::option::positional;
+use crate::option::{Options, positional};
 use crate::value::{number_of, seed_of};
 use clap::{ArgMatches, Command};
-use std::alloc::{AllocError, Global};
+use std::alloc::Global;
 
 /// The most jobs of a drill.
 pub const MOST_DRILLED: u32 = 20_000;
@@ -19,7 +19,7 @@ pub const MOST_DRILLED: u32 = 20_000;
 pub const MOST_CRASHES: u32 = 1_000_000;
 
 /// What the words of `drill` ask for.
-#[derive(Clone, Copy, Debug, PartialEq, Eq)]
+#[derive(Clone, Copy)]
 pub struct DrillLine {
     /// What the words of the workers' crashes and dice are made from.
     pub seed: u64,
@@ -32,14 +32,14 @@ pub struct DrillLine {
 }
 
 /// The options of `drill`.
-pub fn drill_command<'a>(alloc: Global) -> Result<Command<'a>, AllocError>
+pub fn drill_command<'a>(alloc: Global) -> Options<'a>
     ensures { IfOk result (λ c. app_of c ≡ drill_app) }
 {
-    let command = Command::new(alloc, "drill");
-    let command = positional(alloc, command, "SEED", SEED_HELP)?;
-    let command = positional(alloc, command, "JOBS", DRILL_JOBS_HELP)?;
-    let command = positional(alloc, command, "WORKERS", WORKERS_HELP)?;
-    positional(alloc, command, "CRASHES", CRASHES_HELP)
+    let options = Ok(Command::new(alloc, "drill"));
+    let options = positional(alloc, options, "SEED", SEED_HELP);
+    let options = positional(alloc, options, "JOBS", DRILL_JOBS_HELP);
+    let options = positional(alloc, options, "WORKERS", WORKERS_HELP);
+    positional(alloc, options, "CRASHES", CRASHES_HELP)
 }
 
 // Their values, where there are so many teams.

@@ -5,7 +5,7 @@ ghost use Rattle.sk_line.specs.declared.fault.LineFault.TheVariants.{Memory};
 use std::alloc::{AllocError, AllocFailed};
 
 /// Why words are no command line of a subcommand.
-#[derive(Clone, Copy, Debug, PartialEq, Eq)]
+#[derive(Clone, Copy)]
 pub enum LineFault {
     /// The subcommand doesn't take these words, or a value in them breaks its rule. Asking for help is no command line either.
     Refused,

@@ -9,13 +9,13 @@ use crate::address::{address_of, addressed};
 use crate::defaults::{EVERY, MOST_ITEMS};
 use crate::help_lines::{EVERY_HELP, ITEMS_HELP, JID_HELP, MOST_ITEMS_HELP};
 use crate::matches::matches_of;
-use crate::option::{positional, with_default};
+use crate::option::{Options, positional, with_default};
 use crate::value::{name_of, number_of};
 use clap::{ArgMatches, Command};
 use sk_base::limits::LONGEST_ID;
 use sk_launcher::Address;
 use sk_resp::Text;
-use std::alloc::{AllocError, Global};
+use std::alloc::Global;
 
 /// The most items between two saves of a cursor.
 pub const MOST_EVERY: u32 = 1_000;
@@ -24,7 +24,7 @@ pub const MOST_EVERY: u32 = 1_000;
 pub const MOST_ITERATED: u32 = 1_000_000;
 
 /// What the words of `iterate` ask for.
-#[derive(Debug, Drop)]
+#[derive(Drop)]
 pub struct IterateLine {
     /// The store that keeps the cursor.
     pub address: Address,
@@ -39,14 +39,14 @@ pub struct IterateLine {
 }
 
 /// The options of `iterate`.
-pub fn iterate_command<'a>(alloc: Global) -> Result<Command<'a>, AllocError>
+pub fn iterate_command<'a>(alloc: Global) -> Options<'a>
     ensures { IfOk result (λ c. app_of c ≡ iterate_app) }
 {
-    let command = addressed(alloc, Command::new(alloc, "iterate"))?;
-    let command = with_default(alloc, command, "every", EVERY, EVERY_HELP)?;
-    let command = with_default(alloc, command, "most", MOST_ITEMS, MOST_ITEMS_HELP)?;
-    let command = positional(alloc, command, "JID", JID_HELP)?;
-    positional(alloc, command, "COUNT", ITEMS_HELP)
+    let options = addressed(alloc, Ok(Command::new(alloc, "iterate")));
+    let options = with_default(alloc, options, "every", EVERY, EVERY_HELP);
+    let options = with_default(alloc, options, "most", MOST_ITEMS, MOST_ITEMS_HELP);
+    let options = positional(alloc, options, "JID", JID_HELP);
+    positional(alloc, options, "COUNT", ITEMS_HELP)
 }
 
 // Their values.

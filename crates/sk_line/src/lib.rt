@@ -20,6 +20,7 @@ mod range;
 mod serve_line;
 mod soak_line;
 mod status_line;
+mod subcommand;
 mod value;
 mod work_line;
 

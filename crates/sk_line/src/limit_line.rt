@@ -10,12 +10,12 @@ use crate::LineFault;
 use crate::address::{address_of, addressed};
 use crate::help_lines::{KIND_HELP, LIMITER_HELP, MILLIS_HELP, MOST_HELP};
 use crate::matches::matches_of;
-use crate::option::positional;
+use crate::option::{Options, positional};
 use crate::value::{name_of, number_of, text_in};
 use clap::{ArgMatches, Command};
 use sk_launcher::Address;
 use sk_resp::Text;
-use std::alloc::{AllocError, Global};
+use std::alloc::Global;
 
 /// The most bytes of a limiter's name.
 pub const LONGEST_LIMITER: usize = 100;
@@ -27,7 +27,7 @@ pub const MOST_LIMITED: u32 = 1_000;
 pub const MOST_LIMITED_MILLIS: u32 = 1_000_000_000;
 
 /// What a limiter is asked for.
-#[derive(Clone, Copy, Debug, PartialEq, Eq)]
+#[derive(Clone, Copy)]
 pub enum LimitKind {
     /// A slot, for a time.
     Hold,
@@ -36,7 +36,7 @@ pub enum LimitKind {
 }
 
 /// What the words of `limit` ask for.
-#[derive(Debug, Drop)]
+#[derive(Drop)]
 pub struct LimitLine {
     /// The store that keeps the limiter.
     pub address: Address,
@@ -51,14 +51,14 @@ pub struct LimitLine {
 }
 
 /// The options of `limit`.
-pub fn limit_command<'a>(alloc: Global) -> Result<Command<'a>, AllocError>
+pub fn limit_command<'a>(alloc: Global) -> Options<'a>
     ensures { IfOk result (λ c. app_of c ≡ limit_app) }
 {
-    let command = addressed(alloc, Command::new(alloc, "limit"))?;
-    let command = positional(alloc, command, "KIND", KIND_HELP)?;
-    let command = positional(alloc, command, "NAME", LIMITER_HELP)?;
-    let command = positional(alloc, command, "MOST", MOST_HELP)?;
-    positional(alloc, command, "MILLIS", MILLIS_HELP)
+    let options = addressed(alloc, Ok(Command::new(alloc, "limit")));
+    let options = positional(alloc, options, "KIND", KIND_HELP);
+    let options = positional(alloc, options, "NAME", LIMITER_HELP);
+    let options = positional(alloc, options, "MOST", MOST_HELP);
+    positional(alloc, options, "MILLIS", MILLIS_HELP)
 }
 
 // What the text asks a limiter for.

@@ -7,24 +7,24 @@ ghost use Rattle.sk_line.specs.Log.{IsLog, IsLogValues, log_app};
 use crate::LineFault;
 use crate::help_lines::LOG_HELP;
 use crate::matches::matches_of;
-use crate::option::optional;
+use crate::option::{Options, optional};
 use crate::value::path_of;
 use clap::{ArgMatches, Command};
 use sk_resp::Text;
-use std::alloc::{AllocError, Global};
+use std::alloc::Global;
 
 /// What the words of `pipe --log` ask for.
-#[derive(Debug, Drop)]
+#[derive(Drop)]
 pub struct LogLine {
     /// The file that keeps the store. It isn't empty.
     pub path: Text,
 }
 
 /// The options of `pipe`.
-pub fn log_command<'a>(alloc: Global) -> Result<Command<'a>, AllocError>
+pub fn log_command<'a>(alloc: Global) -> Options<'a>
     ensures { IfOk result (λ c. app_of c ≡ log_app) }
 {
-    optional(alloc, Command::new(alloc, "pipe"), "log", LOG_HELP)
+    optional(alloc, Ok(Command::new(alloc, "pipe")), "log", LOG_HELP)
 }
 
 // Their values.

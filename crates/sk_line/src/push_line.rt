@@ -12,14 +12,14 @@ use crate::help_lines::{
     ARGS_HELP, AT_HELP, CLASS_HELP, QUEUE_HELP, RETRY_FOR_HELP, RETRY_HELP, UNIQUE_HELP,
 };
 use crate::matches::matches_of;
-use crate::option::{optional, positional, with_default};
+use crate::option::{Options, optional, positional, with_default};
 use crate::value::{args_of, retry_of, score_of, seconds_of, text_of};
 use clap::{ArgMatches, Command};
 use sk_base::Score;
 use sk_launcher::Address;
 use sk_payload::{Args, Retry};
 use sk_resp::Text;
-use std::alloc::{AllocError, Global};
+use std::alloc::Global;
 
 /// What the words of `push` ask for.
 #[derive(Drop)]
@@ -43,29 +43,29 @@ pub struct PushLine {
 }
 
 /// The options of `push`.
-pub fn push_command<'a>(alloc: Global) -> Result<Command<'a>, AllocError>
+pub fn push_command<'a>(alloc: Global) -> Options<'a>
     ensures { IfOk result (λ c. app_of c ≡ push_app) }
 {
-    let command = addressed(alloc, Command::new(alloc, "push"))?;
-    let command = with_default(alloc, command, "queue", QUEUE, QUEUE_HELP)?;
-    let command = with_default(alloc, command, "retry", RETRY, RETRY_HELP)?;
-    let command = optional(alloc, command, "retry-for", RETRY_FOR_HELP)?;
-    let command = optional(alloc, command, "at", AT_HELP)?;
-    let command = optional(alloc, command, "unique", UNIQUE_HELP)?;
-    let command = positional(alloc, command, "CLASS", CLASS_HELP)?;
-    positional(alloc, command, "ARGS", ARGS_HELP)
+    let options = addressed(alloc, Ok(Command::new(alloc, "push")));
+    let options = with_default(alloc, options, "queue", QUEUE, QUEUE_HELP);
+    let options = with_default(alloc, options, "retry", RETRY, RETRY_HELP);
+    let options = optional(alloc, options, "retry-for", RETRY_FOR_HELP);
+    let options = optional(alloc, options, "at", AT_HELP);
+    let options = optional(alloc, options, "unique", UNIQUE_HELP);
+    let options = positional(alloc, options, "CLASS", CLASS_HELP);
+    positional(alloc, options, "ARGS", ARGS_HELP)
 }
 
 // Their values.
 fn line_of(alloc: Global, matches: &ArgMatches<'_>) -> Result<PushLine, LineFault>
     ensures { Reads (IsPushValues (rows_of (found_of matches.now))) result }
 {
-    let address = address_of(alloc, matches)?;
-    let queue = text_of(alloc, matches, "queue")?;
     let retry = retry_of(matches, "retry")?;
     let retry_for = seconds_of(matches, "retry-for")?;
     let at = score_of(matches, "at")?;
     let unique = seconds_of(matches, "unique")?;
+    let address = address_of(alloc, matches)?;
+    let queue = text_of(alloc, matches, "queue")?;
     let class = text_of(alloc, matches, "CLASS")?;
     let args = args_of(alloc, matches, "ARGS")?;
     Ok(PushLine {

@@ -13,6 +13,7 @@ use crate::iterate_line::{MOST_EVERY, MOST_ITERATED};
 use crate::limit_line::{LONGEST_LIMITER, MOST_LIMITED, MOST_LIMITED_MILLIS, kind_of};
 use crate::queues::order_of;
 use crate::soak_line::MOST_SOAKED;
+use crate::subcommand::Subcommand;
 use crate::value::{
     args_of, name_of, number_of, path_of, retry_of, score_of, seconds_of, seed_of, text_in,
     words_in,
@@ -174,17 +175,20 @@ fn of_iterate<'a>(alloc: Global, matches: &ArgMatches<'a>) -> Option<Breach<'a>>
 }
 
 /// The value of this subcommand that breaks its rule: the first, in the order of its help.
-pub fn breach_of<'a>(alloc: Global, name: &str, matches: &ArgMatches<'a>) -> Option<Breach<'a>> {
-    match name {
-        "serve" => of_serve(matches),
-        "work" => of_work(alloc, matches),
-        "push" => of_push(alloc, matches),
-        "drill" => of_drill(matches),
-        "soak" => of_soak(matches),
-        "pipe" => broken(matches, path_of(alloc, matches, "log"), "--log", LOG_HELP),
-        "status" => port_breach(matches, PORT_HELP),
-        "limit" => of_limit(alloc, matches),
-        "iterate" => of_iterate(alloc, matches),
-        _ => None,
+pub fn breach_of<'a>(
+    alloc: Global,
+    subcommand: Subcommand,
+    matches: &ArgMatches<'a>,
+) -> Option<Breach<'a>> {
+    match subcommand {
+        Subcommand::Serve => of_serve(matches),
+        Subcommand::Work => of_work(alloc, matches),
+        Subcommand::Push => of_push(alloc, matches),
+        Subcommand::Drill => of_drill(matches),
+        Subcommand::Pipe => broken(matches, path_of(alloc, matches, "log"), "--log", LOG_HELP),
+        Subcommand::Soak => of_soak(matches),
+        Subcommand::Status => port_breach(matches, PORT_HELP),
+        Subcommand::Limit => of_limit(alloc, matches),
+        Subcommand::Iterate => of_iterate(alloc, matches),
     }
 }

@@ -8,14 +8,14 @@ use crate::address::port_of;
 use crate::defaults::{LOOPS, PORT, SESSIONS};
 use crate::help_lines::{LOOPS_HELP, SERVE_PORT_HELP, SESSIONS_HELP};
 use crate::matches::matches_of;
-use crate::option::with_default;
+use crate::option::{Options, with_default};
 use crate::value::number_of;
 use clap::{ArgMatches, Command};
 use sk_base::limits::MOST_LOOPS_SERVED;
-use std::alloc::{AllocError, Global};
+use std::alloc::Global;
 
 /// What the words of `serve` ask for.
-#[derive(Clone, Copy, Debug, PartialEq, Eq)]
+#[derive(Clone, Copy)]
 pub struct ServeLine {
     /// The port of TCP that it listens at, from 1 to 65,535.
     pub port: u16,
@@ -26,13 +26,13 @@ pub struct ServeLine {
 }
 
 /// The options of `serve`.
-pub fn serve_command<'a>(alloc: Global) -> Result<Command<'a>, AllocError>
+pub fn serve_command<'a>(alloc: Global) -> Options<'a>
     ensures { IfOk result (λ c. app_of c ≡ serve_app) }
 {
-    let command = Command::new(alloc, "serve");
-    let command = with_default(alloc, command, "port", PORT, SERVE_PORT_HELP)?;
-    let command = with_default(alloc, command, "loops", LOOPS, LOOPS_HELP)?;
-    with_default(alloc, command, "sessions", SESSIONS, SESSIONS_HELP)
+    let options = Ok(Command::new(alloc, "serve"));
+    let options = with_default(alloc, options, "port", PORT, SERVE_PORT_HELP);
+    let options = with_default(alloc, options, "loops", LOOPS, LOOPS_HELP);
+    with_default(alloc, options, "sessions", SESSIONS, SESSIONS_HELP)
 }
 
 // Their values.

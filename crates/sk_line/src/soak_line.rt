@@ -7,16 +7,16 @@ ghost use Rattle.sk_line.specs.Soak.{IsSoak, IsSoakValues, soak_app};
 use crate::LineFault;
 use crate::help_lines::{JOBS_HELP, SEED_HELP};
 use crate::matches::matches_of;
-use crate::option::positional;
+use crate::option::{Options, positional};
 use crate::value::{number_of, seed_of};
 use clap::{ArgMatches, Command};
-use std::alloc::{AllocError, Global};
+use std::alloc::Global;
 
 /// The most jobs of a soak.
 pub const MOST_SOAKED: u32 = 1_000_000;
 
 /// What the words of `soak` ask for.
-#[derive(Clone, Copy, Debug, PartialEq, Eq)]
+#[derive(Clone, Copy)]
 pub struct SoakLine {
     /// What the run is made from.
     pub seed: u64,
@@ -25,12 +25,12 @@ pub struct SoakLine {
 }
 
 /// The options of `soak`.
-pub fn soak_command<'a>(alloc: Global) -> Result<Command<'a>, AllocError>
+pub fn soak_command<'a>(alloc: Global) -> Options<'a>
     ensures { IfOk result (λ c. app_of c ≡ soak_app) }
 {
-    let command = Command::new(alloc, "soak");
-    let command = positional(alloc, command, "SEED", SEED_HELP)?;
-    positional(alloc, command, "JOBS", JOBS_HELP)
+    let options = Ok(Command::new(alloc, "soak"));
+    let options = positional(alloc, options, "SEED", SEED_HELP);
+    positional(alloc, options, "JOBS", JOBS_HELP)
 }
 
 // Their values.

@@ -6,22 +6,23 @@ ghost use Rattle.sk_line.specs.Lines.{IsStatus, IsStatusValues, Reads, status_ap
 use crate::LineFault;
 use crate::address::{address_of, addressed};
 use crate::matches::matches_of;
+use crate::option::Options;
 use clap::{ArgMatches, Command};
 use sk_launcher::Address;
-use std::alloc::{AllocError, Global};
+use std::alloc::Global;
 
 /// What the words of `status` ask for.
-#[derive(Debug, Drop)]
+#[derive(Drop)]
 pub struct StatusLine {
     /// The store that is asked.
     pub address: Address,
 }
 
 /// The options of `status`.
-pub fn status_command<'a>(alloc: Global) -> Result<Command<'a>, AllocError>
+pub fn status_command<'a>(alloc: Global) -> Options<'a>
     ensures { IfOk result (λ c. app_of c ≡ status_app) }
 {
-    addressed(alloc, Command::new(alloc, "status"))
+    addressed(alloc, Ok(Command::new(alloc, "status")))
 }
 
 // Their values.

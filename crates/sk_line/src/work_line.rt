@@ -15,27 +15,27 @@ use crate::help_lines::{
     TURNS_HELP,
 };
 use crate::matches::matches_of;
-use crate::option::{flag, positionals, with_default};
+use crate::option::{Options, flag, positionals, with_default};
 use crate::queues::order_of;
 use crate::value::{name_of, number_of};
 use clap::{ArgMatches, Command};
 use sk_base::limits::{LAST_OFFSET, LONGEST_NAME, MOST_PREFETCH, OFFSET_UTC};
 use sk_launcher::WorkSettings;
-use std::alloc::{AllocError, Global};
+use std::alloc::Global;
 
 /// The options of `work`.
-pub fn work_command<'a>(alloc: Global) -> Result<Command<'a>, AllocError>
+pub fn work_command<'a>(alloc: Global) -> Options<'a>
     ensures { IfOk result (λ c. app_of c ≡ work_app) }
 {
-    let command = addressed(alloc, Command::new(alloc, "work"))?;
-    let command = with_default(alloc, command, "ident", IDENT, IDENT_HELP)?;
-    let command = with_default(alloc, command, "queues", QUEUE, QUEUES_HELP)?;
-    let command = flag(alloc, command, "strict", STRICT_HELP)?;
-    let command = with_default(alloc, command, "threads", THREADS, THREADS_HELP)?;
-    let command = with_default(alloc, command, "turns", TURNS, TURNS_HELP)?;
-    let command = with_default(alloc, command, "offset", OFFSET, OFFSET_HELP)?;
-    let command = with_default(alloc, command, "prefetch", PREFETCH, PREFETCH_HELP)?;
-    positionals(alloc, command, "CRON", CRON_HELP)
+    let options = addressed(alloc, Ok(Command::new(alloc, "work")));
+    let options = with_default(alloc, options, "ident", IDENT, IDENT_HELP);
+    let options = with_default(alloc, options, "queues", QUEUE, QUEUES_HELP);
+    let options = flag(alloc, options, "strict", STRICT_HELP);
+    let options = with_default(alloc, options, "threads", THREADS, THREADS_HELP);
+    let options = with_default(alloc, options, "turns", TURNS, TURNS_HELP);
+    let options = with_default(alloc, options, "offset", OFFSET, OFFSET_HELP);
+    let options = with_default(alloc, options, "prefetch", PREFETCH, PREFETCH_HELP);
+    positionals(alloc, options, "CRON", CRON_HELP)
 }
 
 // How far the clock is ahead of UTC: the option is 0 for -1,439 minutes, and 1,439 for UTC.
@@ -54,13 +54,13 @@ fn settings_of(
 ) -> Result<WorkSettings, LineFault>
     ensures { Reads (IsWorkValues teams (rows_of (found_of matches.now))) result }
 {
-    let address = address_of(alloc, matches)?;
-    let ident = name_of(alloc, matches, "ident", LONGEST_NAME)?;
-    let order = order_of(alloc, matches)?;
     let threads = number_of(matches, "threads", 1, teams)?;
     let turns = number_of(matches, "turns", 0, u32::MAX)?;
     let offset = offset_of(matches)?;
     let prefetch = number_of(matches, "prefetch", 1, MOST_PREFETCH as u32)?;
+    let address = address_of(alloc, matches)?;
+    let ident = name_of(alloc, matches, "ident", LONGEST_NAME)?;
+    let order = order_of(alloc, matches)?;
     let loops = loops_of(alloc, matches)?;
     Ok(WorkSettings {
         address,

@@ -4,6 +4,8 @@
 #[cfg(test)]
 mod clocks;
 #[cfg(test)]
+mod commits;
+#[cfg(test)]
 mod files;
 #[cfg(test)]
 mod gates;

@@ -2,13 +2,13 @@ use Rattle.sk_line.proofs.Reading.{passed}
 use Rattle.sk_line.proofs.push_line.line_of.Goals as goal
 
 pub returns-in_err-address : goal.returns-in_err-address
-returns-in_err-address c = passed _ _ c.from_residual.ensures.1 c.in_err-address.ensures (λ line p. (line.address, p.address))
+returns-in_err-address c = passed _ _ c.from_residual-in_err-address.ensures.1 c.in_err-address.ensures (λ line p. (line.address, p.address))
 
 pub returns-in_err-queue : goal.returns-in_err-queue
 returns-in_err-queue c = passed _ _ c.from_residual-in_err-queue.ensures.1 c.in_err-queue.ensures (λ line p. (line.queue, p.queue))
 
 pub returns-in_err-retry : goal.returns-in_err-retry
-returns-in_err-retry c = passed _ _ c.from_residual-in_err-retry.ensures.1 c.in_err-retry.ensures (λ line p. (line.retry, p.retry))
+returns-in_err-retry c = passed _ _ c.from_residual.ensures.1 c.in_err-retry.ensures (λ line p. (line.retry, p.retry))
 
 pub returns-in_err-retry_for : goal.returns-in_err-retry_for
 returns-in_err-retry_for c = passed _ _ c.from_residual-in_err-retry_for.ensures.1 c.in_err-retry_for.ensures (λ line p. (line.retry_for, p.retry_for))

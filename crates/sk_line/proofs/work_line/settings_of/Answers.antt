@@ -2,7 +2,7 @@ use Rattle.sk_line.proofs.Reading.{passed}
 use Rattle.sk_line.proofs.work_line.settings_of.Goals as goal
 
 pub returns-in_err-address : goal.returns-in_err-address
-returns-in_err-address c = passed _ _ c.from_residual.ensures.1 c.in_err-address.ensures (λ settings p. (settings.address, p.address))
+returns-in_err-address c = passed _ _ c.from_residual-in_err-address.ensures.1 c.in_err-address.ensures (λ settings p. (settings.address, p.address))
 
 pub returns-in_err-ident : goal.returns-in_err-ident
 returns-in_err-ident c = passed _ _ c.from_residual-in_err-ident.ensures.1 c.in_err-ident.ensures (λ settings p. (settings.ident, p.ident))
@@ -11,7 +11,7 @@ pub returns-in_err-order : goal.returns-in_err-order
 returns-in_err-order c = passed _ _ c.from_residual-in_err-order.ensures.1 c.in_err-order.ensures (λ settings p. (settings.order, p.order))
 
 pub returns-in_err-threads : goal.returns-in_err-threads
-returns-in_err-threads c = passed _ _ c.from_residual-in_err-threads.ensures.1 c.in_err-threads.ensures (λ settings p. (settings.threads, p.threads))
+returns-in_err-threads c = passed _ _ c.from_residual.ensures.1 c.in_err-threads.ensures (λ settings p. (settings.threads, p.threads))
 
 pub returns-in_err-turns : goal.returns-in_err-turns
 returns-in_err-turns c = passed _ _ c.from_residual-in_err-turns.ensures.1 c.in_err-turns.ensures (λ settings p. (settings.turns, p.turns))

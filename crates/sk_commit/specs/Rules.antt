@@ -1,0 +1,21 @@
+-- The rule of a history of records, and what its steps tell.
+use Rattle.std.specs.Prelude.{ℕ, ◌≡◌, ◌<◌, ◌==◌, true, List, [], ◌∷◌, ◌++◌, length, MatchBool}
+use mathlib.Core.List.{IsPrefix}
+use Rattle.logbook.specs.Pages.{Cell, Step, View, Book, Named}
+use Rattle.sk_log.specs.File.{Body}
+
+-- The first word is the length of the history. A book has two words, of which this one leaves the second at 0.
+pub record IsKept (cells : List Cell) (log : List Body) : Type 0 where
+  pub words : cells ≡ (length log, true) ∷ (0, true) ∷ []
+
+-- the first word of a book
+abbrev pub head_of : Book → Named
+head_of b = record { tracked = true; key = 0; book = b }
+
+-- ys begins with xs, and goes on
+abbrev pub IsLonger : List Body → List Body → Type 0
+IsLonger xs ys = IsPrefix xs ys × (length xs < length ys)
+
+-- The record was added to all that had been seen; or the history was longer, and was seen.
+abbrev pub Adds : Step Body → View Body ℕ → ℕ → View Body ℕ → Type 0
+Adds s v found w = MatchBool (found == s.old) (w.0 ≡ v.0 ++ s.ask ∷ []) (length w.0 ≡ found)

@@ -1,0 +1,22 @@
+// What names a shared log: the book of its history, and which bodies its file may have had before.
+
+use std::marker::Brand;
+
+/// Names a shared log, for contracts alone. A function over an id is called with `Brand` for it.
+pub trait LogId {
+    ghost use Rattle.std.specs.Prelude.{List};
+    ghost use Rattle.logbook.specs.Pages.{Book};
+    ghost use Rattle.sk_log.specs.File.{Body};
+
+    /// The book that keeps the history.
+    ghost book: { Book };
+
+    /// The file may have been a log of these bodies when it was handed over.
+    ghost starts: { List Body → Type 0 };
+}
+
+impl LogId for Brand {
+    ghost book = { record { number = 0; log_name = 0; cells_name = 0 } };
+
+    ghost starts = { λ _. ⊥ };
+}

@@ -1,0 +1,4 @@
+use Rattle.sk_line.proofs.iterate_line.iterate_command.Goals as goal
+
+pub returns : goal.returns
+returns c = c.positional.ensures _ (c.positional-options.ensures _ (c.with_default-options-2.ensures _ (c.with_default-options.ensures _ (c.addressed-options.ensures _ c.new.ensures.app))))
