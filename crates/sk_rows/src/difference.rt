@@ -1,16 +1,20 @@
 // How what came of a row differs from what is wanted.
-ghost use Rattle.std.specs.Prelude.{◌≡◌, None, IfOk};
+ghost use Rattle.std.specs.Prelude.{◌≡◌, None};
 
-use std::alloc::{AllocError, Global};
+use crate::output::Output;
+use crate::text::ESCAPED;
+use std::alloc::Global;
 
 /// How many bytes of a difference are shown.
 const SHOWN: usize = 60;
 
-// Some bytes from there on, as text.
-fn shown(alloc: Global, bytes: &[u8], at: usize) -> Result<String, AllocError> {
+// Appends some bytes from there on, as text.
+fn add_shown(out: &mut Output, bytes: &[u8], at: usize) {
     let rest = &bytes[at.min(bytes.len())..];
     let front = &rest[..rest.len().min(SHOWN)];
-    format!(in alloc; "{}", front.escape_ascii())
+    out.say("'");
+    out.escape(front, ESCAPED);
+    out.say("'");
 }
 
 // How many bytes both have in common at their fronts.
@@ -24,20 +28,33 @@ fn common_front(a: &[u8], b: &[u8]) -> usize {
     most
 }
 
-/// How what came differs from what is wanted; nothing where both are the same.
-pub fn difference(alloc: Global, came: &[u8], wanted: &[u8]) -> Result<Option<String>, AllocError>
-    ensures { IfOk result (λ d. d ≡ None → came.now ≡ wanted.now) }
-{
-    if came == wanted {
-        return Ok(None);
-    }
-    let at = common_front(came, wanted);
+// The line of what is wanted in which a place is, counted from 1.
+fn line_of(wanted: &[u8], at: usize) -> u64 {
     let mut line: u64 = 1;
     for byte in &wanted[..at.min(wanted.len())] {
         line = line.saturating_add(u64::from(*byte == b'\n'));
     }
-    let came = shown(alloc, came, at)?;
-    let wanted = shown(alloc, wanted, at)?;
-    let told = format!(in alloc; "line {line}, from byte {at} on '{came}', wanted '{wanted}'")?;
-    Ok(Some(told))
+    line
+}
+
+// From where on bytes differ, and what stands there.
+fn told(alloc: Global, came: &[u8], wanted: &[u8]) -> Output {
+    let at = common_front(came, wanted);
+    let mut out = Output::new(alloc);
+    out.count("line ", line_of(wanted, at), "");
+    out.count(", from byte ", at as u64, " on ");
+    add_shown(&mut out, came, at);
+    out.say(", wanted ");
+    add_shown(&mut out, wanted, at);
+    out
+}
+
+/// How what came differs from what is wanted; nothing where both are the same.
+pub fn difference(alloc: Global, came: &[u8], wanted: &[u8]) -> Option<Output>
+    ensures { result ≡ None → came.now ≡ wanted.now }
+{
+    if came == wanted {
+        return None;
+    }
+    Some(told(alloc, came, wanted))
 }

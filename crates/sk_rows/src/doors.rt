@@ -14,25 +14,25 @@ mod workers;
 
 use crate::difference::difference;
 use crate::drills::compare_row;
+use crate::output::Output;
 use crate::report::Report;
 use crate::teams::with_teams;
 use crate::text::{halves, invalid};
 use crate::transcripts::talk_row;
-pub use ending::add_bytes;
+pub use ending::add_conns;
 pub use given::Given;
-pub use items::{Lines, import_of};
+pub use items::{Import, Lines, import_of};
 pub use peers::Peers;
 use std::alloc::Global;
-use std::io;
 use std::sync::Wait;
 use std::thread::Threads;
+use std::io;
 pub use top::run_top;
 pub use workers::run_workers;
 
-// What comes of the call.
-fn play<R: Threads + Wait + Sync>(rt: &R, alloc: Global, given: &Given<'_>) -> io::Result<Vec<u8>> {
+// What comes of a call without teams.
+fn call<R: Threads + Wait + Sync>(rt: &R, alloc: Global, given: &Given<'_>) -> io::Result<Output> {
     match given.call {
-        "run" | "work" | "iterjob" | "lane" | "drill" => with_teams(rt, alloc, given),
         "small" | "held" => serving::serve_row(rt, alloc, given),
         "poll" => poller::poll_row(alloc, given),
         "order" => order::turn_row(alloc, given),
@@ -46,8 +46,71 @@ fn play<R: Threads + Wait + Sync>(rt: &R, alloc: Global, given: &Given<'_>) -> i
     }
 }
 
-/// Runs the rows. Empty lines stand between them, and between them and remarks, which begin with `#`. Between what is given in a row and what must
-/// come of it stands `then`; with `but not` in its place something else must come.
+// What comes of the call.
+fn play<R: Threads + Wait + Sync>(rt: &R, alloc: Global, given: &Given<'_>) -> io::Result<Output> {
+    match given.call {
+        "run" | "work" | "iterjob" | "lane" | "drill" => with_teams(rt, alloc, given),
+        _ => call(rt, alloc, given),
+    }
+}
+
+/// A row: what is given, what is wanted of it, and whether something else must come.
+#[derive(Clone, Copy)]
+struct Row<'a> {
+    name: &'a str,
+    given: &'a str,
+    wanted: &'a str,
+    must_differ: bool,
+}
+
+impl<'a> Row<'a> {
+    // Between what is given and what must come of it stands `then`; with `but not` in its place something else must come. Another text is invalid
+    // data.
+    fn read(text: &'a str) -> io::Result<Row<'a>> {
+        let Some((name, row)) = text.split_once('\n') else {
+            return Err(invalid());
+        };
+        if let Some((given, wanted)) = row.split_once("\nthen\n") {
+            let must_differ = false;
+            return Ok(Row { name, given, wanted, must_differ });
+        }
+        match row.split_once("\nbut not\n") {
+            Some((given, wanted)) => {
+                let must_differ = true;
+                Ok(Row { name, given, wanted, must_differ })
+            }
+            None => Err(invalid()),
+        }
+    }
+
+    // What is wrong with what came.
+    fn wrong(&self, alloc: Global, came: &[u8]) -> Option<Output> {
+        let came = came.strip_suffix(b"\n").unwrap_or(came);
+        let differs = difference(alloc, came, self.wanted.as_bytes());
+        if !self.must_differ {
+            return differs;
+        }
+        if differs.is_some() {
+            return None;
+        }
+        let mut wrong = Output::new(alloc);
+        wrong.say("differs in nothing, and must");
+        Some(wrong)
+    }
+}
+
+// What is wrong with what comes of a row.
+fn wrong_with<R: Threads + Wait + Sync>(
+    rt: &R,
+    alloc: Global,
+    row: &Row<'_>,
+) -> io::Result<Option<Output>> {
+    let given = Given::read(row.given)?;
+    let came = play(rt, alloc, &given)?.into_bytes()?;
+    Ok(row.wrong(alloc, &came))
+}
+
+/// Runs the rows. Empty lines stand between them, and between them and remarks, which begin with `#`.
 pub fn run<R: Threads + Wait + Sync + Print>(
     rt: &R,
     alloc: Global,
@@ -55,55 +118,44 @@ pub fn run<R: Threads + Wait + Sync + Print>(
     report: &mut Report,
 ) -> io::Result<()> {
     for row in rows.trim_end().split("\n\n") {
-        if row.starts_with('#') {
-            continue;
+        if !row.starts_with('#') {
+            let row = Row::read(row)?;
+            report.add(rt, row.name, wrong_with(rt, alloc, &row)?)?;
         }
-        let Some((name, row)) = row.split_once('\n') else {
-            return Err(invalid());
-        };
-        let must_differ = !row.contains("\nthen\n");
-        let between = if must_differ {
-            "\nbut not\n"
-        } else {
-            "\nthen\n"
-        };
-        let Some((given, wanted)) = row.split_once(between) else {
-            return Err(invalid());
-        };
-        let came = play(rt, alloc, &Given::read(given)?)?;
-        let came = came.strip_suffix(b"\n").unwrap_or(&came);
-        let wrong = match difference(alloc, came, wanted.as_bytes())? {
-            None if must_differ => Some(String::from_str(alloc, "differs in nothing, and must")?),
-            Some(_) if must_differ => None,
-            wrong => wrong,
-        };
-        report.add(rt, name, wrong)?;
     }
     Ok(())
 }
 
-/// The rows of lanes or of drills, and behind each what came of it; of transcripts that alone. Lines that begin with `#` say what the next row shows.
+// The call of a line of lanes, of drills, or of transcripts.
+fn call_of<'a>(name: &str, line: &'a str) -> io::Result<Given<'a>> {
+    match name {
+        "lanes" => Ok(Given::new("lane", line)),
+        "transcripts" => Ok(Given::new("talk", line)),
+        _ => {
+            let (call, words) = halves(line)?;
+            Ok(Given::new(call, words))
+        }
+    }
+}
+
+/// What comes of rows of lanes, of drills or of transcripts; of lanes and drills behind each row itself. Lines that begin with `#` say what the next
+/// row shows.
 pub fn told<R: Threads + Wait + Sync>(
     rt: &R,
     alloc: Global,
     name: &str,
     rows: &str,
-) -> io::Result<Vec<u8>> {
-    let mut out = Vec::new(alloc);
+) -> io::Result<Output> {
+    let mut out = Output::new(alloc);
     for line in rows.lines() {
         let is_remark = line.is_empty() || line.starts_with('#');
         if is_remark || name != "transcripts" {
-            say!(out, "{line}\n");
+            out.say(line);
+            out.say("\n");
         }
-        if is_remark {
-            continue;
+        if !is_remark {
+            out.append(play(rt, alloc, &call_of(name, line)?)?);
         }
-        let (call, words) = match name {
-            "lanes" => ("lane", line),
-            "transcripts" => ("talk", line),
-            _ => halves(line)?,
-        };
-        out.extend_from_slice(&play(rt, alloc, &Given::new(call, words))?)?;
     }
     Ok(out)
 }

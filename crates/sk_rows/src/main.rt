@@ -2,32 +2,35 @@
 //! answer, and none can say what a call through the store's lock did; rows show both.
 #![tactic(auto)]
 
-/// Appends a text to bytes.
-macro_rules! say {
-    ($out:expr, $($text:tt)*) => {{
-        let alloc = *$out.allocator();
-        let text = format!(in alloc; $($text)*)?;
-        $out.extend_from_slice(text.as_bytes())?;
-    }};
-}
-
 mod command;
-mod counted;
 mod difference;
 mod doors;
 mod drills;
 mod faults;
 mod lanes;
+mod output;
 mod report;
+mod row_job;
 mod store_link;
 mod teams;
 mod text;
 mod transcripts;
 mod worked;
 
+use difference::difference;
 use report::Report;
+use text::path_of;
+use std::alloc::Global;
 use std::process::ExitCode;
 use std::{env, fs, io};
+
+// The words `pushes` and a number: so many jobs are pushed, for a measurement of time. How many bytes that took.
+fn measure(alloc: Global, word: &str, count: &str) -> io::Result<usize> {
+    if word != "pushes" {
+        return Err(text::invalid());
+    }
+    transcripts::len_of_pushes(alloc, text::number(count)?)
+}
 
 /// With no words all rows. With the words `pushes` and a number so many jobs are pushed, for a measurement of time.
 fn main(rt: HostRuntime) -> io::Result<ExitCode> {
@@ -37,10 +40,7 @@ fn main(rt: HostRuntime) -> io::Result<ExitCode> {
         let Some(count) = words.next() else {
             return Err(text::invalid());
         };
-        if word.as_str() != "pushes" {
-            return Err(text::invalid());
-        }
-        let len = transcripts::len_of_pushes(alloc, text::number(count.as_str())?)?;
+        let len = measure(alloc, word.as_str(), count.as_str())?;
         println!(rt; "{len} bytes")?;
         return Ok(ExitCode::SUCCESS);
     }
@@ -49,10 +49,11 @@ fn main(rt: HostRuntime) -> io::Result<ExitCode> {
     let rows = fs::read_to_string(&rt, "doors.txt")?;
     doors::run(&rt, alloc, rows.as_str(), &mut report)?;
     for name in ["lanes", "drills", "transcripts"] {
-        let rows = fs::read_to_string(&rt, format!(in alloc; "{name}.txt")?.as_str())?;
-        let came = doors::told(&rt, alloc, name, rows.as_str())?;
-        report.compare(&rt, name, &came)?;
+        let rows = fs::read_to_string(&rt, path_of(alloc, name, ".txt")?.as_str())?;
+        let came = doors::told(&rt, alloc, name, rows.as_str())?.into_bytes()?;
+        let wanted = fs::read(&rt, path_of(alloc, name, ".out")?.as_str())?;
+        report.add(&rt, name, difference(alloc, &came, &wanted))?;
     }
-    println!(rt; "{} rows, {} differ", report.rows, report.wrong)?;
+    report.print(&rt)?;
     Ok(ExitCode::from(u8::from(report.wrong > 0)))
 }

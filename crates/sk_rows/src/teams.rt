@@ -2,31 +2,32 @@
 ghost use Rattle.std.specs.Prelude.{◌≤◌};
 ghost use Rattle.sk_base.specs.declared.limits.TheConstants.{LONGEST_DELAY};
 
-use crate::counted::Counted;
 use crate::doors::{Given, Lines, Peers, import_of, run_top, run_workers};
 use crate::drills::drill_row;
 use crate::lanes::lane_row;
+use crate::output::Output;
+use crate::row_job::RowJob;
 use crate::text::{count, invalid, words};
-use sk_app::{Fail, Flip, Note};
+use sk_app::{Fail, Flip};
 use sk_base::limits::{LONGEST_DELAY, MOST_WORKERS};
-use sk_middle::told;
 use sk_policy::{DelayRule, plain_delay};
 use sk_resp::Text;
 use sk_worker::{Job, Registry};
-use std::alloc::Global;
+use std::alloc::{AllocError, Global};
 use std::io;
 use std::sync::atomic::AtomicU64;
 use std::sync::{Arc, Wait};
 use std::thread::Threads;
 
-/// The teams of a call.
-#[derive(Drop)]
-struct Crew {
-    // The classes that each team has.
-    classes: Vec<String>,
-    // For each team after how many seconds its jobs are tried again, and jobs of no class that it has; 0: by the plain rule.
-    delays: Vec<(u64, u64)>,
+/// A team: after how many seconds its jobs are tried again, and jobs of no class that it has; 0: by the plain rule.
+#[derive(Clone, Copy)]
+struct Team {
+    own: u64,
+    plain: u64,
 }
+
+/// A team by the plain rule.
+const PLAIN: Team = Team { own: 0, plain: 0 };
 
 /// What a call with teams goes by.
 #[derive(Drop)]
@@ -37,37 +38,131 @@ struct Scene {
     runs: Arc<AtomicU64, Global>,
 }
 
-// One team with the class Note; for rows with rules two teams with the class Fail, for a drill as many as its words say, with the class that they
-// name. For an iterable job, whose own link is the first of the connections, there is a rule for each worker, and the first team has the job.
-fn crew_of(alloc: Global, given: &Given<'_>, scene: &Scene) -> io::Result<Crew> {
-    let mut classes = Vec::new(alloc);
-    let mut delays = Vec::new(alloc);
-    delays.push((0, 0))?;
-    let names = match (given.call, scene.words.as_slice()) {
-        ("drill", [_seed, _jobs, workers, _crashes, names @ ..]) => {
-            delays.resize(count(workers)? as usize, (0, 0))?;
-            for name in names {
-                classes.push(name.clone()?)?;
-            }
-            return Ok(Crew { classes, delays });
-        }
-        ("run", _) if given.ruled => {
-            delays.clear();
-            delays.push((60, 30))?;
-            delays.push((70, 40))?;
-            "Fail"
-        }
-        ("work", _) => "Note Flip",
-        ("iterjob", _) => {
-            delays.resize(scene.peers.dialled.len().saturating_sub(1), (0, 0))?;
-            "Import"
-        }
-        _ => "Note",
-    };
-    for name in names.split(' ') {
-        classes.push(String::from_str(alloc, name)?)?;
+impl Scene {
+    fn of(alloc: Global, given: &Given<'_>) -> io::Result<Scene> {
+        let words = words(alloc, given.words)?;
+        let lines = Lines::new(alloc)?;
+        let runs = Arc::new(alloc, AtomicU64::new(0))?;
+        let peers = Peers::read(alloc, given.parts)?;
+        Ok(Scene {
+            words,
+            peers,
+            lines,
+            runs,
+        })
     }
-    Ok(Crew { classes, delays })
+
+    // The classes that each team has: what the words of a drill name, and else Note; Fail for rows with rules.
+    fn classes(&self, alloc: Global, given: &Given<'_>) -> Result<Vec<String>, AllocError> {
+        let names = match given.call {
+            "drill" => return names_behind(alloc, &self.words),
+            "run" if given.ruled => "Fail",
+            "work" => "Note Flip",
+            "iterjob" => "Import",
+            _ => "Note",
+        };
+        let mut classes = Vec::new(alloc);
+        for name in names.split(' ') {
+            classes.push(String::from_str(alloc, name)?)?;
+        }
+        Ok(classes)
+    }
+
+    // The teams: for rows with rules two, and for a drill as many as its words say. For an iterable job, whose own link is the first of the
+    // connections, there is a rule for each worker, and the first team has the job.
+    fn teams(&self, alloc: Global, given: &Given<'_>) -> io::Result<Vec<Team>> {
+        let count = match (given.call, self.words.as_slice()) {
+            ("drill", [_seed, _jobs, workers, ..]) => count(workers)? as usize,
+            ("iterjob", _) => self.peers.dialled.len().saturating_sub(1),
+            _ => 1,
+        };
+        let mut teams = Vec::new(alloc);
+        if given.call == "run" && given.ruled {
+            teams.push(Team { own: 60, plain: 30 })?;
+            teams.push(Team { own: 70, plain: 40 })?;
+        } else {
+            teams.resize(count, PLAIN)?;
+        }
+        Ok(teams)
+    }
+
+    // The job of a class. The jobs of lanes and drills count their runs.
+    fn job(&mut self, alloc: Global, given: &Given<'_>, class: &str) -> io::Result<RowJob> {
+        if given.call == "lane" || given.call == "drill" {
+            return Ok(RowJob::Counted(Arc::try_clone(&self.runs)?));
+        }
+        match class {
+            "Flip" => Ok(RowJob::Flip(Flip)),
+            "Fail" => Ok(RowJob::Fail(Fail)),
+            "Import" => self.import(alloc),
+            _ => Ok(RowJob::note()),
+        }
+    }
+
+    // The job that is cut.
+    fn import(&mut self, alloc: Global) -> io::Result<RowJob> {
+        let import = import_of(alloc, &self.words, &mut self.peers, &self.lines)?;
+        Ok(RowJob::import(import))
+    }
+
+    // The classes of a team, each with its job. Only the first team has the job that is cut.
+    fn jobs(
+        &mut self,
+        alloc: Global,
+        given: &Given<'_>,
+        classes: &[String],
+        is_first: bool,
+    ) -> io::Result<Vec<(Text, RowJob)>> {
+        let mut jobs = Vec::new(alloc);
+        if given.call == "iterjob" && !is_first {
+            return Ok(jobs);
+        }
+        for class in classes {
+            let name = Text::new(class.clone()?);
+            jobs.push((name, self.job(alloc, given, class)?))?;
+        }
+        Ok(jobs)
+    }
+
+    // The teams, each with its classes.
+    fn crew(&mut self, alloc: Global, given: &Given<'_>) -> io::Result<Vec<Crew>> {
+        let classes = self.classes(alloc, given)?;
+        let mut crew = Vec::new(alloc);
+        for team in self.teams(alloc, given)? {
+            let jobs = self.jobs(alloc, given, &classes, crew.is_empty())?;
+            crew.push(Crew { team, jobs })?;
+        }
+        Ok(crew)
+    }
+}
+
+/// A team and its classes, each with its job.
+#[derive(Drop)]
+struct Crew {
+    team: Team,
+    jobs: Vec<(Text, RowJob)>,
+}
+
+// The classes that the words of a drill name.
+fn names_behind(alloc: Global, words: &[String]) -> Result<Vec<String>, AllocError> {
+    let mut names = Vec::new(alloc);
+    if let [_seed, _jobs, _workers, _crashes, classes @ ..] = words {
+        for class in classes {
+            names.push(class.clone()?)?;
+        }
+    }
+    Ok(names)
+}
+
+// After how many seconds a job is tried again that failed so often; by the plain rule where these are 0.
+fn delay(seconds: u64, count: u32) -> u64
+    ensures { result ≤ LONGEST_DELAY }
+{
+    if seconds == 0 {
+        plain_delay(count)
+    } else {
+        seconds.min(LONGEST_DELAY)
+    }
 }
 
 // What comes of the call with these teams and a plain rule for each.
@@ -77,8 +172,28 @@ fn play_with<R: Threads + Wait + Sync>(
     given: &Given<'_>,
     scene: Scene,
     mut teams: Vec<Registry>,
+    rules: Vec<DelayRule>,
+) -> io::Result<Output>
+    requires { 0 ≤ 1 }
+{
+    if rules.len() != teams.len() || teams.len() > MOST_WORKERS {
+        return Err(invalid());
+    }
+    match given.call {
+        "run" => run_top(rt, alloc, given, scene.peers, &mut teams, rules),
+        "drill" => drill_row(rt, alloc, &scene.words, &mut teams, rules, &scene.runs),
+        _ => play_first(alloc, given, scene, teams, rules),
+    }
+}
+
+// What comes of the call with the first team.
+fn play_first(
+    alloc: Global,
+    given: &Given<'_>,
+    scene: Scene,
+    mut teams: Vec<Registry>,
     mut rules: Vec<DelayRule>,
-) -> io::Result<Vec<u8>>
+) -> io::Result<Output>
     requires { 0 ≤ 1 }
 {
     let Scene {
@@ -87,15 +202,6 @@ fn play_with<R: Threads + Wait + Sync>(
         lines,
         runs,
     } = scene;
-    if rules.len() != teams.len() || teams.len() > MOST_WORKERS {
-        return Err(invalid());
-    }
-    if given.call == "run" {
-        return run_top(rt, alloc, given, peers, &mut teams, rules);
-    }
-    if given.call == "drill" {
-        return drill_row(rt, alloc, &words, &mut teams, rules, &runs);
-    }
     let Some(team) = teams.first_mut() else {
         return Err(invalid());
     };
@@ -108,75 +214,63 @@ fn play_with<R: Threads + Wait + Sync>(
     lane_row(alloc, &words, team, rule, &runs)
 }
 
-/// What comes of a call with teams. The jobs of lanes and drills count their runs.
-pub fn with_teams<R: Threads + Wait + Sync>(
+// Adds a class to a team.
+fn add(
+    team: &mut Registry,
+    class: Text,
+    job: Box<dyn Job + Send>,
+    rule: DelayRule,
+) -> io::Result<()>
+    requires { 0 ≤ 1 }
+{
+    match team.add(class, job, rule) {
+        Ok(()) => Ok(()),
+        Err(_) => Err(invalid()),
+    }
+}
+
+// What comes of the call with this crew.
+fn play_crew<R: Threads + Wait + Sync>(
     rt: &R,
     alloc: Global,
     given: &Given<'_>,
-) -> io::Result<Vec<u8>> {
-    let mut scene = Scene {
-        words: words(alloc, given.words)?,
-        peers: Peers::read(alloc, given.parts)?,
-        lines: Lines::new(alloc)?,
-        runs: Arc::new(alloc, AtomicU64::new(0))?,
-    };
-    let crew = crew_of(alloc, given, &scene)?;
-    let is_counted = given.call == "lane" || given.call == "drill";
+    scene: Scene,
+    crew: Vec<Crew>,
+) -> io::Result<Output> {
     let mut teams = Vec::new(alloc);
     let mut rules = Vec::new(alloc);
-    for (own, plain) in &crew.delays {
-        let (own, plain) = (*own, *plain);
-        let mut team = Registry::new(alloc);
-        for class in &crew.classes {
-            if class.as_str() == "Import" && !teams.is_empty() {
-                break;
-            }
-            let job: Box<dyn Job + Send> = match class.as_str() {
-                _ if is_counted => {
-                    let runs = Arc::try_clone(&scene.runs)?;
-                    Box::new(alloc, told(Counted { runs }))?
-                }
-                "Flip" => Box::new(alloc, Flip)?,
-                "Fail" => Box::new(alloc, Fail)?,
-                "Import" => {
-                    let import = import_of(alloc, &scene.words, &mut scene.peers, &scene.lines)?;
-                    Box::new(alloc, told(import))?
-                }
-                _ => Box::new(alloc, told(Note))?,
-            };
+    for Crew { team, jobs } in crew {
+        let Team { own, plain } = team;
+        let mut registry = Registry::new(alloc);
+        for (class, job) in jobs {
+            let job: Box<dyn Job + Send> = Box::new(alloc, job)?;
             let rule: Box<dyn Fn(u32) -> u64 + Send> = Box::new(
                 alloc,
                 move |count: u32| -> u64
                     ensures { result ≤ LONGEST_DELAY }
-                {
-                    if own == 0 {
-                        plain_delay(count)
-                    } else {
-                        own.min(LONGEST_DELAY)
-                    }
-                },
+                { delay(own, count) },
             )?;
-            if team
-                .add(Text::new(class.clone()?), job, DelayRule::new(rule))
-                .is_err()
-            {
-                return Err(invalid());
-            }
+            add(&mut registry, class, job, DelayRule::new(rule))?;
         }
         let rule: Box<dyn Fn(u32) -> u64 + Send> = Box::new(
             alloc,
             move |count: u32| -> u64
                 ensures { result ≤ LONGEST_DELAY }
-            {
-                if plain == 0 {
-                    plain_delay(count)
-                } else {
-                    plain.min(LONGEST_DELAY)
-                }
-            },
+            { delay(plain, count) },
         )?;
-        teams.push(team)?;
+        teams.push(registry)?;
         rules.push(DelayRule::new(rule))?;
     }
     play_with(rt, alloc, given, scene, teams, rules)
+}
+
+/// What comes of a call with teams.
+pub fn with_teams<R: Threads + Wait + Sync>(
+    rt: &R,
+    alloc: Global,
+    given: &Given<'_>,
+) -> io::Result<Output> {
+    let mut scene = Scene::of(alloc, given)?;
+    let crew = scene.crew(alloc, given)?;
+    play_crew(rt, alloc, given, scene, crew)
 }

@@ -13,6 +13,13 @@ pub fn invalid() -> io::Error {
     io::Error::from(ErrorKind::InvalidData)
 }
 
+/// The path of a file of this name and kind.
+pub fn path_of(alloc: Global, name: &str, kind: &str) -> Result<String, AllocError> {
+    let mut path = String::from_str(alloc, name)?;
+    path.push_str(kind)?;
+    Ok(path)
+}
+
 /// The bytes that a text stands for, in which `%XX` is any byte.
 pub fn bytes_of(alloc: Global, text: &str) -> Result<Vec<u8>, AllocError> {
     let mut bytes = Vec::new(alloc);

@@ -3,16 +3,16 @@ ghost use Rattle.std.specs.Prelude.{◌≡◌, IfOk, codes, vec_len};
 ghost use Rattle.sk_client.specs.Bulk.{NameOneQueue};
 
 use crate::faults::link_fault;
+use crate::output::Output;
 use crate::text::{ESCAPED, bytes_of, invalid, number};
-use percent_encoding::percent_encode;
 use serde_json::{Number, Value};
 use sk_base::{Feed, ListDice, MemConn, Score, Tray};
 use sk_client::{
-    BatchDraft, ClientFault, batch_add, fresh_jid, push, push_at, push_bulk, push_unique,
+    BatchDraft, BulkFault, ClientFault, batch_add, fresh_jid, push, push_at, push_bulk, push_unique,
 };
 use sk_link::{Link, LinkFault, WireLink};
 use sk_payload::{Args, DraftFault, JobDraft, Lock, Retry, Until};
-use sk_resp::{Feeder, Reply, Text, write_reply};
+use sk_resp::{Feeder, Reply, Text, Words};
 use std::alloc::{AllocError, Global};
 use std::io;
 
@@ -24,11 +24,32 @@ const MOST: usize = 8;
 
 const FIRST: usize = 3;
 
+/// The moment at which jobs are due that are pushed for later.
+const LATER: u64 = 1_700_000_060_000;
+
 // A copy of the text.
 fn copied(alloc: Global, text: &str) -> Result<Text, AllocError>
     ensures { IfOk result (λ copy. copy ≡ text.now) }
 {
     Ok(Text::new(String::from_str(alloc, text)?))
+}
+
+// A job of this id with these arguments.
+fn job(jid: Text, class: Text, queue: Text, args: Args) -> JobDraft
+    ensures { result.queue ≡ queue }
+{
+    JobDraft {
+        jid,
+        class,
+        queue,
+        args,
+        retry: Retry::Default,
+        retry_for: None,
+        bid: None,
+        lock: None,
+        dead: true,
+        created: MADE,
+    }
 }
 
 // A job with this argument and this number as its id, in 24 digits.
@@ -37,18 +58,10 @@ fn draft(alloc: Global, n: u64, argument: Value) -> Result<JobDraft, AllocError>
 {
     let mut values = Vec::new(alloc);
     values.push(argument)?;
-    Ok(JobDraft {
-        jid: Text::new(format!(in alloc; "{n:024}")?),
-        class: copied(alloc, "Note")?,
-        queue: copied(alloc, "default")?,
-        args: Args::new(values),
-        retry: Retry::Default,
-        retry_for: None,
-        bid: None,
-        lock: None,
-        dead: true,
-        created: MADE,
-    })
+    let jid = Text::new(format!(in alloc; "{n:024}")?);
+    let class = copied(alloc, "Note")?;
+    let queue = copied(alloc, "default")?;
+    Ok(job(jid, class, queue, Args::new(values)))
 }
 
 // The same with the argument 1.
@@ -82,208 +95,288 @@ fn members(alloc: Global, n: u64) -> Result<Vec<JobDraft>, AllocError>
 }
 
 // Appends a reply as it is written, without the end of its last line.
-fn add_reply(alloc: Global, out: &mut Vec<u8>, reply: &Reply) -> Result<(), AllocError> {
-    let mut bytes = Vec::new(alloc);
-    write_reply(alloc, reply, &mut bytes)?;
-    let text = bytes.strip_suffix(b"\r\n").unwrap_or(&bytes);
-    say!(out, "{}\n", percent_encode(text, ESCAPED));
-    Ok(())
+fn add_reply(out: &mut Output, reply: &Reply) {
+    let mut own = out.empty();
+    own.reply(reply);
+    let text = own.bytes();
+    out.escape(text.strip_suffix(b"\r\n").unwrap_or(text), ESCAPED);
+    out.say("\n");
 }
 
 fn draft_fault(fault: DraftFault) -> &'static str {
     match fault {
-        DraftFault::Name => "name",
-        DraftFault::Fraction => "fraction",
-        DraftFault::Deep => "deep",
-        DraftFault::Long => "long",
-        DraftFault::Memory => "memory",
+        DraftFault::Name => "= draft name\n",
+        DraftFault::Fraction => "= draft fraction\n",
+        DraftFault::Deep => "= draft deep\n",
+        DraftFault::Long => "= draft long\n",
+        DraftFault::Memory => "= draft memory\n",
     }
 }
 
-// Appends why a push did not come about. Bytes of a link that can't be read stand behind its fault.
-fn add_fault(alloc: Global, out: &mut Vec<u8>, fault: &ClientFault) -> Result<(), AllocError> {
-    match fault {
-        ClientFault::Draft(fault) => say!(out, "= draft {}\n", draft_fault(*fault)),
-        ClientFault::Link(LinkFault::Unreadable(bytes)) => {
-            say!(
-                out,
-                "= link unreadable {}\n",
-                percent_encode(bytes.bytes(), ESCAPED)
-            )
-        }
-        ClientFault::Link(fault) => say!(out, "= {}\n", link_fault(fault)),
-        ClientFault::Refused(reply) => {
-            say!(out, "= refused ");
-            add_reply(alloc, out, reply)?;
-        }
-        ClientFault::Held(jid) => say!(out, "= held {}\n", jid.text()),
-        ClientFault::Memory => say!(out, "= memory\n"),
+// Appends why a link ended. Bytes that can't be read stand behind that.
+fn add_lost(out: &mut Output, fault: &LinkFault) {
+    out.say("= ");
+    out.say(link_fault(fault));
+    if let LinkFault::Unreadable(bytes) = fault {
+        out.say(" ");
+        out.escape(bytes.bytes(), ESCAPED);
     }
-    Ok(())
+    out.say("\n");
+}
+
+// Appends why a push did not come about.
+fn add_fault(out: &mut Output, fault: &ClientFault) {
+    match fault {
+        ClientFault::Draft(fault) => out.say(draft_fault(*fault)),
+        ClientFault::Link(fault) => add_lost(out, fault),
+        ClientFault::Refused(reply) => {
+            out.say("= refused ");
+            add_reply(out, reply);
+        }
+        ClientFault::Held(jid) => {
+            out.say("= held ");
+            out.say(jid.text());
+            out.say("\n");
+        }
+        ClientFault::Memory => out.say("= memory\n"),
+    }
 }
 
 // Appends what a push came to.
-fn add_outcome(
-    alloc: Global,
-    out: &mut Vec<u8>,
-    outcome: Result<(), ClientFault>,
-) -> Result<(), AllocError> {
+fn add_outcome(out: &mut Output, outcome: Result<(), ClientFault>) {
     match outcome {
-        Ok(()) => out.extend_from_slice(b"= ok\n"),
-        Err(fault) => add_fault(alloc, out, &fault),
+        Ok(()) => out.say("= ok\n"),
+        Err(fault) => add_fault(out, &fault),
     }
 }
 
-// So many jobs are pushed, in slices of a thousand.
+// What comes of so many jobs that are pushed, in slices of a thousand.
+fn bulk<L: Link>(alloc: Global, link: &mut L, count: u64) -> Result<Result<u64, BulkFault>, AllocError> {
+    let drafts = notes(alloc, count)?;
+    Ok(push_bulk(alloc, link, &drafts, 1_000))
+}
+
+// Appends what comes of it.
 fn add_bulk<L: Link>(
     alloc: Global,
-    out: &mut Vec<u8>,
+    out: &mut Output,
     link: &mut L,
     count: u64,
-) -> Result<(), AllocError> {
-    let drafts = notes(alloc, count)?;
-    match push_bulk(alloc, link, &drafts, 1_000) {
-        Ok(count) => say!(out, "= ok {count}\n"),
+) -> io::Result<()> {
+    match bulk(alloc, link, count)? {
+        Ok(count) => out.count("= ok ", count, "\n"),
         Err(bulk) => {
-            say!(out, "= sent {}\n", bulk.sent);
-            add_fault(alloc, out, &bulk.fault)?;
+            out.count("= sent ", bulk.sent, "\n");
+            add_fault(out, &bulk.fault);
         }
     }
     Ok(())
 }
 
-// The batch b1 with the job 1, and with the callbacks 9 for its success and 8 for a death.
-fn add_batch<L: Link>(alloc: Global, out: &mut Vec<u8>, link: &mut L) -> Result<(), AllocError> {
-    let batch = BatchDraft {
-        bid: copied(alloc, "b1")?,
+// A batch with these jobs, and with callbacks for its success and for a death.
+fn batch_of(bid: Text, success: JobDraft, death: JobDraft, jobs: Vec<JobDraft>) -> BatchDraft {
+    BatchDraft {
+        bid,
         parent: None,
         complete: None,
-        success: Some(note(alloc, 9)?),
-        death: Some(note(alloc, 8)?),
-        jobs: members(alloc, 1)?,
-    };
-    match batch.send(alloc, link) {
-        Ok(reply) => {
-            say!(out, "= ");
-            add_reply(alloc, out, &reply)
-        }
-        Err(fault) => add_fault(alloc, out, &fault),
+        success: Some(success),
+        death: Some(death),
+        jobs,
     }
 }
 
-// A unique job, which has one holder of its lock for ten minutes, is pushed, or put into the schedule.
-fn add_unique<L: Link>(
-    alloc: Global,
-    out: &mut Vec<u8>,
-    link: &mut L,
-    n: u64,
-    at: Option<Score>,
-) -> Result<(), AllocError> {
+// The batch b1 with the job 1, and with the callbacks 9 for its success and 8 for a death.
+fn batch(alloc: Global) -> Result<BatchDraft, AllocError> {
+    let bid = copied(alloc, "b1")?;
+    let success = note(alloc, 9)?;
+    let death = note(alloc, 8)?;
+    let jobs = members(alloc, 1)?;
+    Ok(batch_of(bid, success, death, jobs))
+}
+
+// Appends what comes of making the batch.
+fn add_batch<L: Link>(alloc: Global, out: &mut Output, link: &mut L) -> io::Result<()> {
+    let batch = batch(alloc)?;
+    match batch.send(alloc, link) {
+        Ok(reply) => {
+            out.say("= ");
+            add_reply(out, &reply);
+        }
+        Err(fault) => add_fault(out, &fault),
+    }
+    Ok(())
+}
+
+// A unique job, which has one holder of its lock for ten minutes.
+fn unique(alloc: Global, n: u64) -> Result<JobDraft, AllocError> {
     let mut draft = note(alloc, n)?;
     draft.lock = Some(Lock {
         seconds: 600,
         until: Until::Success,
     });
-    add_outcome(alloc, out, push_unique(alloc, link, &draft, at))
+    Ok(draft)
 }
 
-// Appends what came of a step: `push`, `later` and `unique` push the job of this number, `fraction` one with the argument 1.5, which no job may have,
-// `bulk` so many jobs; `jid` draws a job's id from two words; `batch` makes the batch b1, and `add` adds a job of it to the batch of this id. Another
-// step is invalid data.
-fn add_step<L: Link>(alloc: Global, out: &mut Vec<u8>, link: &mut L, step: &str) -> io::Result<()> {
+// A job with the argument 1.5, which no job may have.
+fn fraction(alloc: Global, n: u64) -> Result<JobDraft, AllocError> {
+    let half = Number::from_f64(1.5).map_or(Value::Null, Value::Number);
+    draft(alloc, n, half)
+}
+
+// The job of this number that a step pushes: with a fraction, unique, or as any other.
+fn draft_of(alloc: Global, what: &str, n: u64) -> Result<JobDraft, AllocError> {
+    match what {
+        "fraction" => fraction(alloc, n),
+        "unique" | "unique later" => unique(alloc, n),
+        _ => note(alloc, n),
+    }
+}
+
+// What comes of a push of a job: at once, or later, and of a unique job.
+fn pushed<L: Link>(
+    alloc: Global,
+    link: &mut L,
+    what: &str,
+    draft: &JobDraft,
+) -> Result<(), ClientFault> {
+    match what {
+        "later" => push_at(alloc, link, draft, Score::of_moment(LATER)),
+        "unique" => push_unique(alloc, link, draft, None),
+        "unique later" => push_unique(alloc, link, draft, Some(Score::of_moment(LATER + 500))),
+        _ => push(alloc, link, draft),
+    }
+}
+
+// Appends what comes of a step that pushes a job of this number. Another step is invalid data.
+fn add_push<L: Link>(
+    alloc: Global,
+    out: &mut Output,
+    link: &mut L,
+    what: &str,
+    n: u64,
+) -> io::Result<()> {
+    if !["push", "later", "fraction", "unique", "unique later"].contains(&what) {
+        return Err(invalid());
+    }
+    let draft = draft_of(alloc, what, n)?;
+    add_outcome(out, pushed(alloc, link, what, &draft));
+    Ok(())
+}
+
+// Appends a job's id, drawn from two words.
+fn add_jid(alloc: Global, out: &mut Output) -> io::Result<()> {
+    let words = vec![in alloc; 0x0123_4567_89ab_cdef, 0x0123_4567_0000_0000]?;
+    let jid = fresh_jid(alloc, &mut ListDice::new(words))?;
+    out.say(jid.text());
+    out.say("\n");
+    Ok(())
+}
+
+// Appends what comes of adding a job to the batch of this id.
+fn add_member<L: Link>(
+    alloc: Global,
+    out: &mut Output,
+    link: &mut L,
+    bid: &str,
+) -> io::Result<()> {
+    let members = members(alloc, 2)?;
+    add_outcome(out, batch_add(alloc, link, bid, &members));
+    Ok(())
+}
+
+// Appends what came of a step: `push`, `later` and `unique` push the job of this number, `fraction` one with the argument 1.5, `bulk` so many jobs;
+// `jid` draws a job's id; `batch` makes the batch b1, and `add` adds a job of it to the batch of this id. Another step is invalid data.
+fn add_step<L: Link>(alloc: Global, out: &mut Output, link: &mut L, step: &str) -> io::Result<()> {
     let Some((what, word)) = step.rsplit_once(' ') else {
         return Err(invalid());
     };
     let n = number(word).unwrap_or(0);
     match what {
-        "push" => add_outcome(alloc, out, push(alloc, link, &note(alloc, n)?))?,
-        "later" => {
-            let at = Score::of_moment(1_700_000_060_000);
-            add_outcome(alloc, out, push_at(alloc, link, &note(alloc, n)?, at))?
-        }
-        "fraction" => {
-            let half = Number::from_f64(1.5).map_or(Value::Null, Value::Number);
-            add_outcome(alloc, out, push(alloc, link, &draft(alloc, n, half)?))?
-        }
-        "unique" => add_unique(alloc, out, link, n, None)?,
-        "unique later" => {
-            let at = Score::of_moment(1_700_000_060_500);
-            add_unique(alloc, out, link, n, Some(at))?
-        }
-        "bulk" => add_bulk(alloc, out, link, n)?,
-        "jid" => {
-            let words = vec![in alloc; 0x0123_4567_89ab_cdef, 0x0123_4567_0000_0000]?;
-            let jid = fresh_jid(alloc, &mut ListDice::new(words))?;
-            say!(out, "{}\n", jid.text())
-        }
-        "batch" => add_batch(alloc, out, link)?,
-        "add" => {
-            let outcome = batch_add(alloc, link, word, &members(alloc, 2)?);
-            add_outcome(alloc, out, outcome)?
-        }
-        _ => return Err(invalid()),
+        "bulk" => add_bulk(alloc, out, link, n),
+        "jid" => add_jid(alloc, out),
+        "batch" => add_batch(alloc, out, link),
+        "add" => add_member(alloc, out, link, word),
+        _ => add_push(alloc, out, link, what, n),
     }
-    Ok(())
 }
 
-// Appends the requests that a connection took, a line each: the words, or the first of them and how many there are.
-fn add_requests(alloc: Global, out: &mut Vec<u8>, taken: &[u8]) -> Result<(), AllocError> {
+// Appends a request: the words, or the first of them and how many there are.
+fn add_request(out: &mut Output, words: &Words) {
+    let count = words.list().len();
+    let shown = if count > MOST { FIRST } else { count };
+    out.say(">");
+    for word in words.list().iter().take(shown) {
+        out.say(if word.bytes().is_empty() { " \"\"" } else { " " });
+        out.escape(word.bytes(), ESCAPED);
+    }
+    if shown < count {
+        out.count(" .. ", count as u64, " words");
+    }
+    out.say("\n");
+}
+
+// Appends the requests that a connection took, a line each.
+fn add_requests(alloc: Global, out: &mut Output, taken: &[u8]) {
     let mut feeder = Feeder::new(alloc);
     let mut requests = Vec::new(alloc);
     let read = feeder.feed(taken, &mut requests);
     for words in &requests {
-        say!(out, ">");
-        let count = words.list().len();
-        let shown = if count > MOST { FIRST } else { count };
-        for word in words.list().iter().take(shown) {
-            let empty = if word.bytes().is_empty() { "\"\"" } else { "" };
-            say!(out, " {empty}{}", percent_encode(word.bytes(), ESCAPED));
-        }
-        if shown < count {
-            say!(out, " .. {count} words");
-        }
-        out.push(b'\n')?;
+        add_request(out, words);
     }
     if read.is_err() {
-        say!(out, "> no request\n");
+        out.say("> no request\n");
     }
-    Ok(())
 }
 
-/// What a client asks over a connection and is told, `STEP,STEP | REPLIES`: of each step what came of it, and then the requests that were sent. The
-/// replies come three bytes at a time. A connection without replies fails at its first read. Another text is invalid data.
-pub fn talk_row(alloc: Global, row: &str) -> io::Result<Vec<u8>> {
-    let Some((steps, replies)) = row.split_once('|') else {
-        return Err(invalid());
-    };
-    let replies = bytes_of(alloc, replies.trim())?;
+// A connection on which these replies come three bytes at a time. One without replies fails at its first read.
+fn conn_of(alloc: Global, replies: Vec<u8>) -> Result<MemConn, AllocError> {
     let mut fails = Vec::new(alloc);
     if replies.is_empty() {
         fails.push(1)?;
     }
     let pieces = vec![in alloc; 3usize; replies.len()]?;
     let feed = Feed::new(replies, pieces, fails);
-    let conn = MemConn::new(feed, Tray::new(alloc, Vec::new(alloc)));
-    let mut link = WireLink::new(alloc, conn);
-    let mut out = Vec::new(alloc);
-    for step in steps.trim().split(',') {
-        add_step(alloc, &mut out, &mut link, step)?;
+    Ok(MemConn::new(feed, Tray::new(alloc, Vec::new(alloc))))
+}
+
+// What comes of the steps over a connection.
+fn add_steps(alloc: Global, link: &mut WireLink<MemConn>, steps: &str) -> io::Result<Output> {
+    let mut out = Output::new(alloc);
+    for step in steps.split(',') {
+        add_step(alloc, &mut out, link, step)?;
     }
-    add_requests(alloc, &mut out, link.into_conn().tray().taken())?;
     Ok(out)
 }
 
-/// How many bytes so many jobs are in requests of a thousand, each of which is accepted.
-pub fn len_of_pushes(alloc: Global, count: u64) -> Result<usize, AllocError> {
-    let replies = ":1\r\n".repeat(alloc, count.div_ceil(1_000) as usize)?;
-    let feed = Feed::new(
-        replies.as_bytes().to_vec(alloc)?,
-        Vec::new(alloc),
-        Vec::new(alloc),
-    );
-    let conn = MemConn::new(feed, Tray::new(alloc, Vec::new(alloc)));
+// What comes of the steps, and the requests that were sent.
+fn talk(alloc: Global, conn: MemConn, steps: &str) -> io::Result<Output> {
     let mut link = WireLink::new(alloc, conn);
-    let mut out = Vec::new(alloc);
+    let mut out = add_steps(alloc, &mut link, steps)?;
+    add_requests(alloc, &mut out, link.into_conn().tray().taken());
+    Ok(out)
+}
+
+/// What a client asks over a connection and is told, `STEP,STEP | REPLIES`: of each step what came of it, and then the requests that were sent.
+/// Another text is invalid data.
+pub fn talk_row(alloc: Global, row: &str) -> io::Result<Output> {
+    let Some((steps, replies)) = row.split_once('|') else {
+        return Err(invalid());
+    };
+    let replies = bytes_of(alloc, replies.trim())?;
+    talk(alloc, conn_of(alloc, replies)?, steps.trim())
+}
+
+// Pushes so many jobs over a connection. How many bytes it took.
+fn pushes(alloc: Global, conn: MemConn, count: u64) -> io::Result<usize> {
+    let mut link = WireLink::new(alloc, conn);
+    let mut out = Output::new(alloc);
     add_bulk(alloc, &mut out, &mut link, count)?;
     Ok(link.into_conn().tray().taken().len())
+}
+
+/// How many bytes so many jobs are in requests of a thousand, each of which is accepted.
+pub fn len_of_pushes(alloc: Global, count: u64) -> io::Result<usize> {
+    let replies = ":1\r\n".repeat(alloc, count.div_ceil(1_000) as usize)?;
+    let feed = Feed::new(replies.into_bytes(), Vec::new(alloc), Vec::new(alloc));
+    pushes(alloc, MemConn::new(feed, Tray::new(alloc, Vec::new(alloc))), count)
 }

@@ -2,13 +2,13 @@
 ghost use Rattle.std.specs.Prelude.{◌≡◌, ◌+◌, ◌<◌, ◌^◌, IfOk, IfSome, length, vec_len};
 
 use crate::command::{hand_in, words_of};
-use crate::doors::{Given, add_bytes};
+use crate::doors::Given;
+use crate::output::Output;
 use crate::text::{ESCAPED, count, halves, invalid, limits, numbers};
-use percent_encoding::percent_encode;
 use sk_base::StepClock;
-use sk_desk::{Book, Deed, Entry, FullBook, Hub, HubBlank, HubFault, HubId, LockedDesk, Pass};
+use sk_desk::{Ask, Book, Deed, Entry, FullBook, Hub, HubBlank, HubFault, HubId, LockedDesk, Pass};
 use sk_model::Limits;
-use sk_resp::write_reply;
+use sk_status::Tally;
 use std::alloc::{AllocError, Global};
 use std::collections::LinkedList;
 use std::io;
@@ -62,7 +62,7 @@ struct Seating<'a, R: Wait + Sync, I: HubId, B: Book> {
     pass: Pass<I>,
     desks: Vec<LockedDesk<'a, R, I, B>>,
     clock: StepClock,
-    out: Vec<u8>,
+    out: Output,
 }
 
 impl<'a, R: Wait + Sync, I: HubId, B: Book> Seating<'a, R, I, B> {
@@ -71,40 +71,50 @@ impl<'a, R: Wait + Sync, I: HubId, B: Book> Seating<'a, R, I, B> {
         ensures { self.new.pass.parts + vec_len self.new.desks ≡ self.old.pass.parts + vec_len self.old.desks }
     {
         self.desks.reserve(1)?;
-        let out = &mut self.out;
         match self.hub.seat(self.rt, &mut self.pass) {
             Ok(desk) => {
-                let number = desk.number();
+                self.out.count("seat ", u64::from(desk.number()), "\n");
                 self.desks.push_reserved(desk);
-                say!(out, "seat {number}\n")
             }
-            Err(HubFault::Spent) => say!(out, "spent\n"),
-            Err(HubFault::Memory) => say!(out, "memory\n"),
+            Err(HubFault::Spent) => self.out.say("spent\n"),
+            Err(HubFault::Memory) => self.out.say("memory\n"),
         }
         Ok(())
     }
 
-    // `ask SEAT WORD ..`: the desk of this seat hands in a command. `cut SEAT`: it ends.
+    // `cut SEAT`: the desk at this place ends.
+    fn cut(&mut self, place: usize, seat: u32)
+        requires { place < vec_len self.old.desks }
+        ensures { self.new.pass.parts + vec_len self.new.desks ≡ self.old.pass.parts + vec_len self.old.desks }
+    {
+        self.desks.remove(place).end(&mut self.pass);
+        self.out.count("cut ", u64::from(seat), "\n");
+    }
+
+    // `ask SEAT WORD ..`: the desk at this place hands in a command.
+    fn ask(&mut self, alloc: Global, place: usize, command: &str) -> io::Result<()>
+        requires { place < vec_len self.old.desks }
+        ensures { self.new.pass.parts + vec_len self.new.desks ≡ self.old.pass.parts + vec_len self.old.desks }
+    {
+        let words = words_of(alloc, command)?;
+        let reply = hand_in(alloc, &mut self.desks[place], &words, &mut self.clock)?;
+        self.out.reply_lines(&reply);
+        Ok(())
+    }
+
+    // What is done at the desk of a seat.
     fn act(&mut self, alloc: Global, line: &str) -> io::Result<()>
         ensures { self.new.pass.parts + vec_len self.new.desks ≡ self.old.pass.parts + vec_len self.old.desks }
     {
         let (key, rest) = halves(line)?;
         let (seat, command) = rest.split_once(' ').unwrap_or((rest, ""));
         let seat = count(seat)?;
-        let Some(place) = place_of(&self.desks, seat) else {
-            return Ok(self.out.extend_from_slice(b"no desk\n")?);
-        };
-        let out = &mut self.out;
-        if key == "cut" {
-            self.desks.remove(place).end(&mut self.pass);
-            say!(out, "cut {seat}\n");
-            return Ok(());
+        match place_of(&self.desks, seat) {
+            None => self.out.say("no desk\n"),
+            Some(place) if key == "cut" => self.cut(place, seat),
+            Some(place) => self.ask(alloc, place, command)?,
         }
-        let words = words_of(alloc, command)?;
-        let reply = hand_in(alloc, &mut self.desks[place], &words, &mut self.clock)?;
-        let mut text = Vec::new(alloc);
-        write_reply(alloc, &reply, &mut text)?;
-        Ok(add_bytes(out, &text)?)
+        Ok(())
     }
 
     // What is done at desks, a line each, among other lines.
@@ -122,7 +132,7 @@ impl<'a, R: Wait + Sync, I: HubId, B: Book> Seating<'a, R, I, B> {
     }
 
     // Ends the desks that are left, in the order of their seats. Hands the pass back, and what came of all.
-    fn end(self) -> (Pass<I>, Vec<u8>)
+    fn end(self) -> (Pass<I>, Output)
         ensures { result.0.parts ≡ self.entry.pass.parts + vec_len self.entry.desks }
     {
         let Seating {
@@ -146,7 +156,7 @@ fn act_all<R: Wait + Sync, I: HubId, B: Book>(
     pass: &mut Pass<I>,
     given: &Given<'_>,
     numbers: u32,
-) -> io::Result<Vec<u8>>
+) -> io::Result<Output>
     requires { (0 < numbers) × (numbers < pass.old.count) }
     ensures { pass.new.parts ≡ pass.old.parts }
 {
@@ -157,7 +167,7 @@ fn act_all<R: Wait + Sync, I: HubId, B: Book>(
         pass: pass.split(numbers),
         desks: Vec::new(alloc),
         clock,
-        out: Vec::new(alloc),
+        out: Output::new(alloc),
     };
     let acted = seating.act_each(alloc, given.lines);
     let (own, out) = seating.end();
@@ -166,27 +176,39 @@ fn act_all<R: Wait + Sync, I: HubId, B: Book>(
     Ok(out)
 }
 
-// The seat, the moment and the words of each entry, with the lines of its reply, and the cuts in their places.
-fn journal_text(alloc: Global, entries: &LinkedList<Entry>) -> Result<Vec<u8>, AllocError> {
-    let mut out = Vec::new(alloc);
-    say!(out, "@journal\n");
+// Appends what was asked at a seat: the moment, the words, and the lines of the reply.
+fn add_ask(out: &mut Output, asked: &Ask) {
+    out.number(asked.now);
+    for word in asked.request.list() {
+        out.say(" ");
+        out.escape(word.bytes(), ESCAPED);
+    }
+    out.say("\n");
+    match &asked.reply {
+        Some(reply) => out.lines(reply.bytes()),
+        None => out.say("no reply\n"),
+    }
+}
+
+// Appends the seat of each entry and what was asked there, and the cuts in their places.
+fn add_journal(out: &mut Output, entries: &LinkedList<Entry>) {
+    out.say("@journal\n");
     for entry in entries.iter() {
+        out.count("", u64::from(entry.seat), " ");
         match &entry.deed {
-            Deed::Cut => say!(out, "{} cut\n", entry.seat),
-            Deed::Ask(asked) => {
-                say!(out, "{} {}", entry.seat, asked.now);
-                for word in asked.request.list() {
-                    say!(out, " {}", percent_encode(word.bytes(), ESCAPED));
-                }
-                say!(out, "\n");
-                match &asked.reply {
-                    Some(reply) => add_bytes(&mut out, reply.bytes())?,
-                    None => say!(out, "no reply\n"),
-                }
-            }
+            Deed::Cut => out.say("cut\n"),
+            Deed::Ask(asked) => add_ask(out, asked),
         }
     }
-    Ok(out)
+}
+
+// Appends what the desks acknowledged, and what the store counts.
+fn add_tally(out: &mut Output, acknowledged: u64, tally: &Tally) {
+    out.count("acknowledged ", acknowledged, "");
+    out.count(" outside ", tally.outside, "");
+    out.count(" again ", tally.again, "");
+    out.count(" live ", tally.live, "");
+    out.count(" deleted ", tally.deleted, "\n");
 }
 
 fn desks_on<R: Wait + Sync, I: HubId>(
@@ -195,7 +217,7 @@ fn desks_on<R: Wait + Sync, I: HubId>(
     alloc: Global,
     size: Size,
     given: &Given<'_>,
-) -> io::Result<Vec<u8>>
+) -> io::Result<Output>
     requires blank { blank ≡ record { acks = I.acks; asks = I.asks; cuts = I.cuts } }
     requires limits { size.limits ≡ I.limits }
     requires size { (0 < size.numbers) × (size.numbers + 1 < 2 ^ 32) }
@@ -203,25 +225,20 @@ fn desks_on<R: Wait + Sync, I: HubId>(
     let (hub, mut pass) = Hub::<I, FullBook>::new(alloc, blank, size.limits, FullBook::new(alloc));
     let acted = act_all(rt, alloc, &hub, &mut pass, given, size.numbers);
     let closed = hub.close();
-    let journal = journal_text(alloc, closed.journal());
+    let mut journal = Output::new(alloc);
+    add_journal(&mut journal, closed.journal());
     let (acknowledged, tally) = closed.finish(&mut pass);
-    let mut out = Vec::new(alloc);
-    say!(out, "desks\n");
-    out.extend_from_slice(&acted?)?;
-    say!(
-        out,
-        "acknowledged {acknowledged} outside {} again {}",
-        tally.outside,
-        tally.again
-    );
-    say!(out, " live {} deleted {}\n", tally.live, tally.deleted);
-    out.extend_from_slice(&journal?)?;
+    let mut out = Output::new(alloc);
+    out.say("desks\n");
+    out.append(acted?);
+    add_tally(&mut out, acknowledged, &tally);
+    out.append(journal);
     Ok(out)
 }
 
 /// What comes of what is done at the desks of a store, what these acknowledged and the store counts, and the journal. The first word is how many
 /// numbers the pass to the seats has; then come the rows, the bytes and the batches of the store.
-pub fn act_row<R: Wait + Sync>(rt: &R, alloc: Global, given: &Given<'_>) -> io::Result<Vec<u8>> {
+pub fn act_row<R: Wait + Sync>(rt: &R, alloc: Global, given: &Given<'_>) -> io::Result<Output> {
     let size = read_size(&numbers(alloc, given.words)?)?;
     desks_on::<R, Brand>(rt, HubBlank::new(), alloc, size, given)
 }

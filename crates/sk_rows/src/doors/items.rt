@@ -4,6 +4,7 @@ ghost use Rattle.sk_iter.specs.Event.{ItemRun};
 ghost use Rattle.sk_worker.specs.declared.job.Outcome.TheVariants.{Returned};
 
 use crate::doors::Peers;
+use crate::output::Output;
 use crate::text::{count, invalid, number};
 use sk_base::MemConn;
 use sk_iter::{Items, IterJob};
@@ -14,12 +15,19 @@ use std::alloc::{AllocError, Global};
 use std::io;
 use std::sync::{Arc, Mutex};
 
+// An item raises.
+fn raised(alloc: Global) -> Result<Outcome, AllocError> {
+    let class = Text::new(String::from_str(alloc, "ItemFault")?);
+    let message = Text::new(String::new(alloc));
+    Ok(Outcome::Raised(Raised { class, message }))
+}
+
 /// Items of which one raises, where there is one.
 #[derive(Drop)]
 pub struct ShownItems {
     pub len: u64,
     pub raises: Option<u64>,
-    pub out: Vec<u8>,
+    pub out: Output,
 }
 
 impl Items for ShownItems {
@@ -32,13 +40,9 @@ impl Items for ShownItems {
     }
 
     fn item(&mut self, alloc: Global, index: u64) -> Result<Outcome, AllocError> {
-        let out = &mut self.out;
-        say!(out, "item {index}\n");
+        self.out.count("item ", index, "\n");
         if self.raises == Some(index) {
-            return Ok(Outcome::Raised(Raised {
-                class: Text::new(String::from_str(alloc, "ItemFault")?),
-                message: Text::new(String::new(alloc)),
-            }));
+            return raised(alloc);
         }
         Ok(Outcome::Returned)
     }
@@ -47,23 +51,34 @@ impl Items for ShownItems {
 /// Lines that the items of a job write and the row takes. One thread does both, so the lock is free.
 #[derive(Drop)]
 pub struct Lines {
-    text: Arc<Mutex<Vec<u8>>, Global>,
+    text: Arc<Mutex<Output>, Global>,
 }
 
 impl Lines {
     pub fn new(alloc: Global) -> Result<Lines, AllocError> {
-        let text = Arc::new(alloc, Mutex::new(Vec::new(alloc)))?;
+        let text = Arc::new(alloc, Mutex::new(Output::new(alloc)))?;
         Ok(Lines { text })
     }
 
-    /// Moves the lines to the end of a text, and none is left.
-    pub fn move_to(&self, out: &mut Vec<u8>) -> Result<(), AllocError> {
-        let Some(mut text) = self.text.try_lock() else {
-            return Err(AllocError);
-        };
-        out.extend_from_slice(&text)?;
-        text.clear();
-        Ok(())
+    /// The same lines.
+    pub fn share(&self) -> Result<Lines, AllocError> {
+        let text = Arc::try_clone(&self.text)?;
+        Ok(Lines { text })
+    }
+
+    // Writes the line of an item.
+    fn write(&self, index: u64) {
+        if let Some(mut text) = self.text.try_lock() {
+            text.count("item ", index, "\n");
+        }
+    }
+
+    /// Moves the lines to the end of what is told, and none is left.
+    pub fn move_to(&self, out: &mut Output) {
+        if let Some(mut text) = self.text.try_lock() {
+            out.add(text.bytes());
+            text.clear();
+        }
     }
 }
 
@@ -86,21 +101,20 @@ impl Items for CutItems {
         self.len
     }
 
-    fn item(&mut self, alloc: Global, index: u64) -> Result<Outcome, AllocError> {
+    fn item(&mut self, _alloc: Global, index: u64) -> Result<Outcome, AllocError> {
         if self.cut == Some(index) {
             self.cut = None;
             return Err(AllocError);
         }
-        let line = format!(in alloc; "item {index}\n")?;
         self.ran.reserve(1)?;
-        let Some(mut text) = self.lines.text.try_lock() else {
-            return Err(AllocError);
-        };
-        text.extend_from_slice(line.as_bytes())?;
+        self.lines.write(index);
         self.ran.push_reserved(index);
         Ok(Outcome::Returned)
     }
 }
+
+/// The job of rows with a job that is cut.
+pub type Import = IterJob<WireLink<MemConn>, CutItems>;
 
 /// The job whose items are so many, whose cursor is saved after so many, and one of whose items is cut, as the first three words say. Its link is the
 /// first connection that is dialled. Other words are invalid data.
@@ -109,22 +123,21 @@ pub fn import_of(
     words: &[String],
     peers: &mut Peers,
     lines: &Lines,
-) -> io::Result<IterJob<WireLink<MemConn>, CutItems>> {
+) -> io::Result<Import> {
     let [len, every, cut, ..] = words else {
         return Err(invalid());
     };
+    let (len, every, cut) = (number(len)?, count(every)?, number(cut)?);
     if peers.dialled.is_empty() {
         return Err(invalid());
     }
-    let (len, every, cut) = (number(len)?, count(every)?, number(cut)?);
+    let lines = lines.share()?;
+    let link = WireLink::new(alloc, peers.dialled.remove(0));
     let items = CutItems {
         len,
         cut: Some(cut),
         ran: Vec::new(alloc),
-        lines: Lines {
-            text: Arc::try_clone(&lines.text)?,
-        },
+        lines,
     };
-    let link = WireLink::new(alloc, peers.dialled.remove(0));
     Ok(IterJob { link, items, every })
 }

@@ -1,6 +1,6 @@
 // Who is at the other ends of the program: what each sends, in which pieces, and which reads and writes fail; and the program's file.
 use crate::command::words_of;
-use crate::text::{invalid, number, numbers};
+use crate::text::{invalid, numbers};
 use percent_encoding::percent_decode;
 use sk_base::{Feed, MemConn, Tray};
 use sk_disk::MemDisk;
@@ -38,25 +38,46 @@ impl End {
             passes: u64::MAX,
         };
         for line in lines.lines() {
-            let (key, rest) = line.split_once(' ').unwrap_or((line, ""));
-            match key {
-                "line" | "text" | "bytes" => {
-                    percent_decode(rest.as_bytes()).append_to(&mut end.bytes)?;
-                    match key {
-                        "line" => end.bytes.extend_from_slice(b"\r\n")?,
-                        "text" => end.bytes.push(b'\n')?,
-                        _ => {}
-                    }
-                }
-                "asks" => write_request(alloc, &words_of(alloc, rest)?, &mut end.bytes)?,
-                "pieces" => end.piece = number(rest)? as usize,
-                "unread" => end.unread = numbers(alloc, rest)?,
-                "unwritten" => end.unwritten = numbers(alloc, rest)?,
-                "passes" => end.passes = number(rest)?,
-                _ => return Err(invalid()),
-            }
+            end.add(alloc, line)?;
         }
         Ok(end)
+    }
+
+    // What a line says.
+    fn add(&mut self, alloc: Global, line: &str) -> io::Result<()> {
+        let (key, rest) = line.split_once(' ').unwrap_or((line, ""));
+        match key {
+            "line" => self.send(rest, b"\r\n"),
+            "text" => self.send(rest, b"\n"),
+            "bytes" => self.send(rest, b""),
+            "asks" => self.ask(alloc, rest),
+            _ => self.set(key, numbers(alloc, rest)?),
+        }
+    }
+
+    // The bytes that the text stands for are sent, and others behind them.
+    fn send(&mut self, text: &str, behind: &[u8]) -> io::Result<()> {
+        percent_decode(text.as_bytes()).append_to(&mut self.bytes)?;
+        Ok(self.bytes.extend_from_slice(behind)?)
+    }
+
+    // A command is sent.
+    fn ask(&mut self, alloc: Global, command: &str) -> io::Result<()> {
+        let words = words_of(alloc, command)?;
+        Ok(write_request(alloc, &words, &mut self.bytes)?)
+    }
+
+    // How reads, writes and calls go.
+    fn set(&mut self, key: &str, numbers: Vec<u64>) -> io::Result<()> {
+        let first = numbers.first().copied().unwrap_or(0);
+        match key {
+            "pieces" => self.piece = first as usize,
+            "passes" => self.passes = first,
+            "unread" => self.unread = numbers,
+            "unwritten" => self.unwritten = numbers,
+            _ => return Err(invalid()),
+        }
+        Ok(())
     }
 
     // What he sends, and what takes what is sent to him.
@@ -68,6 +89,12 @@ impl End {
         };
         let feed = Feed::new(self.bytes, pieces, self.unread);
         Ok((feed, Tray::new(alloc, self.unwritten)))
+    }
+
+    // A connection to him.
+    fn into_conn(self, alloc: Global) -> Result<MemConn, AllocError> {
+        let (feed, tray) = self.into_ways(alloc)?;
+        Ok(MemConn::new(feed, tray))
     }
 }
 
@@ -96,31 +123,52 @@ impl Peers {
             dialled: Vec::new(alloc),
             file: None,
         };
-        if parts.is_empty() {
-            return Ok(peers);
-        }
-        for part in parts.split("\n@") {
-            let (key, lines) = part.split_once('\n').unwrap_or((part, ""));
-            let end = End::read(alloc, lines)?;
-            if key == "file" {
-                peers.file = Some(MemDisk::new(alloc, end.bytes, end.passes)?);
-                continue;
-            }
-            let (source, sink) = end.into_ways(alloc)?;
-            match key {
-                "streams" => {
-                    peers.source = source;
-                    peers.sink = sink;
-                }
-                "ear" => peers.heard.push(Vec::new(alloc))?,
-                "heard" => match peers.heard.last_mut() {
-                    Some(ear) => ear.push(MemConn::new(source, sink))?,
-                    None => return Err(invalid()),
-                },
-                "dialled" => peers.dialled.push(MemConn::new(source, sink))?,
-                _ => return Err(invalid()),
+        if !parts.is_empty() {
+            for part in parts.split("\n@") {
+                peers.add(alloc, part)?;
             }
         }
         Ok(peers)
+    }
+
+    // The end that a part says.
+    fn add(&mut self, alloc: Global, part: &str) -> io::Result<()> {
+        let (key, lines) = part.split_once('\n').unwrap_or((part, ""));
+        let end = End::read(alloc, lines)?;
+        match key {
+            "file" => self.put(alloc, end),
+            "streams" => self.stream(alloc, end),
+            "ear" => Ok(self.heard.push(Vec::new(alloc))?),
+            "heard" => self.hear(end.into_conn(alloc)?),
+            "dialled" => self.dial(end.into_conn(alloc)?),
+            _ => Err(invalid()),
+        }
+    }
+
+    // The shelf has the file.
+    fn put(&mut self, alloc: Global, end: End) -> io::Result<()> {
+        self.file = Some(MemDisk::new(alloc, end.bytes, end.passes)?);
+        Ok(())
+    }
+
+    // The standard streams.
+    fn stream(&mut self, alloc: Global, end: End) -> io::Result<()> {
+        let (source, sink) = end.into_ways(alloc)?;
+        self.source = source;
+        self.sink = sink;
+        Ok(())
+    }
+
+    // The last ear hears the connection.
+    fn hear(&mut self, conn: MemConn) -> io::Result<()> {
+        match self.heard.last_mut() {
+            Some(ear) => Ok(ear.push(conn)?),
+            None => Err(invalid()),
+        }
+    }
+
+    // The door makes the connection.
+    fn dial(&mut self, conn: MemConn) -> io::Result<()> {
+        Ok(self.dialled.push(conn)?)
     }
 }

@@ -4,6 +4,7 @@ ghost use Rattle.std.specs.Prelude.{◌≡◌, ◌+◌, ◌*◌, ◌<◌, ◌^�
 use crate::command::{hand_in, words_of};
 use crate::doors::Given;
 use crate::doors::desks::{Size, read_size};
+use crate::output::Output;
 use crate::text::{invalid, numbers};
 use sk_base::StepClock;
 use sk_desk::{Desk, Hub, HubBlank, HubId, NoBook, Pass};
@@ -32,10 +33,11 @@ struct Shared<'a, R: Wait + Sync, I: HubId> {
 
 // The push of a job that no other one is like.
 fn push<D: Desk>(alloc: Global, desk: &mut D, seat: u32, number: u64) -> io::Result<Reply> {
-    let command = format!(in alloc;
-        "LPUSH queue:a {{\"args\":[],\"class\":\"Note\",\"jid\":\"s{seat}n{number}\",\"queue\":\"a\"}}"
-    )?;
-    let words = words_of(alloc, command.as_str())?;
+    let mut command = Output::new(alloc);
+    command.say("LPUSH queue:a {\"args\":[],\"class\":\"Note\",");
+    command.count("\"jid\":\"s", u64::from(seat), "");
+    command.count("n", number, "\",\"queue\":\"a\"}");
+    let words = words_of(alloc, command.text()?)?;
     let mut clock = StepClock { now: 0, step: 0 };
     hand_in(alloc, desk, &words, &mut clock)
 }
@@ -124,7 +126,7 @@ fn threads_on<R: Threads + Wait + Sync, I: HubId + Send + Sync>(
     alloc: Global,
     size: Size,
     pushes: u64,
-) -> Result<Vec<u8>, AllocError>
+) -> Result<Output, AllocError>
     requires blank { blank ≡ record { acks = I.acks; asks = I.asks; cuts = I.cuts } }
     requires limits { size.limits ≡ I.limits }
     requires size { (0 < size.numbers) × (size.numbers + 1 < 2 ^ 32) }
@@ -138,9 +140,11 @@ fn threads_on<R: Threads + Wait + Sync, I: HubId + Send + Sync>(
     };
     let pushed = push_all(&shared, &mut pass, u64::from(size.numbers));
     let (acknowledged, tally) = hub.close().finish(&mut pass);
-    let mut out = Vec::new(alloc);
-    say!(out, "pushed {} acknowledged {acknowledged}", pushed?);
-    say!(out, " outside {} live {}\n", tally.outside, tally.live);
+    let mut out = Output::new(alloc);
+    out.count("pushed ", pushed?, "");
+    out.count(" acknowledged ", acknowledged, "");
+    out.count(" outside ", tally.outside, "");
+    out.count(" live ", tally.live, "\n");
     Ok(out)
 }
 
@@ -150,7 +154,7 @@ pub fn push_row<R: Threads + Wait + Sync>(
     rt: &R,
     alloc: Global,
     given: &Given<'_>,
-) -> io::Result<Vec<u8>> {
+) -> io::Result<Output> {
     let numbers = numbers(alloc, given.words)?;
     let [pushes, rest @ ..] = numbers.as_slice() else {
         return Err(invalid());

@@ -1,9 +1,15 @@
 // Servers that no command line asks for: one whose store has small limits, and one with two loops whose sessions go on side by side, in which a gate
 // holds a call of one until the other is answered.
+ghost use Rattle.std.specs.Prelude.{◌<◌, ◌≤◌};
+ghost use Rattle.sk_base.specs.declared.limits.TheConstants.{MOST_LOOPS_SERVED};
+
 use crate::doors::ending::add_ending;
 use crate::doors::{Given, Peers};
+use crate::output::Output;
 use crate::text::{count, limits, numbers};
+use sk_base::StepClock;
 use sk_edge::MemDoor;
+use sk_model::Limits;
 use sk_pipe::SHIPPED_LIMITS;
 use sk_serve::{Gate, OpenGate, ServeEnd, serve};
 use std::alloc::Global;
@@ -28,6 +34,17 @@ struct Hold {
 }
 
 impl Hold {
+    fn of(seat: u32) -> Hold {
+        Hold {
+            seat,
+            came: AtomicBool::new(false),
+            answered: AtomicBool::new(false),
+            gave_up: AtomicBool::new(false),
+            held: AtomicU64::new(0),
+            others: AtomicU64::new(0),
+        }
+    }
+
     // Waits until the flag is set.
     fn wait_for(&self, flag: &AtomicBool) {
         for _ in 0..LOOKS {
@@ -37,77 +54,83 @@ impl Hold {
         }
         self.gave_up.store(true, Ordering::SeqCst);
     }
+
+    // The turn of the held seat.
+    fn pass_held(&self, turn: u64) {
+        if turn == 1 {
+            self.came.store(true, Ordering::SeqCst);
+            self.wait_for(&self.answered);
+        }
+        self.held.fetch_add(1, Ordering::SeqCst);
+    }
+
+    // The turn of another seat.
+    fn pass_other(&self, turn: u64) {
+        match turn {
+            1 => self.wait_for(&self.came),
+            2 => self.answered.store(true, Ordering::SeqCst),
+            _ => {}
+        }
+        self.others.fetch_add(1, Ordering::SeqCst);
+    }
+
+    // How many calls passed, and whether none passed before its time.
+    fn add_to(&self, out: &mut Output) {
+        out.count("held ", self.held.load(Ordering::SeqCst), "");
+        out.count(" others ", self.others.load(Ordering::SeqCst), " ");
+        out.say(match self.gave_up.load(Ordering::SeqCst) {
+            true => "too long\n",
+            false => "in time\n",
+        });
+    }
 }
 
 impl Gate for Hold {
     fn pass(&self, seat: u32, turn: u64) {
         if seat == self.seat {
-            if turn == 1 {
-                self.came.store(true, Ordering::SeqCst);
-                self.wait_for(&self.answered);
-            }
-            self.held.fetch_add(1, Ordering::SeqCst);
+            self.pass_held(turn);
         } else {
-            match turn {
-                1 => self.wait_for(&self.came),
-                2 => self.answered.store(true, Ordering::SeqCst),
-                _ => {}
-            }
-            self.others.fetch_add(1, Ordering::SeqCst);
+            self.pass_other(turn);
         }
     }
 }
 
-/// What comes of a server whose loops each serve the first connection of their ear: `small` has one, and a store with room for the rows, bytes and
-/// batches that the words tell; `held` has two, and a gate that holds the seat which the word names, of which it is told how many calls passed, and
-/// whether none passed before its time. The status is 0 where each loop served its connection, and 1 at any fault.
+// The status of a server with so many loops, each of which serves the first connection of its ear: 0 where each did so, and 1 at any fault.
+fn status<R: Threads + Wait + Sync, G: Gate + Sync>(
+    rt: &R,
+    alloc: Global,
+    door: &mut MemDoor,
+    loops: usize,
+    room: Limits,
+    clock: &StepClock,
+    gate: &G,
+) -> u8
+    requires { (0 < loops) × (loops ≤ MOST_LOOPS_SERVED) }
+{
+    let end = serve(rt, alloc, door, 1, loops, 1, room, clock, gate);
+    u8::from(!matches!(end, ServeEnd::Served(_)))
+}
+
+/// What comes of a server: `small` has one loop, and a store with room for the rows, bytes and batches that the words tell; `held` has two, and a gate
+/// that holds the seat which the word names.
 pub fn serve_row<R: Threads + Wait + Sync>(
     rt: &R,
     alloc: Global,
     given: &Given<'_>,
-) -> io::Result<Vec<u8>> {
-    let is_held = given.call == "held";
-    let seat = if is_held { count(given.words)? } else { 0 };
-    let room = if is_held {
-        SHIPPED_LIMITS
-    } else {
-        limits(&numbers(alloc, given.words)?)?
-    };
+) -> io::Result<Output> {
     let clock = given.clock()?;
-    let gate = Hold {
-        seat,
-        came: AtomicBool::new(false),
-        answered: AtomicBool::new(false),
-        gave_up: AtomicBool::new(false),
-        held: AtomicU64::new(0),
-        others: AtomicU64::new(0),
-    };
-    let Peers {
-        sink,
-        heard,
-        dialled,
-        ..
-    } = Peers::read(alloc, given.parts)?;
+    let Peers { sink, heard, dialled, .. } = Peers::read(alloc, given.parts)?;
     let mut door = MemDoor::new(alloc, heard, dialled);
-    let end = if is_held {
-        serve(rt, alloc, &mut door, 1, 2, 1, room, &clock, &gate)
+    let mut out = Output::new(alloc);
+    let status = if given.call == "held" {
+        let gate = Hold::of(count(given.words)?);
+        let status = status(rt, alloc, &mut door, 2, SHIPPED_LIMITS, &clock, &gate);
+        gate.add_to(&mut out);
+        status
     } else {
-        serve(rt, alloc, &mut door, 1, 1, 1, room, &clock, &OpenGate)
+        let room = limits(&numbers(alloc, given.words)?)?;
+        status(rt, alloc, &mut door, 1, room, &clock, &OpenGate)
     };
-    let mut out = Vec::new(alloc);
-    if is_held {
-        let (held, others) = (
-            gate.held.load(Ordering::SeqCst),
-            gate.others.load(Ordering::SeqCst),
-        );
-        let how = if gate.gave_up.load(Ordering::SeqCst) {
-            "too long"
-        } else {
-            "in time"
-        };
-        say!(out, "held {held} others {others} {how}\n");
-    }
-    let status = u8::from(!matches!(end, ServeEnd::Served(_)));
-    add_ending(&mut out, status, &sink, &door)?;
+    add_ending(&mut out, status, &sink, &door);
     Ok(out)
 }

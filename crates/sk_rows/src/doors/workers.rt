@@ -1,17 +1,18 @@
 // Workers that join, take turns and leave, over connections whose replies are given.
 ghost use Rattle.std.specs.Prelude.{◌≤◌};
 
-use crate::doors::ending::add_conns;
-use crate::doors::{Given, Lines};
+use crate::doors::{Given, Lines, add_conns};
 use crate::faults::link_fault;
+use crate::output::Output;
 use crate::text::invalid;
 use sk_base::limits::MOST_PREFETCH;
 use sk_base::{ListDice, MemConn, StepClock};
+use sk_launcher::WorkSettings;
 use sk_line::read_work;
 use sk_link::WireLink;
 use sk_policy::DelayRule;
 use sk_worker::{Registry, Turn, WorkFault, Worker};
-use std::alloc::{AllocError, Global};
+use std::alloc::Global;
 use std::io;
 
 /// How many teams the lines of workers may ask for.
@@ -44,59 +45,82 @@ struct Scene<'a> {
     clock: StepClock,
     dice: ListDice,
     lines: &'a Lines,
-    out: Vec<u8>,
+    out: Output,
 }
 
-// The worker joins, takes so many turns and leaves. Before what came of a turn stand the lines that its job wrote.
-fn act(
-    alloc: Global,
-    worker: &mut Worker,
-    turns: u32,
-    registry: &mut Registry,
-    link: &mut WireLink<MemConn>,
-    scene: &mut Scene<'_>,
-) -> Result<(), AllocError>
-    requires { 0 ≤ 1 }
-{
-    let joined = worker.join(alloc, link);
-    let name = match &joined {
-        Ok(()) => "joined",
-        Err(fault) => fault_name(fault),
-    };
-    let out = &mut scene.out;
-    say!(out, "{name}\n");
-    for _ in 0..turns {
-        let turn = worker.turn(alloc, link, registry, &mut scene.clock, &mut scene.dice);
-        scene.lines.move_to(&mut scene.out)?;
-        let out = &mut scene.out;
-        say!(out, "{}\n", turn_name(&turn));
+impl Scene<'_> {
+    // The worker joins.
+    fn join(&mut self, alloc: Global, worker: &mut Worker, link: &mut WireLink<MemConn>)
+        requires { 0 ≤ 1 }
+    {
+        self.out.say(match worker.join(alloc, link) {
+            Ok(()) => "joined",
+            Err(fault) => fault_name(&fault),
+        });
+        self.out.say("\n");
     }
-    let out = &mut scene.out;
-    match worker.leave(alloc, link) {
-        Ok(count) => say!(out, "left {count}\n"),
-        Err(fault) => say!(out, "{}\n", fault_name(&fault)),
+
+    // The worker takes a turn. Before what came of it stand the lines that its job wrote.
+    fn turn(
+        &mut self,
+        alloc: Global,
+        worker: &mut Worker,
+        registry: &mut Registry,
+        link: &mut WireLink<MemConn>,
+    )
+        requires { 0 ≤ 1 }
+    {
+        let turn = worker.turn(alloc, link, registry, &mut self.clock, &mut self.dice);
+        self.lines.move_to(&mut self.out);
+        self.out.say(turn_name(&turn));
+        self.out.say("\n");
     }
-    Ok(())
+
+    // The worker leaves.
+    fn leave(&mut self, alloc: Global, worker: &mut Worker, link: &mut WireLink<MemConn>)
+        requires { 0 ≤ 1 }
+    {
+        match worker.leave(alloc, link) {
+            Ok(count) => self.out.count("left ", count, ""),
+            Err(fault) => self.out.say(fault_name(&fault)),
+        }
+        self.out.say("\n");
+    }
+
+    // A worker of the settings joins, takes their turns and leaves, over a connection, which is handed back.
+    fn act(
+        &mut self,
+        alloc: Global,
+        settings: WorkSettings,
+        registry: &mut Registry,
+        rule: DelayRule,
+        conn: MemConn,
+    ) -> MemConn
+        requires { 0 ≤ 1 }
+    {
+        let prefetch = (settings.prefetch as usize).max(1).min(MOST_PREFETCH);
+        let turns = settings.turns;
+        let mut worker = Worker::new(alloc, settings.ident, settings.order, rule, prefetch);
+        let mut link = WireLink::new(alloc, conn);
+        self.join(alloc, &mut worker, &mut link);
+        for _ in 0..turns {
+            self.turn(alloc, &mut worker, registry, &mut link);
+        }
+        self.leave(alloc, &mut worker, &mut link);
+        link.into_conn()
+    }
 }
 
-// A worker of the line does so over a connection.
-fn one_worker(
-    alloc: Global,
-    line: &[String],
-    registry: &mut Registry,
-    rule: DelayRule,
-    conn: MemConn,
-    scene: &mut Scene<'_>,
-) -> io::Result<MemConn> {
-    let Ok(settings) = read_work(alloc, line, TEAMS) else {
-        return Err(invalid());
+// What the line asks for.
+fn settings_of(alloc: Global, given: &Given<'_>, words: &[String]) -> io::Result<WorkSettings> {
+    let line = match words {
+        [_len, _every, _cut, line @ ..] if given.call == "iterjob" => line,
+        line => line,
     };
-    let prefetch = (settings.prefetch as usize).max(1).min(MOST_PREFETCH);
-    let turns = settings.turns;
-    let mut worker = Worker::new(alloc, settings.ident, settings.order, rule, prefetch);
-    let mut link = WireLink::new(alloc, conn);
-    act(alloc, &mut worker, turns, registry, &mut link, scene)?;
-    Ok(link.into_conn())
+    match read_work(alloc, line, TEAMS) {
+        Ok(settings) => Ok(settings),
+        Err(_) => Err(invalid()),
+    }
 }
 
 /// What comes of workers of a line of `work`, one behind another, each over a connection and by a plain rule of its own: it joins, takes the line's
@@ -109,27 +133,20 @@ pub fn run_workers(
     mut rules: Vec<DelayRule>,
     conns: Vec<MemConn>,
     lines: &Lines,
-) -> io::Result<Vec<u8>>
+) -> io::Result<Output>
     requires { 0 ≤ 1 }
 {
-    let words = match words {
-        [_len, _every, _cut, line @ ..] if given.call == "iterjob" => line,
-        line => line,
-    };
-    let mut scene = Scene {
-        clock: given.clock()?,
-        dice: given.dice(alloc)?,
-        lines,
-        out: Vec::new(alloc),
-    };
+    let (clock, dice) = (given.clock()?, given.dice(alloc)?);
+    let out = Output::new(alloc);
+    let mut scene = Scene { clock, dice, lines, out };
     let mut past = Vec::new(alloc);
     for conn in conns {
+        let settings = settings_of(alloc, given, words)?;
         let Some(rule) = rules.pop() else {
             return Err(invalid());
         };
-        past.push(one_worker(alloc, words, registry, rule, conn, &mut scene)?)?;
+        past.push(scene.act(alloc, settings, registry, rule, conn))?;
     }
-    let mut out = scene.out;
-    add_conns(&mut out, &past, "dialled")?;
-    Ok(out)
+    add_conns(&mut scene.out, &past, "@dialled\n");
+    Ok(scene.out)
 }

@@ -1,57 +1,63 @@
 // What the texts of jobs say of them.
+use crate::output::Output;
 use crate::text::bytes_of;
-use percent_encoding::{AsciiSet, CONTROLS, PercentEncode, ascii_set, percent_encode};
-use sk_payload::{Head, Payload, Retry, Until};
+use percent_encoding::{AsciiSet, CONTROLS, ascii_set};
+use sk_payload::{Head, Lock, Payload, Retry, Until};
 use sk_resp::{Text, Word};
 use std::alloc::{AllocError, Global};
 
 /// What stands as `%XX` in a line, beside what isn't ASCII.
 const ESCAPED: AsciiSet = ascii_set!(CONTROLS.add(b' ').add(b'%'));
 
-fn escaped(text: &Text) -> PercentEncode<'_> {
-    percent_encode(text.text().as_bytes(), ESCAPED)
+// Appends a name and a text.
+fn add_text(out: &mut Output, name: &str, text: &Text) {
+    out.say(name);
+    out.escape(text.text().as_bytes(), ESCAPED);
 }
 
-// Appends a number, or that there is none.
-fn add_number(out: &mut Vec<u8>, name: &str, number: Option<u64>) -> Result<(), AllocError> {
+// Appends a name and a number, or that there is none.
+fn add_number(out: &mut Output, name: &str, number: Option<u64>) {
+    out.say(name);
     match number {
-        Some(number) => say!(out, " {name}={number}"),
-        None => say!(out, " {name}=none"),
+        Some(number) => out.number(number),
+        None => out.say("none"),
     }
-    Ok(())
+}
+
+fn add_retry(out: &mut Output, retry: &Retry) {
+    match retry {
+        Retry::Default => out.say(" retry=default"),
+        Retry::Never => out.say(" retry=never"),
+        Retry::Count(count) => out.count(" retry=", u64::from(*count), ""),
+    }
+}
+
+fn add_lock(out: &mut Output, lock: &Option<Lock>) {
+    match lock {
+        None => out.say(" lock=none"),
+        Some(lock) => {
+            out.count(" lock=", u64::from(lock.seconds), "s,");
+            match lock.until {
+                Until::Start => out.say("start"),
+                Until::Success => out.say("success"),
+            }
+        }
+    }
 }
 
 // Appends what the head says of the runs of its job.
-fn add_runs(out: &mut Vec<u8>, head: &Head) -> Result<(), AllocError> {
-    match head.retry {
-        Retry::Default => say!(out, " retry=default"),
-        Retry::Never => say!(out, " retry=never"),
-        Retry::Count(count) => say!(out, " retry={count}"),
-    }
-    say!(
-        out,
-        " generation={} dead={} created={}",
-        head.gen_,
-        head.dead,
-        head.created
-    );
+fn add_runs(out: &mut Output, head: &Head) {
+    add_retry(out, &head.retry);
+    out.count(" generation=", u64::from(head.gen_), " dead=");
+    out.say(if head.dead { "true" } else { "false" });
+    out.count(" created=", head.created, "");
     match &head.bid {
-        Some(bid) => say!(out, " bid={}", escaped(bid)),
-        None => say!(out, " bid=none"),
+        Some(bid) => add_text(out, " bid=", bid),
+        None => out.say(" bid=none"),
     }
-    match head.lock {
-        None => say!(out, " lock=none"),
-        Some(lock) => {
-            let until = if matches!(lock.until, Until::Start) {
-                "start"
-            } else {
-                "success"
-            };
-            say!(out, " lock={}s,{until}", lock.seconds)
-        }
-    }
-    add_number(out, "retry_for", head.retry_for.map(u64::from))?;
-    add_number(out, "first_failed", head.first_failed)
+    add_lock(out, &head.lock);
+    add_number(out, " retry_for=", head.retry_for.map(u64::from));
+    add_number(out, " first_failed=", head.first_failed);
 }
 
 /// The payload of a text, in which `%XX` stands for any byte.
@@ -60,22 +66,14 @@ pub fn payload_of(alloc: Global, text: &str) -> Result<Payload, AllocError> {
 }
 
 /// Appends the line of a payload: the members of its head.
-pub fn add_head(out: &mut Vec<u8>, payload: &Payload) -> Result<(), AllocError> {
+pub fn add_head(out: &mut Output, payload: &Payload) {
     let Some(head) = payload.head() else {
-        return out.extend_from_slice(b"no head\n");
+        return out.say("no head\n");
     };
-    say!(
-        out,
-        "jid={} class={} ",
-        escaped(&head.jid),
-        escaped(&head.class)
-    );
-    say!(
-        out,
-        "queue={} args={}",
-        escaped(&head.queue),
-        escaped(&head.args)
-    );
-    add_runs(out, head)?;
-    out.extend_from_slice(b"\n")
+    add_text(out, "jid=", &head.jid);
+    add_text(out, " class=", &head.class);
+    add_text(out, " queue=", &head.queue);
+    add_text(out, " args=", &head.args);
+    add_runs(out, head);
+    out.say("\n");
 }
