@@ -24,9 +24,9 @@ pub use given::Given;
 pub use items::{Import, Lines, import_of};
 pub use peers::Peers;
 use std::alloc::Global;
+use std::io;
 use std::sync::Wait;
 use std::thread::Threads;
-use std::io;
 pub use top::run_top;
 pub use workers::run_workers;
 
@@ -72,12 +72,22 @@ impl<'a> Row<'a> {
         };
         if let Some((given, wanted)) = row.split_once("\nthen\n") {
             let must_differ = false;
-            return Ok(Row { name, given, wanted, must_differ });
+            return Ok(Row {
+                name,
+                given,
+                wanted,
+                must_differ,
+            });
         }
         match row.split_once("\nbut not\n") {
             Some((given, wanted)) => {
                 let must_differ = true;
-                Ok(Row { name, given, wanted, must_differ })
+                Ok(Row {
+                    name,
+                    given,
+                    wanted,
+                    must_differ,
+                })
             }
             None => Err(invalid()),
         }

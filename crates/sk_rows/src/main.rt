@@ -19,10 +19,10 @@ mod worked;
 
 use difference::difference;
 use report::Report;
-use text::path_of;
 use std::alloc::Global;
 use std::process::ExitCode;
 use std::{env, fs, io};
+use text::path_of;
 
 // The words `pushes` and a number: so many jobs are pushed, for a measurement of time. How many bytes that took.
 fn measure(alloc: Global, word: &str, count: &str) -> io::Result<usize> {

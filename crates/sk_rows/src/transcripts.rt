@@ -151,18 +151,17 @@ fn add_outcome(out: &mut Output, outcome: Result<(), ClientFault>) {
 }
 
 // What comes of so many jobs that are pushed, in slices of a thousand.
-fn bulk<L: Link>(alloc: Global, link: &mut L, count: u64) -> Result<Result<u64, BulkFault>, AllocError> {
+fn bulk<L: Link>(
+    alloc: Global,
+    link: &mut L,
+    count: u64,
+) -> Result<Result<u64, BulkFault>, AllocError> {
     let drafts = notes(alloc, count)?;
     Ok(push_bulk(alloc, link, &drafts, 1_000))
 }
 
 // Appends what comes of it.
-fn add_bulk<L: Link>(
-    alloc: Global,
-    out: &mut Output,
-    link: &mut L,
-    count: u64,
-) -> io::Result<()> {
+fn add_bulk<L: Link>(alloc: Global, out: &mut Output, link: &mut L, count: u64) -> io::Result<()> {
     match bulk(alloc, link, count)? {
         Ok(count) => out.count("= ok ", count, "\n"),
         Err(bulk) => {
@@ -273,12 +272,7 @@ fn add_jid(alloc: Global, out: &mut Output) -> io::Result<()> {
 }
 
 // Appends what comes of adding a job to the batch of this id.
-fn add_member<L: Link>(
-    alloc: Global,
-    out: &mut Output,
-    link: &mut L,
-    bid: &str,
-) -> io::Result<()> {
+fn add_member<L: Link>(alloc: Global, out: &mut Output, link: &mut L, bid: &str) -> io::Result<()> {
     let members = members(alloc, 2)?;
     add_outcome(out, batch_add(alloc, link, bid, &members));
     Ok(())
@@ -306,7 +300,11 @@ fn add_request(out: &mut Output, words: &Words) {
     let shown = if count > MOST { FIRST } else { count };
     out.say(">");
     for word in words.list().iter().take(shown) {
-        out.say(if word.bytes().is_empty() { " \"\"" } else { " " });
+        out.say(if word.bytes().is_empty() {
+            " \"\""
+        } else {
+            " "
+        });
         out.escape(word.bytes(), ESCAPED);
     }
     if shown < count {
@@ -378,5 +376,9 @@ fn pushes(alloc: Global, conn: MemConn, count: u64) -> io::Result<usize> {
 pub fn len_of_pushes(alloc: Global, count: u64) -> io::Result<usize> {
     let replies = ":1\r\n".repeat(alloc, count.div_ceil(1_000) as usize)?;
     let feed = Feed::new(replies.into_bytes(), Vec::new(alloc), Vec::new(alloc));
-    pushes(alloc, MemConn::new(feed, Tray::new(alloc, Vec::new(alloc))), count)
+    pushes(
+        alloc,
+        MemConn::new(feed, Tray::new(alloc, Vec::new(alloc))),
+        count,
+    )
 }

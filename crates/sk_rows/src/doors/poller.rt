@@ -11,9 +11,8 @@ use crate::doors::{Given, Peers, add_conns};
 use crate::faults::link_fault;
 use crate::output::Output;
 use crate::text::{invalid, words as words_in};
-use sk_base::is_name;
 use sk_base::limits::{LONGEST_NAME, OFFSET_UTC};
-use sk_base::{ListDice, MemConn, StepClock};
+use sk_base::{ListDice, MemConn, StepClock, is_name};
 use sk_launcher::WorkSettings;
 use sk_line::read_work;
 use sk_link::WireLink;
@@ -108,14 +107,24 @@ fn settings_of(alloc: Global, words: &str) -> io::Result<WorkSettings>
 }
 
 // What a poller of these settings reports, and the connection.
-fn polled(alloc: Global, given: &Given<'_>, settings: WorkSettings, conn: MemConn) -> io::Result<Output>
+fn polled(
+    alloc: Global,
+    given: &Given<'_>,
+    settings: WorkSettings,
+    conn: MemConn,
+) -> io::Result<Output>
     requires offset { IsOffset settings.offset }
     requires loops { list_all is_loop settings.loops.items ≡ true }
 {
     let (clock, dice) = (given.clock()?, given.dice(alloc)?);
     let poller = Poller::new(settings.ident, settings.loops, settings.offset);
     let out = Output::new(alloc);
-    let mut polling = Polling { poller, clock, dice, out };
+    let mut polling = Polling {
+        poller,
+        clock,
+        dice,
+        out,
+    };
     polling.out.say("polled\n");
     let conn = polling.turns(alloc, conn, settings.turns);
     add_conns(&mut polling.out, &[conn], "@dialled\n");

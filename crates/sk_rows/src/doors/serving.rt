@@ -119,7 +119,12 @@ pub fn serve_row<R: Threads + Wait + Sync>(
     given: &Given<'_>,
 ) -> io::Result<Output> {
     let clock = given.clock()?;
-    let Peers { sink, heard, dialled, .. } = Peers::read(alloc, given.parts)?;
+    let Peers {
+        sink,
+        heard,
+        dialled,
+        ..
+    } = Peers::read(alloc, given.parts)?;
     let mut door = MemDoor::new(alloc, heard, dialled);
     let mut out = Output::new(alloc);
     let status = if given.call == "held" {

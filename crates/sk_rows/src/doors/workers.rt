@@ -138,7 +138,12 @@ pub fn run_workers(
 {
     let (clock, dice) = (given.clock()?, given.dice(alloc)?);
     let out = Output::new(alloc);
-    let mut scene = Scene { clock, dice, lines, out };
+    let mut scene = Scene {
+        clock,
+        dice,
+        lines,
+        out,
+    };
     let mut past = Vec::new(alloc);
     for conn in conns {
         let settings = settings_of(alloc, given, words)?;

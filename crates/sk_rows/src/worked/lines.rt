@@ -86,7 +86,11 @@ fn add_failed(alloc: Global, out: &mut Output, line: &str) -> io::Result<()> {
 fn add_following(alloc: Global, out: &mut Output, line: &str) -> io::Result<()> {
     let (held, next) = halves(line)?;
     let (held, next) = (payload_of(alloc, held)?, payload_of(alloc, next)?);
-    out.say(if follows(&held, &next) { "yes\n" } else { "no\n" });
+    out.say(if follows(&held, &next) {
+        "yes\n"
+    } else {
+        "no\n"
+    });
     Ok(())
 }
 

@@ -33,7 +33,12 @@ fn add_answer(out: &mut Output, answer: &Result<bool, LimitFault>, yes: &str, no
 }
 
 // `ask`: the command of another client.
-fn add_asked(alloc: Global, out: &mut Output, link: &mut StoreLink, command: &str) -> io::Result<()> {
+fn add_asked(
+    alloc: Global,
+    out: &mut Output,
+    link: &mut StoreLink,
+    command: &str,
+) -> io::Result<()> {
     let words = words_of(alloc, command)?;
     out.say(match link.call(alloc, &words) {
         Ok(_) => "asked",
@@ -84,7 +89,12 @@ fn granted(
 }
 
 // Appends what a limiter answers to a call.
-fn add_limited(alloc: Global, out: &mut Output, link: &mut StoreLink, line: &str) -> io::Result<()> {
+fn add_limited(
+    alloc: Global,
+    out: &mut Output,
+    link: &mut StoreLink,
+    line: &str,
+) -> io::Result<()> {
     let words = words(alloc, line)?;
     let [call, name, rest @ ..] = words.as_slice() else {
         return Err(invalid());
