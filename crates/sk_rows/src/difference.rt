@@ -1,8 +1,8 @@
 // How what came of a row differs from what is wanted.
 ghost use Rattle.std.specs.Prelude.{◌≡◌, None};
 
-use crate::output::Output;
-use crate::text::ESCAPED;
+use sk_row_calls::Output;
+use sk_row_calls::text::ESCAPED;
 use std::alloc::Global;
 
 /// How many bytes of a difference are shown.

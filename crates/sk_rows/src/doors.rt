@@ -1,50 +1,16 @@
 // Rows of calls in memory: who connects and what he sends, what the clock and the dice tell, and what must come of it.
-mod desks;
-mod ending;
-mod given;
-mod items;
-mod iterating;
-mod order;
-mod peers;
-mod poller;
-mod pushers;
-mod serving;
 mod top;
-mod workers;
 
 use crate::difference::difference;
-use crate::drills::compare_row;
-use crate::output::Output;
 use crate::report::Report;
 use crate::teams::with_teams;
-use crate::text::{halves, invalid};
-use crate::transcripts::talk_row;
-pub use ending::add_conns;
-pub use given::Given;
-pub use items::{Import, Lines, import_of};
-pub use peers::Peers;
+use sk_row_calls::text::{halves, invalid};
+use sk_row_calls::{Given, Output, call};
 use std::alloc::Global;
 use std::io;
 use std::sync::Wait;
 use std::thread::Threads;
 pub use top::run_top;
-pub use workers::run_workers;
-
-// What comes of a call without teams.
-fn call<R: Threads + Wait + Sync>(rt: &R, alloc: Global, given: &Given<'_>) -> io::Result<Output> {
-    match given.call {
-        "small" | "held" => serving::serve_row(rt, alloc, given),
-        "poll" => poller::poll_row(alloc, given),
-        "order" => order::turn_row(alloc, given),
-        "decide" => order::decision_row(alloc, given),
-        "desks" => desks::act_row(rt, alloc, given),
-        "threads" => pushers::push_row(rt, alloc, given),
-        "iterate" => iterating::call_row(alloc, given),
-        "compare" => compare_row(alloc, given.words),
-        "talk" => talk_row(alloc, given.words),
-        _ => Err(invalid()),
-    }
-}
 
 // What comes of the call.
 fn play<R: Threads + Wait + Sync>(rt: &R, alloc: Global, given: &Given<'_>) -> io::Result<Output> {

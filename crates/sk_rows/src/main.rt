@@ -2,34 +2,28 @@
 //! answer, and none can say what a call through the store's lock did; rows show both.
 #![tactic(auto)]
 
-mod command;
 mod difference;
 mod doors;
 mod drills;
-mod faults;
-mod lanes;
-mod output;
 mod report;
 mod row_job;
-mod store_link;
 mod teams;
-mod text;
-mod transcripts;
 mod worked;
 
 use difference::difference;
 use report::Report;
+use sk_row_calls::len_of_pushes;
+use sk_row_calls::text::{invalid, number, path_of};
 use std::alloc::Global;
 use std::process::ExitCode;
 use std::{env, fs, io};
-use text::path_of;
 
 // The words `pushes` and a number: so many jobs are pushed, for a measurement of time. How many bytes that took.
 fn measure(alloc: Global, word: &str, count: &str) -> io::Result<usize> {
     if word != "pushes" {
-        return Err(text::invalid());
+        return Err(invalid());
     }
-    transcripts::len_of_pushes(alloc, text::number(count)?)
+    len_of_pushes(alloc, number(count)?)
 }
 
 /// With no words all rows. With the words `pushes` and a number so many jobs are pushed, for a measurement of time.
@@ -38,7 +32,7 @@ fn main(rt: HostRuntime) -> io::Result<ExitCode> {
     let mut words = env::args(&rt)?;
     if let Some(word) = words.nth(1) {
         let Some(count) = words.next() else {
-            return Err(text::invalid());
+            return Err(invalid());
         };
         let len = measure(alloc, word.as_str(), count.as_str())?;
         println!(rt; "{len} bytes")?;

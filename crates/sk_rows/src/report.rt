@@ -1,5 +1,5 @@
 // How the rows went: a line each, and how many there were and how many went wrong.
-use crate::output::Output;
+use sk_row_calls::Output;
 use std::io;
 
 /// How many rows there were, and how many went wrong.

@@ -1,10 +1,10 @@
 // The jobs of rows.
 ghost use Rattle.std.specs.Prelude.{None};
 
-use crate::doors::Import;
 use sk_app::{Fail, Flip, Note};
 use sk_middle::{ToldJob, told};
 use sk_payload::Head;
+use sk_row_calls::Import;
 use sk_worker::{Job, Memory, Outcome};
 use std::alloc::Global;
 use std::sync::Arc;

@@ -2,16 +2,15 @@
 ghost use Rattle.std.specs.Prelude.{◌≤◌};
 ghost use Rattle.sk_base.specs.declared.limits.TheConstants.{LONGEST_DELAY};
 
-use crate::doors::{Given, Lines, Peers, import_of, run_top, run_workers};
+use crate::doors::run_top;
 use crate::drills::drill_row;
-use crate::lanes::lane_row;
-use crate::output::Output;
 use crate::row_job::RowJob;
-use crate::text::{count, invalid, words};
 use sk_app::{Fail, Flip};
 use sk_base::limits::{LONGEST_DELAY, MOST_WORKERS};
 use sk_policy::{DelayRule, plain_delay};
 use sk_resp::Text;
+use sk_row_calls::text::{count, invalid, words};
+use sk_row_calls::{Given, Lines, Output, Peers, import_of, lane_row, run_workers};
 use sk_worker::{Job, Registry};
 use std::alloc::{AllocError, Global};
 use std::io;

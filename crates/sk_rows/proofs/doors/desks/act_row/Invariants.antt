@@ -1,4 +1,0 @@
-use Rattle.sk_rows.proofs.doors.desks.act_row.Given as goal
-
-abbrev pub ghosts-desks_on : goal.ghosts-desks_on
-ghosts-desks_on g a = record { acks = a.blank.acks; asks = a.blank.asks; cuts = a.blank.cuts; limits = a.size.limits }

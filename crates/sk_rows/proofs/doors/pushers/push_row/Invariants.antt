@@ -1,4 +1,0 @@
-use Rattle.sk_rows.proofs.doors.pushers.push_row.Given as goal
-
-abbrev pub ghosts-threads_on : goal.ghosts-threads_on
-ghosts-threads_on g a = record { acks = a.blank.acks; asks = a.blank.asks; cuts = a.blank.cuts; limits = a.size.limits }
