@@ -1,5 +1,6 @@
 // What no clause says: that a log is made, appended to and opened where there is memory, in memory and in a file of the system, and that the file of
 // one opening is refused to another.
+ghost use Rattle.std.specs.Prelude.{◌<◌, ◌^◌, length};
 
 use sk_disk::{Disk, FileShelf, MemDisk, MemShelf, Shelf};
 use sk_log::{Group, Log, LogFault, ReplayFault, Replayer, open, record_of};
@@ -39,13 +40,30 @@ impl Replayer for Bodies {
     }
 }
 
+// Appends a record of this body.
+fn append<D: Disk>(alloc: Global, log: &mut Log, disk: &mut D, body: &[u8]) -> Result<(), LogFault>
+    requires { length body.now < 2 ^ 25 }
+{
+    let record = record_of(alloc, body)?;
+    log.append(disk, &record)
+}
+
+// Puts a record of this body into a group.
+fn push(alloc: Global, group: &mut Group, body: &[u8]) -> Result<(), LogFault>
+    requires { length body.now < 2 ^ 25 }
+{
+    let record = record_of(alloc, body)?;
+    group.push(&record)?;
+    Ok(())
+}
+
 // Makes a log of one record and a group of two.
 fn fill<D: Disk>(alloc: Global, disk: &mut D) -> Result<(), LogFault> {
     let mut log = Log::create(disk)?;
-    log.append(disk, &record_of(alloc, b"one")?)?;
+    append(alloc, &mut log, disk, b"one")?;
     let mut group = Group::new(alloc)?;
-    group.push(&record_of(alloc, b"")?)?;
-    group.push(&record_of(alloc, b"three")?)?;
+    push(alloc, &mut group, b"")?;
+    push(alloc, &mut group, b"three")?;
     log.append_all(disk, &group)
 }
 
@@ -55,7 +73,7 @@ fn reopen<D: Disk>(alloc: Global, disk: &mut D) -> Result<Vec<u8>, LogFault> {
         text: Vec::new(alloc),
     };
     let mut log = open(alloc, disk, &mut read)?;
-    log.append(disk, &record_of(alloc, b"four")?)?;
+    append(alloc, &mut log, disk, b"four")?;
     Ok(read.text)
 }
 

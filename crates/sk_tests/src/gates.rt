@@ -17,10 +17,13 @@ fn text(alloc: Global, text: &str) -> Result<Text, Memory> {
 }
 
 fn note(alloc: Global) -> Result<JobDraft, Memory> {
+    let jid = text(alloc, "j1")?;
+    let class = text(alloc, "Note")?;
+    let queue = text(alloc, "default")?;
     Ok(JobDraft {
-        jid: text(alloc, "j1")?,
-        class: text(alloc, "Note")?,
-        queue: text(alloc, "default")?,
+        jid,
+        class,
+        queue,
         args: Args::new(Vec::new(alloc)),
         retry: Retry::Default,
         retry_for: None,
