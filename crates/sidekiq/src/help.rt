@@ -23,14 +23,19 @@ fn ask_help(words: &[String]) -> bool {
         .any(|word| is_help(word))
 }
 
+/// A command's help, with the options of `work` that clap doesn't know.
+fn with_relay_help(alloc: Global, words: &[String], text: String) -> Result<String, AllocError> {
+    match words {
+        [name, ..] if name.as_str() == "work" => format!(in alloc; "{text}\n{RELAY_HELP}"),
+        _ => Ok(text),
+    }
+}
+
 /// The help of the command that the words begin with, or of the program, where there is no such command.
 fn help_for(alloc: Global, words: &[String]) -> Result<String, AllocError> {
-    match (help_of(alloc, words)?, words) {
-        (Some(text), [name, ..]) if name.as_str() == "work" => {
-            format!(in alloc; "{text}\n{RELAY_HELP}")
-        }
-        (Some(text), _) => Ok(text),
-        (None, _) => String::from_str(alloc, USAGE),
+    match help_of(alloc, words)? {
+        Some(text) => with_relay_help(alloc, words, text),
+        None => String::from_str(alloc, USAGE),
     }
 }
 
@@ -45,19 +50,27 @@ fn help_of_name(alloc: Global, words: &[String]) -> Result<String, AllocError> {
     help_for(alloc, &asked)
 }
 
-/// What the words ask to be told. None where they ask that something be done.
-pub fn told(alloc: Global, words: &[String]) -> Result<Option<String>, AllocError> {
+/// What is told of the words, where they ask to be told something.
+fn text_for(alloc: Global, words: &[String]) -> Option<Result<String, AllocError>> {
     let [first, rest @ ..] = words else {
-        return Ok(None);
+        return None;
     };
     if rest.is_empty() && is_version(first) {
-        return Ok(Some(format!(in alloc; "sidekiq {VERSION}")?));
+        return Some(format!(in alloc; "sidekiq {VERSION}"));
     }
     if first.as_str() == "help" {
-        return Ok(Some(help_of_name(alloc, rest)?));
+        return Some(help_of_name(alloc, rest));
     }
     if ask_help(words) {
-        return Ok(Some(help_for(alloc, words)?));
+        return Some(help_for(alloc, words));
     }
-    Ok(None)
+    None
+}
+
+/// What the words ask to be told. None where they ask that something be done.
+pub fn told(alloc: Global, words: &[String]) -> Result<Option<String>, AllocError> {
+    match text_for(alloc, words) {
+        Some(text) => Ok(Some(text?)),
+        None => Ok(None),
+    }
 }

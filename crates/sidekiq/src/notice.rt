@@ -111,6 +111,55 @@ fn unkept(rt: &HostRuntime, line: &LogLine, cause: Option<&io::Error>) -> io::Re
     }
 }
 
+// Why a server ended so.
+fn served(
+    rt: &HostRuntime,
+    line: &ServeLine,
+    status: u8,
+    cause: Option<&io::Error>,
+) -> io::Result<()> {
+    match status {
+        0 => eprintln!(rt; "sidekiq: the server has ended"),
+        6 => unserved(rt, line, cause),
+        _ => Ok(()),
+    }
+}
+
+// Why workers ended so.
+fn worked(rt: &HostRuntime, settings: &WorkSettings, status: u8) -> io::Result<()> {
+    match status {
+        0 => eprintln!(rt; "sidekiq: each worker has taken its turns"),
+        6 => unreachable(rt, &settings.address),
+        _ => Ok(()),
+    }
+}
+
+// Why a question to a server ended so.
+fn asked(rt: &HostRuntime, address: &Address, status: u8) -> io::Result<()> {
+    match status {
+        6 => unreachable(rt, address),
+        _ => Ok(()),
+    }
+}
+
+// Why a pipe with a file ended so.
+fn logged(
+    rt: &HostRuntime,
+    line: &LogLine,
+    status: u8,
+    cause: Option<&io::Error>,
+) -> io::Result<()> {
+    let file = line.path.text();
+    match status {
+        10 => unkept(rt, line, cause),
+        11 => eprintln!(rt;
+            "sidekiq: {file} is not a log, or is damaged; nothing was written to it"
+        ),
+        12 => eprintln!(rt; "sidekiq: {file} is full (2^50 bytes)"),
+        _ => Ok(()),
+    }
+}
+
 // Tells of words that begin with no program's name, or with one that takes no others.
 fn unknown(rt: &HostRuntime, words: &[String]) -> io::Result<()> {
     match words {
@@ -132,6 +181,64 @@ pub fn unreadable_word(rt: &HostRuntime) -> io::Result<()> {
     eprintln!(rt; "sidekiq: bad command line: a word isn't UTF-8\n{USAGE}")
 }
 
+// What the words of one command ask for. Of those that are refused nothing is told here.
+
+fn serve(alloc: Global, words: &[String]) -> Notice {
+    match read_serve(alloc, words) {
+        Ok(line) => Notice::Serve(line),
+        Err(_) => Notice::Other,
+    }
+}
+
+fn work(alloc: Global, words: &[String], teams: u32) -> Notice {
+    match read_work(alloc, words, teams) {
+        Ok(settings) => Notice::Work(settings),
+        Err(_) => Notice::Other,
+    }
+}
+
+fn push(alloc: Global, words: &[String]) -> Notice {
+    match read_push(alloc, words) {
+        Ok(line) => Notice::Ask(line.address),
+        Err(_) => Notice::Other,
+    }
+}
+
+fn status(alloc: Global, words: &[String]) -> Notice {
+    match read_status(alloc, words) {
+        Ok(line) => Notice::Ask(line.address),
+        Err(_) => Notice::Other,
+    }
+}
+
+fn limit(alloc: Global, words: &[String]) -> Notice {
+    match read_limit(alloc, words) {
+        Ok(line) => Notice::Ask(line.address),
+        Err(_) => Notice::Other,
+    }
+}
+
+fn iterate(alloc: Global, words: &[String]) -> Notice {
+    match read_iterate(alloc, words) {
+        Ok(line) => Notice::Ask(line.address),
+        Err(_) => Notice::Other,
+    }
+}
+
+fn drill(alloc: Global, words: &[String], teams: u32) -> Notice {
+    match read_drill(alloc, words, teams) {
+        Ok(line) => Notice::Drill(line),
+        Err(_) => Notice::Other,
+    }
+}
+
+fn pipe(alloc: Global, words: &[String]) -> Notice {
+    match read_log(alloc, words) {
+        Ok(line) => Notice::Log(line),
+        Err(_) => Notice::Other,
+    }
+}
+
 impl Notice {
     /// What the words ask for, where `work` has so many teams.
     pub fn of(alloc: Global, words: &[String], teams: u32) -> Notice {
@@ -139,38 +246,14 @@ impl Notice {
             return Notice::Other;
         };
         match name.as_str() {
-            "serve" => match read_serve(alloc, words) {
-                Ok(line) => Notice::Serve(line),
-                Err(_) => Notice::Other,
-            },
-            "work" => match read_work(alloc, words, teams) {
-                Ok(settings) => Notice::Work(settings),
-                Err(_) => Notice::Other,
-            },
-            "push" => match read_push(alloc, words) {
-                Ok(line) => Notice::Ask(line.address),
-                Err(_) => Notice::Other,
-            },
-            "status" => match read_status(alloc, words) {
-                Ok(line) => Notice::Ask(line.address),
-                Err(_) => Notice::Other,
-            },
-            "limit" => match read_limit(alloc, words) {
-                Ok(line) => Notice::Ask(line.address),
-                Err(_) => Notice::Other,
-            },
-            "iterate" => match read_iterate(alloc, words) {
-                Ok(line) => Notice::Ask(line.address),
-                Err(_) => Notice::Other,
-            },
-            "drill" => match read_drill(alloc, words, teams) {
-                Ok(line) => Notice::Drill(line),
-                Err(_) => Notice::Other,
-            },
-            "pipe" => match read_log(alloc, words) {
-                Ok(line) => Notice::Log(line),
-                Err(_) => Notice::Other,
-            },
+            "serve" => serve(alloc, words),
+            "work" => work(alloc, words, teams),
+            "push" => push(alloc, words),
+            "status" => status(alloc, words),
+            "limit" => limit(alloc, words),
+            "iterate" => iterate(alloc, words),
+            "drill" => drill(alloc, words, teams),
+            "pipe" => pipe(alloc, words),
             _ => Notice::Other,
         }
     }
@@ -216,23 +299,21 @@ impl Notice {
         status: u8,
         cause: Option<&io::Error>,
     ) -> io::Result<()> {
-        match (status, self) {
-            (2, _) => refused(rt, words),
-            (5, _) => eprintln!(rt; "sidekiq: out of memory"),
-            (6, Notice::Serve(line)) => unserved(rt, line, cause),
-            (6, Notice::Work(settings)) => unreachable(rt, &settings.address),
-            (6, Notice::Ask(address)) => unreachable(rt, address),
-            (10, Notice::Log(line)) => unkept(rt, line, cause),
-            (11, Notice::Log(line)) => eprintln!(rt;
-                "sidekiq: {} is not a log, or is damaged; nothing was written to it",
-                line.path.text()
-            ),
-            (12, Notice::Log(line)) => {
-                eprintln!(rt; "sidekiq: {} is full (2^50 bytes)", line.path.text())
-            }
-            (0, Notice::Serve(_)) => eprintln!(rt; "sidekiq: the server has ended"),
-            (0, Notice::Work(_)) => eprintln!(rt; "sidekiq: each worker has taken its turns"),
-            _ => Ok(()),
+        match status {
+            2 => refused(rt, words),
+            5 => eprintln!(rt; "sidekiq: out of memory"),
+            _ => self.ended(rt, status, cause),
+        }
+    }
+
+    // The same where the words were taken, and there was memory.
+    fn ended(&self, rt: &HostRuntime, status: u8, cause: Option<&io::Error>) -> io::Result<()> {
+        match self {
+            Notice::Serve(line) => served(rt, line, status, cause),
+            Notice::Work(settings) => worked(rt, settings, status),
+            Notice::Ask(address) => asked(rt, address, status),
+            Notice::Log(line) => logged(rt, line, status, cause),
+            Notice::Drill(_) | Notice::Other => Ok(()),
         }
     }
 }

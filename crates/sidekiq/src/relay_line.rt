@@ -58,18 +58,22 @@ struct Sorted {
 }
 
 // Words that can't be done, for this reason.
-fn refused(alloc: Global, why: &str) -> Result<RelayFault, AllocError> {
-    Ok(RelayFault::Refused(format!(in alloc;
+fn refused(alloc: Global, why: &str) -> RelayFault {
+    let told = format!(in alloc;
         "sidekiq work: {why}\n\n{RELAY_HELP}\n\nFor more information, try 'sidekiq work --help'."
-    )?))
+    );
+    match told {
+        Ok(text) => RelayFault::Refused(text),
+        Err(_) => RelayFault::Memory,
+    }
 }
 
 // The same of an option's value.
-fn refused_value(alloc: Global, option: &str, value: &str) -> Result<RelayFault, AllocError> {
-    refused(
-        alloc,
-        format!(in alloc; "{option} can't be '{value}'")?.as_str(),
-    )
+fn refused_value(alloc: Global, option: &str, value: &str) -> RelayFault {
+    match format!(in alloc; "{option} can't be '{value}'") {
+        Ok(why) => refused(alloc, &why),
+        Err(_) => RelayFault::Memory,
+    }
 }
 
 // The option that a word is, and the value behind its `=`.
@@ -114,12 +118,19 @@ impl Sorted {
             return Ok(());
         }
         self.is_over = self.is_over || word.as_str() == "--";
+        if self.is_over {
+            self.rest.push(word)?;
+            return Ok(());
+        }
+        self.sort_option(alloc, word)
+    }
+
+    // The same of a word before `--` that is no option's value.
+    fn sort_option(&mut self, alloc: Global, word: String) -> Result<(), AllocError> {
         match option_of(&word) {
-            Some((option, Some(value))) if !self.is_over => {
-                self.keep(option, String::from_str(alloc, value)?);
-            }
-            Some((option, None)) if !self.is_over => self.wanted = Some(option),
-            _ => self.rest.push(word)?,
+            Some((option, Some(value))) => self.keep(option, String::from_str(alloc, value)?),
+            Some((option, None)) => self.wanted = Some(option),
+            None => self.rest.push(word)?,
         }
         Ok(())
     }
@@ -158,22 +169,33 @@ fn classes_of(alloc: Global, text: &str) -> Result<Option<Vec<String>>, AllocErr
     Ok(Some(classes))
 }
 
+// The classes that the words name.
+fn named_classes(alloc: Global, sorted: &Sorted) -> Result<Vec<String>, RelayFault> {
+    let text = sorted.classes.as_ref().map_or("", |text| text.as_str());
+    match classes_of(alloc, text)? {
+        Some(classes) => Ok(classes),
+        None => Err(refused_value(alloc, "--relay-classes", text)),
+    }
+}
+
+// The seconds that the words name.
+fn named_seconds(alloc: Global, sorted: &Sorted) -> Result<u32, RelayFault> {
+    match seconds_of(sorted.seconds.as_ref()) {
+        Some(seconds) => Ok(seconds),
+        None => {
+            let text = sorted.seconds.as_ref().map_or("", |text| text.as_str());
+            Err(refused_value(alloc, "--relay-seconds", text))
+        }
+    }
+}
+
 // The line that these values are, where the other program listens at this place.
 fn line_at(alloc: Global, place: &str, sorted: &Sorted) -> Result<RelayLine, RelayFault> {
     let Some((host, port)) = place_of(place) else {
-        return Err(refused_value(alloc, "--relay", place)?);
+        return Err(refused_value(alloc, "--relay", place));
     };
-    let named = sorted
-        .classes
-        .as_ref()
-        .map_or("", |classes| classes.as_str());
-    let Some(classes) = classes_of(alloc, named)? else {
-        return Err(refused_value(alloc, "--relay-classes", named)?);
-    };
-    let Some(seconds) = seconds_of(sorted.seconds.as_ref()) else {
-        let text = sorted.seconds.as_ref().map_or("", |text| text.as_str());
-        return Err(refused_value(alloc, "--relay-seconds", text)?);
-    };
+    let classes = named_classes(alloc, sorted)?;
+    let seconds = named_seconds(alloc, sorted)?;
     Ok(RelayLine {
         host: String::from_str(alloc, host)?,
         port,
@@ -185,15 +207,15 @@ fn line_at(alloc: Global, place: &str, sorted: &Sorted) -> Result<RelayLine, Rel
 // The line that the values are, if one of the options is there.
 fn line_of(alloc: Global, sorted: &Sorted) -> Result<Option<RelayLine>, RelayFault> {
     if sorted.wanted.is_some() {
-        return Err(refused(alloc, "the last option has no value")?);
+        return Err(refused(alloc, "the last option has no value"));
     }
-    let Some(place) = &sorted.place else {
-        if sorted.classes.is_some() || sorted.seconds.is_some() {
-            return Err(refused(alloc, "there is no --relay")?);
-        }
-        return Ok(None);
-    };
-    Ok(Some(line_at(alloc, place, sorted)?))
+    if let Some(place) = &sorted.place {
+        return Ok(Some(line_at(alloc, place, sorted)?));
+    }
+    if sorted.classes.is_some() || sorted.seconds.is_some() {
+        return Err(refused(alloc, "there is no --relay"));
+    }
+    Ok(None)
 }
 
 /// The words for the top call, and which program runs the jobs, if the words, which are those of `work`, name one.
