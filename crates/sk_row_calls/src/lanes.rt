@@ -4,7 +4,7 @@ ghost use Rattle.sk_row_calls.specs.declared.lanes.TheConstants.{MOST};
 
 use crate::command::{command_of, step};
 use crate::output::Output;
-use crate::text::{count, invalid, number};
+use crate::text::{count, count_within, invalid, number};
 use sk_core::Core;
 use sk_desk::Ask;
 use sk_lane::{CoreSeats, Story, lane};
@@ -101,11 +101,10 @@ fn plan_of(words: &[String]) -> io::Result<Plan>
     let [seed, jobs, worker, crashes, ..] = words else {
         return Err(invalid());
     };
-    let (seed, jobs, worker) = (number(seed)?, count(jobs)?, count(worker)?);
-    let crashes = count(crashes)?;
-    if jobs < 1 || jobs > MOST || worker < 1 || worker > 16 || crashes > MOST {
-        return Err(invalid());
-    }
+    let seed = number(seed)?;
+    let jobs = count_within(jobs, 1, MOST)?;
+    let worker = count_within(worker, 1, 16)?;
+    let crashes = count_within(crashes, 0, MOST)?;
     Ok(Plan {
         seed,
         jobs,

@@ -1,4 +1,6 @@
 // What stands in rows: numbers, words, and bytes as text.
+ghost use Rattle.std.specs.Prelude.{◌≤◌, IfOk};
+
 use percent_encoding::{AsciiSet, CONTROLS, ascii_set, percent_decode};
 use sk_model::Limits;
 use sk_pipe::SHIPPED_LIMITS;
@@ -61,6 +63,20 @@ pub fn count(text: &str) -> io::Result<u32> {
         Ok(count) => Ok(count),
         Err(_) => Err(invalid()),
     }
+}
+
+/// The text's number, within these bounds. Another text is invalid data.
+pub fn count_within(text: &str, least: u32, most: u32) -> io::Result<u32>
+    ensures { IfOk result (λ count. (least ≤ count) × (count ≤ most)) }
+{
+    let count = count(text)?;
+    if count < least {
+        return Err(invalid());
+    }
+    if count > most {
+        return Err(invalid());
+    }
+    Ok(count)
 }
 
 /// The numbers, with blanks between.

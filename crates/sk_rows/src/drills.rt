@@ -5,7 +5,7 @@ use sk_compare::Difference;
 use sk_desk::{Deed, FullBook};
 use sk_drill::{DrillEnd, Drilled, drill};
 use sk_policy::DelayRule;
-use sk_row_calls::text::{count, invalid, number};
+use sk_row_calls::text::{count_within, invalid, number};
 use sk_row_calls::{Output, add_difference};
 use sk_worker::Registry;
 use std::alloc::{AllocError, Global};
@@ -31,7 +31,7 @@ fn yes_or_no(holds: bool) -> &'static str {
 #[derive(Clone, Copy)]
 struct Plan {
     seed: u64,
-    jobs: u64,
+    jobs: u32,
     workers: u32,
     crashes: u32,
 }
@@ -45,11 +45,10 @@ fn plan_of(words: &[String], teams: usize) -> io::Result<Plan>
     let [seed, jobs, workers, crashes, ..] = words else {
         return Err(invalid());
     };
-    let (seed, jobs) = (number(seed)?, number(jobs)?);
-    let (workers, crashes) = (count(workers)?, count(crashes)?);
-    if jobs < 1 || jobs > 20_000 || workers < 1 || workers > 16 || crashes > 1_000_000 {
-        return Err(invalid());
-    }
+    let seed = number(seed)?;
+    let jobs = count_within(jobs, 1, 20_000)?;
+    let workers = count_within(workers, 1, 16)?;
+    let crashes = count_within(crashes, 0, 1_000_000)?;
     if workers as usize > teams {
         return Err(invalid());
     }
@@ -137,7 +136,7 @@ pub fn drill_row<R: Threads + Wait + Sync>(
         rt,
         alloc,
         plan.seed,
-        plan.jobs,
+        u64::from(plan.jobs),
         plan.workers,
         plan.crashes,
         teams,
