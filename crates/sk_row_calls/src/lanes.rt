@@ -1,6 +1,5 @@
 // A lane over a store of its own, and what it asked at its seats.
 ghost use Rattle.std.specs.Prelude.{◌≤◌, IfOk};
-ghost use Rattle.sk_row_calls.specs.declared.lanes.TheConstants.{MOST};
 
 use crate::command::{command_of, step};
 use crate::output::Output;
@@ -94,9 +93,9 @@ struct Plan {
 
 // The plan that the words say. Others are invalid data.
 fn plan_of(words: &[String]) -> io::Result<Plan>
-    ensures jobs { IfOk result (λ plan. (1 ≤ plan.jobs) × (plan.jobs ≤ MOST)) }
+    ensures jobs { IfOk result (λ plan. (1 ≤ plan.jobs) × (plan.jobs ≤ 20000)) }
     ensures worker { IfOk result (λ plan. (1 ≤ plan.worker) × (plan.worker ≤ 16)) }
-    ensures crashes { IfOk result (λ plan. plan.crashes ≤ MOST) }
+    ensures crashes { IfOk result (λ plan. plan.crashes ≤ 20000) }
 {
     let [seed, jobs, worker, crashes, ..] = words else {
         return Err(invalid());
