@@ -112,16 +112,14 @@ fn plan_of(words: &[String]) -> io::Result<Plan>
     })
 }
 
-// A store in which so many jobs of a class stand, as the words behind the plan's say.
-fn store_of(alloc: Global, words: &[String]) -> io::Result<Core> {
+// Pushes so many jobs of a class as the words behind the plan's say.
+fn push_asked(alloc: Global, core: &mut Core, words: &[String]) -> io::Result<()> {
     let (pushed, class) = match words {
         [_, _, _, _, pushed] => (pushed, "Note"),
         [_, _, _, _, pushed, class] => (pushed, class.as_str()),
         _ => return Err(invalid()),
     };
-    let mut core = Core::new(alloc, SHIPPED_LIMITS);
-    push_all(alloc, &mut core, count(pushed)?, class)?;
-    Ok(core)
+    push_all(alloc, core, count(pushed)?, class)
 }
 
 /// What comes of a row `SEED JOBS NUMBER CRASHES PUSHED CLASS`: so many jobs of this class, or of Note, stand in a new store, and the lane of worker
@@ -137,7 +135,8 @@ pub fn lane_row(
     requires { 0 ≤ 1 }
 {
     let plan = plan_of(words)?;
-    let core = store_of(alloc, words)?;
+    let mut core = Core::new(alloc, SHIPPED_LIMITS);
+    let pushed = push_asked(alloc, &mut core, words);
     let mut seats = CoreSeats::new(alloc, core, 1 + plan.crashes + 2 * plan.jobs);
     let stories = lane(
         alloc,
@@ -148,7 +147,10 @@ pub fn lane_row(
         plan.crashes,
         registry,
         rule,
-    )?;
+    );
+    drop(seats);
+    pushed?;
+    let stories = stories?;
     let mut out = Output::new(alloc);
     for story in &stories {
         add_story(&mut out, story);
