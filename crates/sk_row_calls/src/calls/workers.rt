@@ -53,10 +53,10 @@ impl Scene<'_> {
     fn join(&mut self, alloc: Global, worker: &mut Worker, link: &mut WireLink<MemConn>)
         requires { 0 ≤ 1 }
     {
-        self.out.say(match worker.join(alloc, link) {
-            Ok(()) => "joined",
-            Err(fault) => fault_name(&fault),
-        });
+        match worker.join(alloc, link) {
+            Ok(()) => self.out.say("joined"),
+            Err(fault) => self.out.say(fault_name(&fault)),
+        }
         self.out.say("\n");
     }
 
