@@ -1,7 +1,28 @@
 -- What a shared log keeps under its two locks: what waits for a leader, and what its file has.
-use Rattle.std.specs.Prelude.{ℕ, ◌≡◌, List, ◌++◌, length}
+use Rattle.std.specs.Prelude.{ℕ, ◌≡◌, ◌≤◌, ◌+◌, ◌^◌, List, [], ◌∷◌, ◌++◌, Option, None, Some, length}
 use Rattle.sk_disk.specs.Images.{Images}
 use Rattle.sk_log.specs.File.{Body, IsAt, IsGroup}
+
+-- all that was logged, and the record that is drafted and may yet be dropped
+pub record Backed : Type 0 where
+  pub history : List Body
+  pub draft : List Body
+
+abbrev pub backed : List Body → Backed
+backed history = record { history = history; draft = [] }
+
+abbrev pub draft_in : Option Body → List Body
+draft_in None = []
+draft_in (Some body) = body ∷ []
+
+-- The history's last records wait, and the draft behind them, as a group; so many stand before them.
+pub record IsDrafted (history : List Body) (count : ℕ) (draft : List Body) (group : List ℕ) : Type 0 where
+  pub before : List Body
+  pub waiting : List Body
+  pub whole : history ≡ before ++ waiting
+  pub counted : count ≡ length before
+  pub is : IsGroup (waiting ++ draft) group
+  pub room : length history + length draft ≤ 2 ^ 60
 
 -- The history's last records wait, as a group; so many stand before them.
 pub record IsWaiting (history : List Body) (count : ℕ) (group : List ℕ) : Type 0 where

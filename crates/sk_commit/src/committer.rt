@@ -73,21 +73,25 @@ impl<D: Disk + Drop, I: LogId> Committer<D, I> {
         idle: Idle<D, I>,
     ) -> Option<Durable<I>> {
         let Idle { stored, spare } = idle;
-        let done = stored.store(backlog.take(rt, spare));
+        let done = match backlog.take(rt, spare) {
+            Some(taken) => stored.store(taken),
+            None => None,
+        };
         let durable = self.put_back(rt, done);
         self.changed.notify_all();
         durable
     }
 
-    /// Waits until all that was seen is in the file, and leads where nobody does. Answers what is in the file then. None where the log has ended, or
-    /// where what was seen has never waited in this backlog.
+    /// Waits until all that was seen is in the file, and leads where nobody does. Answers what is in the file then. None where the log has ended, as it
+    /// does where the disk fails or nothing can be logged any more, or where what was seen has never waited in this backlog.
     pub fn settle<R: Wait, B: Backlog<I>>(
         &self,
         rt: &R,
         backlog: &B,
         me: &Prefix<I>,
     ) -> Option<Durable<I>>
-        ensures { IfSome result (λ durable. IsPrefix me.now durable) }
+        ensures has { IfSome result (λ durable. IsPrefix me.now durable) }
+        ensures holds { IfSome result (λ durable. I.holds durable) }
     {
         let records = me.len();
         let mut slot = self

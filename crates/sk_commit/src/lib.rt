@@ -10,7 +10,7 @@ mod pending;
 mod rule;
 mod stored;
 
-pub use backlog::Backlog;
+pub use backlog::{Backlog, PlainBacklog};
 pub use committer::Committer;
 pub use history::{History, NewHistory, Prefix};
 pub use log_id::LogId;

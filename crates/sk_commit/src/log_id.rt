@@ -1,4 +1,5 @@
-// What names a shared log: the book of its history, and which bodies its file may have had before.
+// What names a shared log: the book of its history, which bodies its file may have had before, and what holds of all that leaders take.
+ghost use Rattle.std.specs.Prelude.{⊤};
 
 use std::marker::Brand;
 
@@ -13,10 +14,15 @@ pub trait LogId {
 
     /// The file may have been a log of these bodies when it was handed over.
     ghost starts: { List Body → Type 0 };
+
+    /// It holds of the history at each moment at which a leader takes what waits.
+    ghost holds: { List Body → Type 0 };
 }
 
 impl LogId for Brand {
     ghost book = { record { number = 0; log_name = 0; cells_name = 0 } };
 
     ghost starts = { λ _. ⊥ };
+
+    ghost holds = { λ _. ⊤ };
 }

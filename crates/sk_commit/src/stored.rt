@@ -9,7 +9,7 @@ use sk_log::{Group, Log};
 use std::marker::Model;
 
 /// A file, and the records that were stored in it since it was handed over. Contracts see these. Whatever a crash leaves is a log of what stood in
-/// the file then, and of these.
+/// the file then, and of these, of which holds what holds of all that leaders take.
 #[derive(Drop)]
 pub struct Stored<D: Disk + Drop, I: LogId> {
     disk: D,
@@ -26,10 +26,11 @@ impl<D: Disk + Drop, I: LogId> Model for Stored<D, I> {
 
     ghost view = { λ s. s.prefix };
 
-    ghost invariant = { λ s. HasBehind I.starts s.prefix s.log (D.may_leave s.disk) };
+    ghost invariant = { λ s. HasBehind I.starts s.prefix s.log (D.may_leave s.disk) × I.holds s.prefix };
 }
 
-/// A beginning of the history that is in the file. Only the file itself makes one. Contracts see the bodies of its records.
+/// A beginning of the history that is in the file, at whose end a leader once took it. Only the file itself makes one. Contracts see the bodies of its
+/// records.
 #[derive(Drop)]
 pub struct Durable<I: LogId> {
     prefix: Prefix<I>,
@@ -42,6 +43,8 @@ impl<I: LogId> Model for Durable<I> {
     ghost Value = { List Body };
 
     ghost view = { λ d. d.prefix };
+
+    ghost invariant = { λ d. I.holds d.prefix };
 }
 
 impl<I: LogId> Durable<I> {
@@ -63,7 +66,8 @@ impl<I: LogId> Durable<I> {
 
     /// Whether all that was seen is in it.
     pub fn reaches(&self, me: &Prefix<I>) -> bool
-        ensures { result ≡ true → IsPrefix me.now self.now }
+        ensures has { result ≡ true → IsPrefix me.now self.now }
+        ensures holds { I.holds self.now }
     {
         if self.prefix.len() < me.len() {
             return false;
@@ -77,6 +81,7 @@ impl<D: Disk + Drop, I: LogId> Stored<D, I> {
     /// A file that was just made or opened, and the beginning of the history that has no record.
     pub fn new(disk: D, log: Log, prefix: Prefix<I>) -> Stored<D, I>
         requires prefix { prefix ≡ [] }
+        requires holds { I.holds [] }
         requires start { IsStart I.starts log (D.may_leave disk) }
         ensures { result ≡ [] }
     {
@@ -95,6 +100,7 @@ impl<D: Disk + Drop, I: LogId> Stored<D, I> {
     /// Stores what a leader took, with two syncs for all of it, and answers the leader's group beside the file: all of the history up to the group's
     /// end is in the file then. None where the disk failed, the file would be too long, or another group comes next: the log has ended.
     pub fn store(self, taken: Taken<I>) -> Option<(Stored<D, I>, Group)>
+        requires { I.holds taken }
         ensures stored { IfSome result (λ r. r.0 ≡ taken) }
         ensures grows { IfSome result (λ r. IsPrefix self r.0) }
     {

@@ -1,14 +1,15 @@
 // What no clause says: that two threads which share a log find their records in its file where the disk's calls pass, and have no answer where they
 // fail.
-ghost use Rattle.std.specs.Prelude.{◌≡◌};
+ghost use Rattle.std.specs.Prelude.{◌≡◌, List};
 ghost use Rattle.sk_commit.specs.Shared.{IsStart};
+ghost use Rattle.sk_log.specs.File.{Body};
 
-use sk_commit::{Committer, LogId, NewHistory, Pending, Stored};
+use sk_commit::{Committer, LogId, NewHistory, Pending, PlainBacklog, Stored};
 use sk_disk::{Disk, MemDisk};
 use sk_log::{Group, Log, LogFault, Record, ReplayFault, Replayer, open, record_of};
 use std::alloc::Global;
 use std::marker::{Brand, Model};
-use std::sync::{Mutex, Wait};
+use std::sync::Wait;
 use std::test::Fail;
 use std::thread::{self, Threads};
 
@@ -45,14 +46,11 @@ impl Replayer for Joined {
 fn log_one<I: LogId, D: Disk + Drop, R: Wait>(
     rt: &R,
     committer: &Committer<D, I>,
-    pending: &Mutex<Pending<I>>,
+    backlog: &PlainBacklog<I>,
     entry: Record,
 ) -> Result<bool, LogFault> {
-    let mut waiting = pending.lock(rt);
-    waiting.log(&entry)?;
-    let me = waiting.seen();
-    drop(waiting);
-    Ok(committer.settle(rt, pending, &me).is_some())
+    let me = backlog.log(rt, entry)?;
+    Ok(committer.settle(rt, backlog, &me).is_some())
 }
 
 // Two threads log a record each. Answers the file, if both found their records in it.
@@ -64,17 +62,18 @@ fn log_two<I: LogId + Send + Sync, D: Disk + Drop + Send, R: Threads + Wait + Sy
 ) -> Result<Option<D>, LogFault>
     requires id { new ≡ I.book }
     requires start { IsStart I.starts file.1 (D.may_leave file.0) }
+    requires any { (history : List Body) → I.holds history }
 {
     let (disk, log) = file;
     let (history, prefix) = new.named::<I>();
     let stored = Stored::new(disk, log, prefix.again());
     let committer = Committer::new(stored, Group::new(alloc)?);
-    let pending = Mutex::new(Pending::new(history, prefix, Group::new(alloc)?));
+    let backlog = PlainBacklog::new(Pending::new(history, prefix, Group::new(alloc)?));
     let (one, two) = (record_of(alloc, b"1")?, record_of(alloc, b"2")?);
     let (one, two) = thread::join(
         rt,
-        || log_one(rt, &committer, &pending, one),
-        || log_one(rt, &committer, &pending, two),
+        || log_one(rt, &committer, &backlog, one),
+        || log_one(rt, &committer, &backlog, two),
     );
     if !(one? && two?) {
         return Ok(None);
