@@ -1,6 +1,7 @@
 -- What a command and a cut keep of what stands behind the lock.
 use Rattle.std.proofs.Common.{◌≡◌, ◌≤◌, ◌+◌, ◌-◌, ◌∙◌, ℕ, List, [], ◌∷◌, ◌++◌, length, length-append, refl, sym, ap, subst, inl, inr, arith}
 use Rattle.std.specs.Prelude.{◌||◌, Bool, true, false, Option, Some, None, Ok, IfSome, IsSome, filter, is_none}
+use Rattle.std.proofs.lemmas.List.{append-nil}
 use Rattle.std.proofs.lemmas.List.Elements.{filter-append}
 use Rattle.sk_resp.specs.Spelling.{Bytes}
 use Rattle.sk_resp.specs.declared.reply.Reply.{Reply}
@@ -13,7 +14,7 @@ use Rattle.sk_model.specs.Outcome.{Realizes, Outcome}
 use Rattle.sk_model.specs.Reading.{Words}
 use Rattle.sk_model.specs.Step.{MayComeTo, cut}
 use Rattle.sk_model.specs.World.{World, first}
-use Rattle.sk_model.specs.declared.limits.Limits.{Limits}
+use Rattle.sk_model.specs.Reliable.{IsReliable}
 use Rattle.sk_model.proofs.Theorems.Acknowledged.{acked, starved_acks_none}
 use Rattle.sk_model.proofs.Theorems.Reliable.{reliable}
 use Rattle.sk_model.proofs.Theorems.Runs.{leads_on}
@@ -24,14 +25,16 @@ use Rattle.sk_desk.specs.declared.entry.Entry.{Entry}
 use Rattle.sk_desk.specs.Counts.{Counts, CountsAsk, HasEvents, ShareView, is_ask, is_cut, nothing, with_ask}
 use Rattle.sk_desk.specs.Journal.{IsJournal, KeepsReply, Records, RecordsAll, event_of}
 use Rattle.sk_desk.specs.Log.{AllAnswered, HasReply, IsClosed, IsOpen, IsText, Log, Notes, Prepares, Writes, ask_entry, cut_entry, empty, lacks_reply, with_entry, with_note, with_waiting}
+use Rattle.sk_desk.specs.Writing.{IsKeptUp, Spelling, Writing, WritesCut, nothing_written}
+use Rattle.sk_desk.proofs.Writings.{cut_written, written_first}
 use Rattle.sk_desk.specs.State.{Asked, Asks, IsConsistent, IsKept, IsLogged, Quits, StateView}
 
 -- ## What a book logs
 
 -- a book that is a journal has no entry that waits
-pub logged_closed : (log : Option Log) (w : World) → IfSome log (IsLogged w) → IsClosed log
-logged_closed None w logged = tt
-logged_closed (Some log) w logged = logged.closed
+pub logged_closed : (log : Option Log) (start w : World) → IfSome log (IsLogged start w) → IsClosed log
+logged_closed None start w logged = tt
+logged_closed (Some log) start w logged = logged.closed
 
 -- once an entry is prepared it waits
 pub opened : (log after : Option Log) (e : Entry) → Writes log (with_waiting e) after → IsOpen after
@@ -88,28 +91,28 @@ record Recorded (w : World) (e : Entry) (v : World) : Type 0 where
   new_is : v ≡ perform w outcome.changes
   reply : KeepsReply e.deed outcome.reply
 
-journal_on : (entries : List Entry) (w v : World) (e : Entry) → IsJournal entries w → Recorded w e v → IsJournal (entries ++ e ∷ []) v
-journal_on entries w v e journal r =
+journal_on : (start : World) (entries : List Entry) (w v : World) (e : Entry) → IsJournal start entries w → Recorded w e v → IsJournal start (entries ++ e ∷ []) v
+journal_on start entries w v e journal r =
     let step : Step = record { event = event_of e.seat e.deed; outcome = r.outcome } in
     let one : Reaches w (step ∷ []) v = record { run = (r.happens, tt); new_is = r.new_is } in
-    let limits : w.limits ≡ v.limits = sym (ap (λ (u : World). u.limits) r.new_is ∙ limits_kept w r.outcome.changes) in
-    let leads : Reaches (first v.limits) (journal.steps ++ step ∷ []) v = subst (λ l. Reaches (first l) (journal.steps ++ step ∷ []) v) limits (leads_on (first w.limits) w v journal.steps (step ∷ []) journal.leads one) in
+    let leads : Reaches start (journal.steps ++ step ∷ []) v = leads_on start w v journal.steps (step ∷ []) journal.leads one in
     record {
       steps = journal.steps ++ step ∷ [];
       records = records-append entries journal.steps e step journal.records (record { event_is = refl; reply = r.reply });
       leads = leads;
-      reliable = reliable v.limits (journal.steps ++ step ∷ []) leads.run;
+      reliable = λ before led. reliable start.limits (before ++ (journal.steps ++ step ∷ [])) (leads_on (first start.limits) start v before (journal.steps ++ step ∷ []) led leads).run;
     }
 
-logged_on : (log after : Option Log) (w v : World) (e : Entry) → IfSome log (IsLogged w) → Recorded w e v → Writes log (with_entry e) after → IfSome after (IsLogged v)
-logged_on None after w v e logged r is = subst (λ l. IfSome l (IsLogged v)) (sym is) tt
-logged_on (Some log) after w v e logged r (inl is) = subst (λ l. IfSome l (IsLogged v)) (sym is) (record { closed = logged.closed; answered = answered_on log e logged.answered; journal = journal_on log.entries w v e logged.journal r })
-logged_on (Some log) after w v e logged r (inr (many, is)) = subst (λ l. IfSome l (IsLogged v)) (sym is) tt
+logged_on : (start : World) (log after : Option Log) (w v : World) (e : Entry) → IfSome log (IsLogged start w) → Recorded w e v → Writes log (with_entry e) after → IfSome after (IsLogged start v)
+logged_on start None after w v e logged r is = subst (λ l. IfSome l (IsLogged start v)) (sym is) tt
+logged_on start (Some log) after w v e logged r (inl is) =
+    subst (λ l. IfSome l (IsLogged start v)) (sym is) (record { closed = logged.closed; answered = answered_on log e logged.answered; journal = journal_on start log.entries w v e logged.journal r })
+logged_on start (Some log) after w v e logged r (inr (many, is)) = subst (λ l. IfSome l (IsLogged start v)) (sym is) tt
 
 -- a book that tells no log has none afterwards
-unlogged_on : (log after : Option Log) (w : World) (e : Entry) → log ≡ None → Writes log (with_entry e) after → IfSome after (IsLogged w)
-unlogged_on None after w e none is = subst (λ l. IfSome l (IsLogged w)) (sym is) tt
-unlogged_on (Some log) after w e none is = absurd (cc none)
+unlogged_on : (start : World) (log after : Option Log) (w : World) (e : Entry) → log ≡ None → Writes log (with_entry e) after → IfSome after (IsLogged start w)
+unlogged_on start None after w e none is = subst (λ l. IfSome l (IsLogged start w)) (sym is) tt
+unlogged_on start (Some log) after w e none is = absurd (cc none)
 
 -- ## Its entries are counted
 
@@ -129,16 +132,19 @@ events_on (Some log) after e c c' has (inl is) asks cuts = subst (λ o. IfSome o
 })
 events_on (Some log) after e c c' has (inr (many, is)) asks cuts = subst (λ o. IfSome o (λ l. HasEvents c'.asks c'.cuts l.entries)) (sym is) tt
 
--- ## An empty store
+-- ## The start
 
-journal_first : (limits : Limits) → IsJournal [] (first limits)
-journal_first limits =
-    let leads : Reaches (first limits) [] (first limits) = record { run = tt; new_is = refl } in
-    record { steps = []; records = tt; leads = leads; reliable = reliable limits [] tt }
+journal_first : (start : World) → IsJournal start [] start
+journal_first start = record {
+  steps = [];
+  records = tt;
+  leads = record { run = tt; new_is = refl };
+  reliable = λ before led. subst (λ (steps : List Step). IsReliable start.limits steps) (sym (append-nil before)) (reliable start.limits before led.run);
+}
 
-logged_first : (log : Option Log) (limits : Limits) → IfSome log (λ l. l ≡ empty) → IfSome log (IsLogged (first limits))
-logged_first None limits none = tt
-logged_first (Some log) limits none = subst (IsLogged (first limits)) (sym none) (record { closed = refl; answered = λ is. tt; journal = journal_first limits })
+logged_first : (start : World) (log : Option Log) → IfSome log (λ l. l ≡ empty) → IfSome log (IsLogged start start)
+logged_first start None none = tt
+logged_first start (Some log) none = subst (IsLogged start start) (sym none) (record { closed = refl; answered = λ is. tt; journal = journal_first start })
 
 events_first : (log : Option Log) (total : Counts) → total ≡ nothing → IfSome log (λ l. l ≡ empty) → IfSome log (λ l. HasEvents total.asks total.cuts l.entries)
 events_first None total zero_ none = tt
@@ -147,11 +153,13 @@ events_first (Some log) total zero_ none = record {
   cuts_are = ap (λ (l : Log). length (filter (λ (e : Entry). is_cut e.deed) l.entries)) none ∙ sym (ap (λ (c : Counts). c.cuts) zero_);
 }
 
-pub kept_first : (log : Option Log) (limits own : Limits) (total : Counts) → limits ≡ own → total ≡ nothing → IfSome log (λ l. l ≡ empty) → IsKept own (record { world = first limits; log = log; total = total })
-kept_first log limits own total is zero_ none = record {
-  limits_are = is;
-  consistent = record { counted = ap (λ (c : Counts). c.rows) zero_; logged = logged_first log limits none; events = events_first log total zero_ none };
-}
+pub kept_first : (spells : Spelling) (log : Option Log) (writing : Option Writing) (w start : World) (total : Counts) → w ≡ start → total ≡ nothing → IfSome log (λ l. l ≡ empty) → IfSome writing (λ t. t ≡ nothing_written)
+    → IsKept spells start (record { world = w; log = log; writing = writing; total = total })
+kept_first spells log writing w start total is zero_ none unwritten = subst (λ (u : World). IsKept spells start (record { world = u; log = log; writing = writing; total = total })) (sym is) (record {
+  limits_are = refl;
+  consistent = record { counted = omega (arith, ap (λ (c : Counts). c.rows) zero_); logged = logged_first start log none; events = events_first log total zero_ none };
+  kept_up = written_first spells start writing unwritten;
+})
 
 -- ## A command
 
@@ -180,9 +188,9 @@ desk_acknowledged old new seat now c answer before early step =
     record { added = counts.added; acks = counts.acks; after_is = omega (arith, early, counts.after_is) }
 
 -- what `State::ask` comes to, where the tally grew by so many
-pub asks : (old new : StateView) (mid : Option Log) (seat now : ℕ) (words : Words) (c : Command) (answer : Reply) (mine mine' : ShareView) (rows : ℕ) → IsConsistent old → Stepped old.world seat now c answer new.world
+pub asks : (start : World) (old new : StateView) (mid : Option Log) (seat now : ℕ) (words : Words) (c : Command) (answer : Reply) (mine mine' : ShareView) (rows : ℕ) → IsConsistent start old → Stepped old.world seat now c answer new.world
     → Prepares seat now words old.log mid → Notes answer mid new.log → rows ≡ new.world.tally.outside - old.world.tally.outside → new.total ≡ with_ask rows old.total → mine' ≡ record mine { counts = with_ask rows mine.counts } → Asked old new seat now words c answer mine mine'
-asks old new mid seat now words c answer mine mine' rows consistent step prepares (text, is_text, notes) is total share =
+asks start old new mid seat now words c answer mine mine' rows consistent step prepares (text, is_text, notes) is total share =
     let counts : Acknowledges c answer old.world.tally.outside new.world.tally.outside = acknowledged old.world new.world seat now c answer step in
     let same : counts.added ≡ rows = omega (arith, is, counts.after_is) in
     record {
@@ -194,7 +202,7 @@ asks old new mid seat now words c answer mine mine' rows consistent step prepare
       total_is = total;
       text = text;
       is_text = is_text;
-      entered = noted_after old.log mid new.log seat now words text (logged_closed old.log old.world consistent.logged) prepares notes;
+      entered = noted_after old.log mid new.log seat now words text (logged_closed old.log start old.world consistent.logged) prepares notes;
     }
 
 -- either way the share grew by what the reply acknowledges
@@ -214,30 +222,34 @@ ask_cuts_none old new seat now words c answer mine mine' (inl asked) = ap (λ (s
 ask_cuts_none old new seat now words c answer mine mine' (inr unasked) = ap (λ (s : ShareView). s.counts.cuts) unasked.mine_same
 
 -- what a command leaves is consistent again, whether its book wants the words, or tells no log
-asked_logged : (wants : Bool) (old new : StateView) (seat now : ℕ) (words : Words) (c : Command) (answer : Reply) (mine mine' : ShareView) → IfSome old.log (IsLogged old.world) → (wants ≡ true → IsRead words (Ok c)) → (wants ≡ false → old.log ≡ None) → Asked old new seat now words c answer mine mine' → IfSome new.log (IsLogged new.world)
-asked_logged true old new seat now words c answer mine mine' logged is_read untold asked =
-    logged_on old.log new.log old.world new.world (ask_entry seat now words asked.text) logged
+asked_logged : (wants : Bool) (start : World) (old new : StateView) (seat now : ℕ) (words : Words) (c : Command) (answer : Reply) (mine mine' : ShareView) → IfSome old.log (IsLogged start old.world) → (wants ≡ true → IsRead words (Ok c)) → (wants ≡ false → old.log ≡ None)
+    → Asked old new seat now words c answer mine mine' → IfSome new.log (IsLogged start new.world)
+asked_logged true start old new seat now words c answer mine mine' logged is_read untold asked =
+    logged_on start old.log new.log old.world new.world (ask_entry seat now words asked.text) logged
     (record { outcome = asked.outcome; happens = (Ok c, is_read refl, asked.steps); new_is = asked.comes.new_is; reply = subst (λ r. IsText r asked.text) asked.comes.reply_is asked.is_text }) asked.entered
-asked_logged false old new seat now words c answer mine mine' logged is_read untold asked = unlogged_on old.log new.log new.world (ask_entry seat now words asked.text) (untold refl) asked.entered
+asked_logged false start old new seat now words c answer mine mine' logged is_read untold asked = unlogged_on start old.log new.log new.world (ask_entry seat now words asked.text) (untold refl) asked.entered
 
-pub asked_kept : (wants : Bool) (limits : Limits) (old new : StateView) (seat now : ℕ) (words : Words) (c : Command) (answer : Reply) (mine mine' : ShareView) → IsKept limits old → (wants ≡ true → IsRead words (Ok c)) → (wants ≡ false → old.log ≡ None) → Asked old new seat now words c answer mine mine' → new.total.rows ≡ new.world.tally.outside → IsKept limits new
-asked_kept wants limits old new seat now words c answer mine mine' kept is_read untold asked count = record {
+pub asked_kept : (wants : Bool) (spells : Spelling) (start : World) (old new : StateView) (seat now : ℕ) (words : Words) (c : Command) (answer : Reply) (mine mine' : ShareView) → IsKept spells start old → (wants ≡ true → IsRead words (Ok c)) → (wants ≡ false → old.log ≡ None)
+    → Asked old new seat now words c answer mine mine' → new.total.rows + start.tally.outside ≡ new.world.tally.outside → IfSome new.writing (IsKeptUp spells start new.world) → IsKept spells start new
+asked_kept wants spells start old new seat now words c answer mine mine' kept is_read untold asked count written = record {
   limits_are = ap (λ (w : World). w.limits) asked.comes.new_is ∙ limits_kept old.world asked.outcome.changes ∙ kept.limits_are;
   consistent = record {
     counted = count;
-    logged = asked_logged wants old new seat now words c answer mine mine' kept.consistent.logged is_read untold asked;
+    logged = asked_logged wants start old new seat now words c answer mine mine' kept.consistent.logged is_read untold asked;
     events = events_on old.log new.log (ask_entry seat now words asked.text) old.total new.total kept.consistent.events asked.entered (ap (λ (t : Counts). t.asks) asked.total_is) (none_more (ap (λ (t : Counts). t.cuts) asked.total_is));
   };
+  kept_up = written;
 }
 
 -- ## A cut
 
-pub cut_kept : (limits : Limits) (old new : StateView) (seat : ℕ) → IsKept limits old → Quits old new seat → IsKept limits new
-cut_kept limits old new seat kept quits = record {
+pub cut_kept : (spells : Spelling) (start : World) (old new : StateView) (seat : ℕ) → IsKept spells start old → Quits old new seat → WritesCut spells seat old.writing new.writing → IsKept spells start new
+cut_kept spells start old new seat kept quits writes = record {
   limits_are = ap (λ (w : World). w.limits) quits.world_is ∙ limits_kept old.world (cut seat).changes ∙ kept.limits_are;
   consistent = record {
-    counted = ap (λ (t : Counts). t.rows) quits.total_is ∙ kept.consistent.counted ∙ sym (ap (λ (w : World). w.tally.outside) quits.world_is);
-    logged = logged_on old.log new.log old.world new.world (cut_entry seat) kept.consistent.logged (record { outcome = cut seat; happens = refl; new_is = quits.world_is; reply = tt }) quits.entered;
+    counted = ap (λ (t : Counts). t.rows + start.tally.outside) quits.total_is ∙ kept.consistent.counted ∙ sym (ap (λ (w : World). w.tally.outside) quits.world_is);
+    logged = logged_on start old.log new.log old.world new.world (cut_entry seat) kept.consistent.logged (record { outcome = cut seat; happens = refl; new_is = quits.world_is; reply = tt }) quits.entered;
     events = events_on old.log new.log (cut_entry seat) old.total new.total kept.consistent.events quits.entered (none_more (ap (λ (t : Counts). t.asks) quits.total_is)) (ap (λ (t : Counts). t.cuts) quits.total_is);
   };
+  kept_up = cut_written spells start old.world new.world seat old.writing new.writing quits.world_is kept.kept_up writes;
 }

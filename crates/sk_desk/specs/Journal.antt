@@ -1,5 +1,5 @@
 -- Entries that record a run of the store.
-use Rattle.std.specs.Prelude.{◌≡◌, ℕ, List, [], ◌∷◌}
+use Rattle.std.specs.Prelude.{◌≡◌, ℕ, List, [], ◌∷◌, ◌++◌}
 use Rattle.sk_resp.specs.declared.reply.Reply.{Reply}
 use Rattle.sk_model.specs.World.{World, first}
 use Rattle.sk_model.specs.Event.{Event, Ask, Cut, Step, Reaches}
@@ -31,9 +31,10 @@ RecordsAll (e ∷ entries) (step ∷ steps) = Records e step × RecordsAll entri
 RecordsAll [] (step ∷ steps) = ⊥
 RecordsAll (e ∷ entries) [] = ⊥
 
--- The entries record a run of the store, from its first world to this one, and all that holds of every run holds of it.
-pub record IsJournal (entries : List Entry) (w : World) : Type 0 where
+-- The entries record a run of the store, from the start to this world; and behind each run that led from the first world to the start, all that holds
+-- of every run holds of the two together.
+pub record IsJournal (start : World) (entries : List Entry) (w : World) : Type 0 where
   pub steps : List Step
   pub records : RecordsAll entries steps
-  pub leads : Reaches (first w.limits) steps w
-  pub reliable : IsReliable w.limits steps
+  pub leads : Reaches start steps w
+  pub reliable : (before : List Step) → Reaches (first start.limits) before start → IsReliable start.limits (before ++ steps)

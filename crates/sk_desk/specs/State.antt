@@ -12,33 +12,40 @@ use Rattle.sk_model.specs.Outcome.{Realizes, Outcome}
 use Rattle.sk_model.specs.Reading.{Words}
 use Rattle.sk_model.specs.Step.{MayComeTo, cut}
 use Rattle.sk_model.specs.World.{World}
-use Rattle.sk_model.specs.declared.limits.Limits.{Limits}
 use Rattle.sk_desk.specs.Counts.{Counts, HasEvents, ShareView, with_ask, with_cut}
 use Rattle.sk_desk.specs.Journal.{IsJournal}
 use Rattle.sk_desk.specs.Log.{AllAnswered, EntersCut, IsText, Log, Writes, ask_entry, with_entry}
+use Rattle.sk_desk.specs.Writing.{IsKeptUp, Spelling, Writing}
 
--- the store's world, what its book has logged, where it tells that, and the total of the ledgers
+-- the store's world, what its book has logged and what it has written, where it tells that, and the total of the ledgers
 pub record StateView : Type 0 where
   pub world : World
   pub log : Option Log
+  pub writing : Option Writing
   pub total : Counts
 
--- No entry waits, and the entries are a journal that ends in this world. Each Ask has its reply, unless memory was wanting.
-pub record IsLogged (w : World) (log : Log) : Type 0 where
+-- No entry waits, and the entries are a journal from the start to this world. Each Ask has its reply, unless memory was wanting.
+pub record IsLogged (start w : World) (log : Log) : Type 0 where
   pub closed : log.waiting ≡ []
   pub answered : log.starved ≡ false → AllAnswered log.entries
-  pub journal : IsJournal log.entries w
+  pub journal : IsJournal start log.entries w
 
--- The total is the number of rows that clients ever pushed, and the book is a journal of all that was asked and cut.
-pub record IsConsistent (s : StateView) : Type 0 where
-  pub counted : s.total.rows ≡ s.world.tally.outside
-  pub logged : IfSome s.log (IsLogged s.world)
+-- how many rows clients have pushed into a store
+abbrev pub pushed_in : World → ℕ
+pushed_in w = w.tally.outside
+
+-- The total is the number of rows that clients have pushed since the start, and the book is a journal of all that was asked and cut since.
+pub record IsConsistent (start : World) (s : StateView) : Type 0 where
+  pub counted : s.total.rows + pushed_in start ≡ pushed_in s.world
+  pub logged : IfSome s.log (IsLogged start s.world)
   pub events : IfSome s.log (λ log. HasEvents s.total.asks s.total.cuts log.entries)
 
--- What holds each time that the lock is got: that, and the store has these limits.
-pub record IsKept (limits : Limits) (s : StateView) : Type 0 where
-  pub limits_are : s.world.limits ≡ limits
-  pub consistent : IsConsistent s
+-- What holds each time that the lock is got: that, the store has the limits that it had at the start, and what the book has written is what a log keeps of
+-- the run since.
+pub record IsKept (spells : Spelling) (start : World) (s : StateView) : Type 0 where
+  pub limits_are : s.world.limits ≡ start.limits
+  pub consistent : IsConsistent start s
+  pub kept_up : IfSome s.writing (IsKeptUp spells start s.world)
 
 -- Each row that was pushed had no head, or its job was there already, is live, or has ended.
 abbrev pub IsBalanced : Tally → Type 0

@@ -1,8 +1,8 @@
 // A book that keeps every entry. An entry is made in a list of its own, whose node is then put behind the others: that takes no memory.
-ghost use Rattle.std.specs.Prelude.{◌≡◌, ◌≤◌, ◌^◌, ◌||◌, [], ◌∷◌, length, true, is_none, IfSome, MatchOption, Some};
+ghost use Rattle.std.specs.Prelude.{◌≡◌, ◌≤◌, ◌^◌, ◌||◌, [], ◌∷◌, length, true, is_none, IfSome, MatchOption, None, Some, refl};
 ghost use Rattle.sk_desk.specs.Log.{IsText, cut_entry, empty, noted};
 
-use crate::{Ask, Book, Deed, Entry};
+use crate::{Ask, Book, Deed, Entry, Stamp};
 use sk_resp::{Memory, Reply, Word, Words, write_reply};
 use std::alloc::Global;
 use std::collections::LinkedList;
@@ -32,11 +32,19 @@ impl Model for FullBook {
     ghost invariant = { λ book. book.lost ≡ true → 2 ^ 62 ≤ length book.entries };
 }
 
-/// A place in the book: the memory of one Cut entry.
+/// A place in the book: the Cut entry of a seat, which isn't entered yet. Contracts see the entry, in a list of its own.
 #[derive(Drop)]
 pub struct CutPlace {
     entry: LinkedList<Entry>,
-    ghost one: { entry ≡ cut_entry 0 ∷ [] },
+}
+
+impl Model for CutPlace {
+    ghost use Rattle.std.specs.Prelude.{List};
+    ghost use Rattle.sk_desk.specs.declared.entry.Entry.{Entry};
+
+    ghost Value = { List Entry };
+
+    ghost view = { λ place. place.entry };
 }
 
 impl FullBook {
@@ -78,13 +86,6 @@ impl Entry {
             Deed::Cut => {}
         }
     }
-
-    // The entry is this seat's.
-    fn sit(&mut self, seat: u32)
-        ensures { self.new ≡ record self.old { seat = seat } }
-    {
-        self.seat = seat;
-    }
 }
 
 // The reply's text, or none for want of memory.
@@ -108,37 +109,43 @@ fn starves(text: &Option<Word>, before: bool) -> bool
 impl Book for FullBook {
     type Place = CutPlace;
 
+    ghost is_for = { λ place seat. place ≡ cut_entry seat ∷ [] };
+
     ghost wants_words = { true };
 
     ghost log = { λ book. book };
+
+    ghost spells = { λ event body. ⊥ };
+
+    ghost writing = { λ book. None };
 
     fn wants_words() -> bool {
         true
     }
 
-    fn enter(&mut self) -> Result<CutPlace, Memory> {
+    fn enter(&mut self, seat: u32) -> Result<CutPlace, Memory> {
         let mut entry = LinkedList::new(self.alloc);
         entry.push_back(Entry {
-            seat: 0,
+            seat,
             deed: Deed::Cut,
         })?;
         Ok(CutPlace { entry })
     }
 
-    fn prepare(&mut self, seat: u32, now: u64, words: &Words) -> Result<(), Memory> {
+    fn prepare(&mut self, stamp: &Stamp, words: &Words) -> Result<(), Memory> {
         let ask = Ask {
-            now,
+            now: stamp.sent_at,
             request: words.copy()?,
             reply: None,
         };
         self.waiting.push_back(Entry {
-            seat,
+            seat: stamp.seat,
             deed: Deed::Ask(ask),
         })?;
         Ok(())
     }
 
-    fn note(&mut self, reply: &Reply) {
+    fn note(&mut self, _stamp: &Stamp, reply: &Reply) {
         let text = text_of(self.alloc, reply);
         self.starved = starves(&text, self.starved);
         if let Some(entry) = self.waiting.front_mut() {
@@ -149,15 +156,14 @@ impl Book for FullBook {
         }
     }
 
-    fn quit(&mut self, seat: u32, place: CutPlace) {
+    fn quit(&mut self, _seat: u32, place: CutPlace) {
         let CutPlace { mut entry } = place;
-        if let Some(cut) = entry.front_mut() {
-            cut.sit(seat);
-        }
         if self.entries.append(&mut entry).is_err() {
             self.lost = true;
         }
     }
 
     ghost untold = { λ book none. absurd (cc none) };
+
+    ghost unwritten = { λ book none. refl };
 }

@@ -8,9 +8,13 @@ ghost use Rattle.sk_desk.specs.Counts.{CountsAsk, HasEvents, blank_share, with_c
 ghost use Rattle.sk_desk.specs.Journal.{IsJournal};
 ghost use Rattle.sk_desk.specs.Log.{AllAnswered, empty};
 ghost use Rattle.sk_desk.specs.Pass.{pass_of, seated};
-ghost use Rattle.sk_desk.specs.State.{IsBalanced, IsConsistent};
+ghost use Rattle.sk_model.specs.World.{first};
+ghost use Rattle.sk_desk.specs.State.{IsBalanced, IsConsistent, IsKept, pushed_in};
+ghost use Rattle.sk_desk.specs.Writing.{WroteSome, nothing_written};
 
-use crate::{Book, Entry, FullBook, HubBlank, HubId, HubShare, HubTotal, LockedDesk, Pass, State};
+use crate::{
+    Book, Entry, FullBook, HubBlank, HubId, HubShare, HubTotal, LockedDesk, Outbox, Pass, State,
+};
 use sk_cmd::Command;
 use sk_core::Core;
 use sk_model::Limits;
@@ -37,16 +41,28 @@ pub struct Hub<I: HubId, B: Book> {
 }
 
 impl<I: HubId, B: Book> Hub<I, B> {
-    /// An empty store with the hub's limits, and the pass to all its seats: the numbers from 1 to 2^32 - 1, and every part of the hub's ledgers, of
-    /// which each has 2^34. The book has no entries, where it tells them. Takes no memory.
+    /// An empty store with these limits, at which the hub begins, and the pass to all its seats, as [`Hub::over`] gives it. Takes no memory.
     pub fn new(alloc: Global, blank: HubBlank, limits: Limits, book: B) -> (Hub<I, B>, Pass<I>)
         requires blank { blank ≡ record { acks = I.acks; asks = I.asks; cuts = I.cuts } }
-        requires limits { limits ≡ I.limits }
+        requires start { first limits ≡ I.start }
         requires book { IfSome (B.log book) (λ log. log ≡ empty) }
+        requires writing { IfSome (B.writing book) (λ writing. writing ≡ nothing_written) }
+        ensures { result.1 ≡ pass_of 0 (2 ^ 32 - 1) (blank_share (2 ^ 34)) }
+    {
+        Hub::over(blank, Core::new(alloc, limits), book)
+    }
+
+    /// A store that is what the hub begins at, and the pass to all its seats: the numbers from 1 to 2^32 - 1, and every part of the hub's ledgers, of which
+    /// each has 2^34. The book has no entries and has written nothing, where it tells that. Takes no memory.
+    pub fn over(blank: HubBlank, core: Core, book: B) -> (Hub<I, B>, Pass<I>)
+        requires blank { blank ≡ record { acks = I.acks; asks = I.asks; cuts = I.cuts } }
+        requires start { core ≡ I.start }
+        requires book { IfSome (B.log book) (λ log. log ≡ empty) }
+        requires writing { IfSome (B.writing book) (λ writing. writing ≡ nothing_written) }
         ensures { result.1 ≡ pass_of 0 (2 ^ 32 - 1) (blank_share (2 ^ 34)) }
     {
         let (total, share) = blank.open::<I>();
-        let state = Mutex::new(State::new(alloc, limits, book, total));
+        let state = Mutex::new(State::new(core, book, total));
         (Hub { state }, Pass::new(0, u32::MAX, share))
     }
 
@@ -66,16 +82,19 @@ impl<I: HubId, B: Book> Hub<I, B> {
         if pass.left() == 0 {
             return Err(HubFault::Spent);
         }
-        let Ok(place) = self.enter(rt) else {
+        let number = pass.next_number();
+        let Ok(place) = self.enter(rt, number) else {
             return Err(HubFault::Memory);
         };
-        let (number, share) = pass.take();
+        let share = pass.take();
         Ok(LockedDesk::new(rt, self, number, share, place))
     }
 
-    // Takes the memory of a Cut entry.
-    fn enter<R: Wait>(&self, rt: &R) -> Result<B::Place, Memory> {
-        self.state.lock(rt).enter()
+    // Takes the memory of a Cut entry of this seat.
+    fn enter<R: Wait>(&self, rt: &R, seat: u32) -> Result<B::Place, Memory>
+        ensures { IfOk result (λ place. B.is_for place seat) }
+    {
+        self.state.lock(rt).enter(seat)
     }
 
     // One command of a seat. The lock is held for that alone.
@@ -100,7 +119,8 @@ impl<I: HubId, B: Book> Hub<I, B> {
 
     // The cut of a seat.
     pub(crate) fn quit<R: Wait>(&self, rt: &R, share: &mut HubShare<I>, seat: u32, place: B::Place)
-        requires { 0 < share.old.parts }
+        requires part { 0 < share.old.parts }
+        requires place { B.is_for place seat }
         ensures { share.new ≡ record share.old { counts = with_cut share.old.counts } }
     {
         self.state.lock(rt).quit(share, seat, place);
@@ -109,16 +129,44 @@ impl<I: HubId, B: Book> Hub<I, B> {
     /// Gives the store and its book up. Takes no memory.
     pub fn abandon(self) {}
 
-    /// The store and its book, once no desk is left. The store has the limits that the hub was handed.
+    /// The store and its book, once no desk is left. The store has the limits that it had at the start.
     pub fn close(self) -> Closed<I, B>
         ensures laws { KeepsLaws result.world }
-        ensures limits { result.world.limits ≡ I.limits }
-        ensures consistent { IsConsistent result }
+        ensures limits { result.world.limits ≡ I.start.limits }
+        ensures consistent { IsConsistent I.start result }
+        ensures kept { IsKept B.spells I.start result }
     {
         let state = self.state.into_inner();
         state.sound();
-        let State { core, book, total } = state;
-        Closed { core, book, total }
+        let State {
+            core,
+            book,
+            total,
+            before,
+        } = state;
+        Closed {
+            core,
+            book,
+            total,
+            before,
+        }
+    }
+}
+
+impl<I: HubId, B: Outbox> Hub<I, B> {
+    /// What the book has written and not given out yet: the last of what it wrote of a run from the start. None where it can write no more. The lock is
+    /// held for that alone.
+    pub fn take<R: Wait>(&self, rt: &R, spare: B::Spare) -> Option<B::Batch>
+        ensures { IfSome result (λ batch. WroteSome B.spells I.start (B.ends batch)) }
+    {
+        self.state.lock(rt).take(spare)
+    }
+
+    /// How far the book has written: up to a run from the start. None where it can write no more.
+    pub fn mark<R: Wait>(&self, rt: &R) -> Option<B::Mark>
+        ensures { IfSome result (λ mark. WroteSome B.spells I.start (B.marks mark)) }
+    {
+        self.state.lock(rt).mark()
     }
 }
 
@@ -128,37 +176,40 @@ pub struct Closed<I: HubId, B: Book> {
     pub core: Core,
     pub book: B,
     pub total: HubTotal<I>,
+    // how many rows clients had pushed before the start
+    pub before: u64,
 }
 
 impl<I: HubId, B: Book> Model for Closed<I, B> {
-    ghost use Rattle.sk_desk.specs.State.{IsKept, StateView};
+    ghost use Rattle.std.specs.Prelude.{◌≡◌};
+    ghost use Rattle.sk_desk.specs.State.{IsKept, StateView, pushed_in};
 
     ghost Value = { StateView };
 
-    ghost view = { λ s. record { world = s.core; log = B.log s.book; total = s.total } };
+    ghost view = { λ s. record { world = s.core; log = B.log s.book; writing = B.writing s.book; total = s.total } };
 
-    ghost invariant = { λ s. IsKept I.limits (record { world = s.core; log = B.log s.book; total = s.total }) };
+    ghost invariant = { λ s. IsKept B.spells I.start (record { world = s.core; log = B.log s.book; writing = B.writing s.book; total = s.total }) × (s.before ≡ pushed_in I.start) };
 }
 
 impl<I: HubId, B: Book> Closed<I, B> {
-    /// How many rows all desks acknowledged. The pass has every part again: then that is its amount, and the number of rows that clients ever pushed;
-    /// and the journal, where the book tells it, has an Ask for each command that the pass counts, and a Cut for each seat.
+    /// How many rows all desks acknowledged. The pass has every part again: then that is its amount, and the number of rows that clients have pushed since
+    /// the start; and the journal, where the book tells it, has an Ask for each command that the pass counts, and a Cut for each seat.
     pub fn audit(&mut self, pass: &mut Pass<I>) -> u64
         requires { pass.old.parts ≡ 2 ^ 34 }
         ensures amount { result ≡ pass.old.amount }
-        ensures outside { result ≡ self.old.world.tally.outside }
+        ensures outside { result + pushed_in I.start ≡ self.old.world.tally.outside }
         ensures events { IfSome self.old.log (λ log. HasEvents pass.old.asks pass.old.cuts log.entries) }
         ensures same { (self.new ≡ self.old) × (pass.new ≡ pass.old) }
     {
         pass.audit(&mut self.total);
-        self.core.tally().outside
+        self.core.tally().outside - self.before
     }
 
     /// How many rows all desks acknowledged, as `audit` tells, and the tally of all rows; the store and its book are given up. Takes no memory.
     pub fn finish(self, pass: &mut Pass<I>) -> (u64, Tally)
         requires { pass.old.parts ≡ 2 ^ 34 }
         ensures amount { result.0 ≡ pass.old.amount }
-        ensures outside { result.0 ≡ result.1.outside }
+        ensures outside { result.0 + pushed_in I.start ≡ result.1.outside }
         ensures tally { result.1 ≡ tally_of self.world }
         ensures balanced { IsBalanced result.1 }
         ensures same { pass.new ≡ pass.old }
@@ -173,7 +224,7 @@ impl<I: HubId, B: Book> Closed<I, B> {
     fn sums(&mut self, pass: &mut Pass<I>) -> (u64, Tally)
         requires { pass.old.parts ≡ 2 ^ 34 }
         ensures amount { result.0 ≡ pass.old.amount }
-        ensures outside { result.0 ≡ result.1.outside }
+        ensures outside { result.0 + pushed_in I.start ≡ result.1.outside }
         ensures tally { result.1 ≡ tally_of self.old.world }
         ensures balanced { IsBalanced result.1 }
         ensures same { pass.new ≡ pass.old }
@@ -188,10 +239,10 @@ impl<I: HubId, B: Book> Closed<I, B> {
 }
 
 impl<I: HubId> Closed<I, FullBook> {
-    /// The journal: its entries are the events of a run from the empty store to this one, each with the text of that run's reply, unless the journal
-    /// is starved. All that holds of every run holds of it. Takes no memory.
+    /// The journal: its entries are the events of a run from the start to this store, each with the text of that run's reply, unless the journal is
+    /// starved. All that holds of every run holds of it, behind each that led to the start. Takes no memory.
     pub fn journal(&self) -> &LinkedList<Entry>
-        ensures { IsJournal result.now self.now.world ⊎ (2 ^ 62 ≤ length result.now) }
+        ensures { IsJournal I.start result.now self.now.world ⊎ (2 ^ 62 ≤ length result.now) }
     {
         self.book.entries()
     }

@@ -1,11 +1,11 @@
-// What names a hub: the ledgers of what it counts, and the limits of its store.
+// What names a hub: the ledgers of what it counts, and the world that its store begins at.
 ghost use Rattle.std.specs.Prelude.{ℕ, ◌^◌};
-ghost use Rattle.sk_model.specs.declared.limits.Limits.{Limits};
+ghost use Rattle.sk_model.specs.World.{World, first};
 
 use std::marker::{Brand, PhantomData};
 use std::sync::ledger::Ledger;
 
-/// Names a hub, for contracts alone: three ledgers, and the limits of its store. A function over an id is called with `Brand` for it.
+/// Names a hub, for contracts alone: three ledgers, and the world that its store begins at. A function over an id is called with `Brand` for it.
 pub trait HubId {
     /// The ledger of the rows that replies acknowledged.
     ghost acks: { ℕ };
@@ -16,8 +16,8 @@ pub trait HubId {
     /// The ledger of the seats that were cut.
     ghost cuts: { ℕ };
 
-    /// The limits of the hub's store.
-    ghost limits: { Limits };
+    /// What the hub's store is at first.
+    ghost start: { World };
 }
 
 impl HubId for Brand {
@@ -27,7 +27,7 @@ impl HubId for Brand {
 
     ghost cuts = { 0 };
 
-    ghost limits = { record { rows = 0; bytes = 0; batches = 0 } };
+    ghost start = { first (record { rows = 0; bytes = 0; batches = 0 }) };
 }
 
 /// Names the ledger of the rows that a hub's replies acknowledged.

@@ -11,7 +11,9 @@ mod hub_id;
 mod ledgers;
 mod locked_desk;
 mod mem_desk;
+mod outbox;
 mod pass;
+mod stamp;
 mod state;
 
 pub use book::{Book, NoBook};
@@ -24,5 +26,7 @@ pub use hub_id::{AckLedger, AskLedger, CutLedger, HubId};
 pub use ledgers::{HubBlank, HubShare, HubTotal};
 pub use locked_desk::LockedDesk;
 pub use mem_desk::MemDesk;
+pub use outbox::Outbox;
 pub use pass::Pass;
+pub use stamp::{Effect, Stamp};
 pub use state::State;

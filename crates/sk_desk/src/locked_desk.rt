@@ -30,7 +30,7 @@ impl<'a, R: Wait, I: HubId, B: Book> Model for LockedDesk<'a, R, I, B> {
 
     ghost view = { λ d. record { seat = d.seat; amount = d.share.counts.rows; asks = d.share.counts.asks } };
 
-    ghost invariant = { λ d. (d.share.parts ≡ 1) × (d.share.counts.cuts ≡ 0) };
+    ghost invariant = { λ d. (d.share.parts ≡ 1) × (d.share.counts.cuts ≡ 0) × B.is_for d.place d.seat };
 }
 
 impl<'a, R: Wait, I: HubId, B: Book> LockedDesk<'a, R, I, B> {
@@ -42,7 +42,8 @@ impl<'a, R: Wait, I: HubId, B: Book> LockedDesk<'a, R, I, B> {
         share: HubShare<I>,
         place: B::Place,
     ) -> LockedDesk<'a, R, I, B>
-        requires { (share.parts ≡ 1) × (share.counts.cuts ≡ 0) }
+        requires part { (share.parts ≡ 1) × (share.counts.cuts ≡ 0) }
+        requires place { B.is_for place seat }
         ensures { result ≡ record { seat = seat; amount = share.counts.rows; asks = share.counts.asks } }
     {
         LockedDesk {

@@ -67,18 +67,25 @@ impl<I: HubId> Pass<I> {
         self.put(share);
     }
 
-    // The next number, with one part.
-    pub(crate) fn take(&mut self) -> (u32, HubShare<I>)
+    // The number that is given next.
+    pub(crate) fn next_number(&self) -> u32
+        requires { 0 < self.now.count }
+        ensures { result ≡ self.now.given + 1 }
+    {
+        self.last + 1
+    }
+
+    // Gives the next number, and one part for it.
+    pub(crate) fn take(&mut self) -> HubShare<I>
         requires { 0 < self.old.count }
-        ensures number { result.0 ≡ self.new.given }
-        ensures share { result.1 ≡ record { parts = 1; counts = nothing } }
+        ensures share { result ≡ record { parts = 1; counts = nothing } }
         ensures rest { self.new ≡ seated self.old }
         ensures part { self.new.parts + 1 ≡ self.old.parts }
     {
         let share = self.share.split_off(1);
         self.last += 1;
         self.left -= 1;
-        (self.last, share)
+        share
     }
 
     // Takes a share back.

@@ -41,7 +41,7 @@ use Rattle.sk_status.specs.declared.tally.Tally.{Tally}
 use Rattle.sk_worker.specs.Run.{Run as RunTold}
 use Rattle.sk_worker.specs.declared.registry.Registry.{Registry}
 use Rattle.sk_drill.specs.Crews.{AreStories, HaveOwnSeats}
-use Rattle.sk_drill.specs.Drilled.{CountsAs, EndsAs}
+use Rattle.sk_drill.specs.Drilled.{CountsAs, EndsAs, shipped}
 use Rattle.sk_drill.specs.declared.drill_end.DrillEnd.{DrillEnd}
 use Rattle.sk_drill.specs.declared.drill_end.DrillEnd.TheVariants as end
 use Rattle.sk_drill.specs.declared.plan.Plan.{Plan}
@@ -268,14 +268,14 @@ numbers_pushed k (answer ∷ answers) = omega (arith, number_wire answer, number
   one_number reply.NullArray answers = omega arith
 
 -- The last world of the journal counts each push that was answered by a number, and no push of the store's own.
-pub journal_counts : (first : Story) (rest : List Story) (answers : List Reply) (entries : List Entry) (w : World) → IsJournal entries w →
+pub journal_counts : (first : Story) (rest : List Story) (answers : List Reply) (entries : List Entry) (w : World) → IsJournal shipped entries w →
     Alike (told (first ∷ rest)) (noted entries) → HaveOwnSeats (first ∷ rest) → StoryAsks one first → AllByRecursion (StoryAsks none) rest →
     noted entries first.seat ≡ pushes_from 1 answers → (w.tally.outside ≡ numbers answers) × (w.tally.inner ≡ 0)
 journal_counts first rest answers entries w journal alike apart pushing others own =
     let p = first.seat in
     let each : (s : ℕ) → AllByRecursion (IsTold (count_at p s)) (noted entries s) =
     λ s. subst (AllByRecursion (IsTold (count_at p s))) (alike.each s) (told_at first rest s (s == p) refl apart pushing others) in
-    let all = counted p entries journal.steps _ journal.records journal.leads.run journal.reliable.moves_have_causes (all_entries (λ s. IsTold (count_at p s)) entries each) refl in (
+    let all = counted p entries journal.steps _ journal.records journal.leads.run (journal.reliable [] (record { run = tt; new_is = refl })).moves_have_causes (all_entries (λ s. IsTold (count_at p s)) entries each) refl in (
       omega (arith, ap (λ (v : World). v.tally.outside) journal.leads.new_is, all.0, ap (λ xs. numbers_told xs) own, numbers_pushed 1 answers),
       ap (λ (v : World). v.tally.inner) journal.leads.new_is ∙ all.1,
     )

@@ -11,8 +11,9 @@ use Rattle.sk_desk.specs.Log.{Log}
 use Rattle.sk_desk.specs.State.{IsConsistent, IsLogged, StateView}
 use Rattle.sk_jobs.specs.Counting.{tally_of}
 use Rattle.sk_lane.specs.declared.story.Story.{Story}
+use Rattle.sk_model.specs.World.{World}
 use Rattle.sk_drill.specs.Crews.{HaveOwnSeats}
-use Rattle.sk_drill.specs.Drilled.{AreBySeat, EndsAs, IsAnswered, IsDrilled, IsRecorded}
+use Rattle.sk_drill.specs.Drilled.{AreBySeat, EndsAs, IsAnswered, IsDrilled, IsRecorded, shipped}
 use Rattle.sk_drill.specs.Soaked.{IsBalanced}
 use Rattle.sk_drill.proofs.Each.{all_told, noted_answered}
 use Rattle.sk_drill.specs.declared.drill_end.DrillEnd.{DrillEnd}
@@ -25,19 +26,19 @@ pub has_log : (log : Option Log) (n : ℕ) (entries : List Entry) → n ≡ leng
 has_log None n entries is few m = absurd (omega (arith, is, few, m))
 has_log (Some l) n entries is few m = (l, refl, m)
 
-pub logged_at : (s : StateView) (l : Log) → IsConsistent s → s.log ≡ Some l → IsLogged s.world l
-logged_at s l c is = subst (λ o. IfSome o (IsLogged s.world)) is c.logged
+pub logged_at : (start : World) (s : StateView) (l : Log) → IsConsistent start s → s.log ≡ Some l → IsLogged start s.world l
+logged_at start s l c is = subst (λ o. IfSome o (IsLogged start s.world)) is c.logged
 
 pub count_at : (log : Option Log) (l : Log) (n : ℕ) → log ≡ Some l → MatchOption log (2 ^ 62 ≤ n) (λ k. n ≡ length k.entries) → n ≡ length l.entries
 count_at log l n is m = subst (λ o. MatchOption o (2 ^ 62 ≤ n) (λ k. n ≡ length k.entries)) is m
 
 -- The comparison with a book that tells its log.
-pub recorded : {E : Type 0} (s : StateView) (stories : List Story) (entries : List Entry) (l : Log) (came : Result (Option Difference) E) → IsConsistent s → s.log ≡ Some l →
+pub recorded : {E : Type 0} (s : StateView) (stories : List Story) (entries : List Entry) (l : Log) (came : Result (Option Difference) E) → IsConsistent shipped s → s.log ≡ Some l →
     entries ≡ l.entries → IfOk came (Compares (told stories) (noted entries)) → OnOk came (AllAnswered entries) → IfOk came (IsRecorded s stories)
 recorded s stories entries l (Ok d) sound is are h a = record {
   log = l;
   log_is = is;
-  journal = (logged_at s l sound is).journal;
+  journal = (logged_at shipped s l sound is).journal;
   answered = subst AllAnswered are a;
   compares = subst (λ es. Compares (told stories) (noted es) d) are h;
 }

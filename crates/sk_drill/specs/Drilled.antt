@@ -13,7 +13,8 @@ use Rattle.sk_jobs.specs.Counting.{tally_of}
 use Rattle.sk_lane.specs.declared.story.Story.{Story}
 use Rattle.sk_resp.specs.declared.reply.Reply.{Reply}
 use Rattle.sk_status.specs.declared.tally.Tally.{Tally}
-use Rattle.sk_model.specs.World.{World}
+use Rattle.sk_model.specs.World.{World, first}
+use Rattle.sk_pipe.specs.declared.command_line.TheConstants.{SHIPPED_LIMITS}
 use Rattle.sk_policy.specs.declared.delay.DelayRule.{DelayRule}
 use Rattle.sk_worker.specs.Run.{Run}
 use Rattle.sk_worker.specs.declared.registry.Registry.{Registry}
@@ -25,11 +26,15 @@ use Rattle.sk_drill.specs.declared.drill_end.DrillEnd.{DrillEnd}
 use Rattle.sk_drill.specs.declared.drill_end.DrillEnd.TheVariants as end
 use Rattle.sk_drill.specs.declared.drill_end.Drilled.{Drilled}
 
+-- what a store with the program's limits is at first
+abbrev pub shipped : World
+shipped = first SHIPPED_LIMITS
+
 -- The book's entries are a journal that ends in this world, each ask in it has its reply, and so they compare with the stories.
 pub record IsRecorded (s : StateView) (stories : List Story) (d : Option Difference) : Type 0 where
   pub log : Log
   pub log_is : s.log ≡ Some log
-  pub journal : IsJournal log.entries s.world
+  pub journal : IsJournal shipped log.entries s.world
   pub answered : AllAnswered log.entries
   pub compares : Compares (told stories) (noted log.entries) d
 
@@ -42,13 +47,13 @@ pub record AreBySeat (stories : List Story) (entries : List Entry) : Type 0 wher
 abbrev pub IsAnswered : Story → Type 0
 IsAnswered story = AllByRecursion (λ x. IsSome x.reply) (map exchange_of story.asks.items)
 
--- The book is a journal, which is a run of the store; the summary has its length, and the tally of its last world. It has of each seat what the
+-- The book is a journal, which is a run of the store with the program's limits; the summary has its length, and the tally of its last world. It has of each seat what the
 -- stories tell of it, each ask once and in order, with its reply.
 pub record IsDrilled (stories : List Story) (d : Drilled) : Type 0 where
   pub log : Log
   pub book_is : d.book ≡ Some log
   pub world : World
-  pub journal : IsJournal log.entries world
+  pub journal : IsJournal shipped log.entries world
   pub events_are : d.summary.events ≡ length log.entries
   pub tally_is : d.summary.tally ≡ tally_of world
   pub balanced : IsBalanced d.summary.tally
@@ -61,7 +66,7 @@ pub record IsDrilled (stories : List Story) (d : Drilled) : Type 0 where
 pub record HasDiffered (stories : List Story) (d : Difference) : Type 0 where
   pub log : Log
   pub world : World
-  pub journal : IsJournal log.entries world
+  pub journal : IsJournal shipped log.entries world
   pub answered : AllAnswered log.entries
   pub differs : DiffersAt (told stories) (noted log.entries) d
   pub texts : d.told ≢ d.noted

@@ -5,7 +5,7 @@ ghost use Rattle.sk_desk.specs.State.{IsConsistent};
 ghost use Rattle.sk_jobs.specs.Counting.{tally_of};
 ghost use Rattle.sk_drill.specs.Soaked.{IsBalanced};
 ghost use Rattle.sk_drill.specs.Crews.{AreStories, HaveOwnSeats, Room, StandApart, classes_of};
-ghost use Rattle.sk_drill.specs.Drilled.{Drills, EndsAs, IsAnswered, IsRecorded, plan_of};
+ghost use Rattle.sk_drill.specs.Drilled.{Drills, EndsAs, IsAnswered, IsRecorded, plan_of, shipped};
 
 use crate::crew::{Posts, run_drill};
 use crate::plan::Plan;
@@ -32,7 +32,7 @@ fn compared<I: HubId>(
     closed: &Closed<I, FullBook>,
     stories: &[Story],
 ) -> Result<Option<Difference>, Memory>
-    requires { IsConsistent closed.now }
+    requires { IsConsistent shipped closed.now }
     ensures { IfOk result (IsRecorded closed.now stories.now) }
 {
     let journal = closed.book.entries();
@@ -50,6 +50,7 @@ fn into_book<I: HubId>(closed: Closed<I, FullBook>) -> FullBook
         core: _core,
         book,
         total: _total,
+        before: _before,
     } = closed;
     book
 }
@@ -92,7 +93,7 @@ fn end_by(came: Result<Option<Difference>, Memory>, drilled: Drilled) -> DrillEn
 
 // How the drill ends.
 fn finish<I: HubId>(alloc: Global, closed: Closed<I, FullBook>, stories: Vec<Story>) -> DrillEnd
-    requires sound { IsConsistent closed }
+    requires sound { IsConsistent shipped closed }
     requires apart { HaveOwnSeats stories.items }
     requires answered { AllByRecursion IsAnswered stories.items }
     ensures { EndsAs stories.items result }
@@ -185,7 +186,7 @@ fn drill_on<I: HubId + Send + Sync, R: Threads + Wait + Sync>(
     rules: Vec<DelayRule>,
 ) -> DrillEnd
     requires blank { blank ≡ record { acks = I.acks; asks = I.asks; cuts = I.cuts } }
-    requires limits { I.limits ≡ SHIPPED_LIMITS }
+    requires start { I.start ≡ shipped }
     requires workers { (1 ≤ workers) × (workers ≤ 16) × (workers ≤ vec_len teams.old) }
     requires rules { vec_len rules ≡ vec_len teams.old }
     requires plan { (1 ≤ plan.jobs) × (plan.jobs ≤ 20000) × (plan.crashes ≤ 1000000) }

@@ -2,6 +2,7 @@
 // ears go back to the door, and the store is closed.
 ghost use Rattle.std.specs.Prelude.{◌≡◌, ◌+◌, ◌-◌, ◌*◌, ◌/◌, ◌<◌, ◌≤◌, ℕ, OnOk, Some, Err, true, false, map, reverse, vec_len, vec_capacity, All};
 ghost use Rattle.std.specs.List.{AllZip, Any, sum_by};
+ghost use Rattle.sk_model.specs.World.{first};
 ghost use Rattle.sk_serve.specs.Server.{HasEnded, HaveEnded, IsFresh, IsGravest, IsSettled, IsUsed, NoneAt, Runs};
 
 use crate::accept_loop::{AcceptLoop, LoopEnd};
@@ -196,7 +197,7 @@ fn serve_on<
     gate: &G,
 ) -> Result<Served, ServeFault>
     requires blank { blank ≡ record { acks = I.acks; asks = I.asks; cuts = I.cuts } }
-    requires limits { limits ≡ I.limits }
+    requires start { first limits ≡ I.start }
     requires ears { (0 < vec_len ears.old) × (vec_len ears.old ≤ MOST_LOOPS_SERVED) }
     ensures { HaveEnded E.Ear E.Conn.Source E.Conn.Sink K.Clock sessions (vec_len ears.old) ears.old.items ears.new.items result }
 {

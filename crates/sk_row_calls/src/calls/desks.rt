@@ -1,5 +1,6 @@
 // A store behind a lock, with a journal: what is done at its desks, and what it leaves.
 ghost use Rattle.std.specs.Prelude.{◌≡◌, ◌+◌, ◌<◌, ◌^◌, IfOk, IfSome, length, vec_len};
+ghost use Rattle.sk_model.specs.World.{first};
 
 use crate::calls::Given;
 use crate::command::{hand_in, words_of};
@@ -219,7 +220,7 @@ fn desks_on<R: Wait + Sync, I: HubId>(
     given: &Given<'_>,
 ) -> io::Result<Output>
     requires blank { blank ≡ record { acks = I.acks; asks = I.asks; cuts = I.cuts } }
-    requires limits { size.limits ≡ I.limits }
+    requires start { first size.limits ≡ I.start }
     requires size { (0 < size.numbers) × (size.numbers + 1 < 2 ^ 32) }
 {
     let (hub, mut pass) = Hub::<I, FullBook>::new(alloc, blank, size.limits, FullBook::new(alloc));

@@ -1,5 +1,6 @@
 // Threads that push to one store, each on a seat of its own.
 ghost use Rattle.std.specs.Prelude.{◌≡◌, ◌+◌, ◌*◌, ◌<◌, ◌^◌, All, IfOk, OnErr, vec_len};
+ghost use Rattle.sk_model.specs.World.{first};
 
 use crate::calls::Given;
 use crate::calls::desks::{Size, read_size};
@@ -128,7 +129,7 @@ fn threads_on<R: Threads + Wait + Sync, I: HubId + Send + Sync>(
     pushes: u64,
 ) -> Result<Output, AllocError>
     requires blank { blank ≡ record { acks = I.acks; asks = I.asks; cuts = I.cuts } }
-    requires limits { size.limits ≡ I.limits }
+    requires start { first size.limits ≡ I.start }
     requires size { (0 < size.numbers) × (size.numbers + 1 < 2 ^ 32) }
 {
     let (hub, mut pass) = Hub::<I, NoBook>::new(alloc, blank, size.limits, NoBook);

@@ -1,5 +1,5 @@
-use Rattle.sk_pipe.specs.declared.command_line.TheConstants.{SHIPPED_LIMITS}
+use Rattle.sk_drill.specs.Drilled.{shipped}
 use Rattle.sk_drill.proofs.drilling.drill.Given as goal
 
 abbrev pub ghosts-drill_on : goal.ghosts-drill_on
-ghosts-drill_on g a = record { acks = a.blank.acks; asks = a.blank.asks; cuts = a.blank.cuts; limits = SHIPPED_LIMITS }
+ghosts-drill_on g a = record { acks = a.blank.acks; asks = a.blank.asks; cuts = a.blank.cuts; start = shipped }

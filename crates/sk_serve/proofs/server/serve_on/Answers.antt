@@ -3,6 +3,7 @@ use Rattle.std.specs.Prelude.{All, map, reverse, vec_len}
 use Rattle.std.specs.List.{sum_by}
 use Rattle.std.proofs.lemmas.List.{take_at}
 use Rattle.std.proofs.lemmas.List.Elements.{length_all_zip}
+use Rattle.sk_model.specs.World.{World}
 use Rattle.sk_desk.specs.Pass.{PassView}
 use Rattle.sk_serve.specs.Server.{IsFresh, IsServed, IsSettled}
 use Rattle.sk_serve.proofs.Accounts.{all_served, became, by_fault}
@@ -42,7 +43,7 @@ returns g c =
     (c.new.ensures.0 ∙ ap (λ k. k - 1) c.len-count.ensures) settled
     (c.gather-served.ensures.sessions ∙ ap (sum_by (λ l. l.served)) back)
     (omega (arith, c.finish-acknowledged.ensures.amount, c.gather-served.ensures.amount, none, ap (sum_by (λ l. l.pass.amount)) back))
-    c.finish-acknowledged.ensures.outside c.finish-acknowledged.ensures.balanced)
+    (omega (arith, c.finish-acknowledged.ensures.outside, ap (λ (w : World). w.tally.outside) c.requires.start)) c.finish-acknowledged.ensures.balanced)
 
 pub returns-in-Err : goal.returns-in-Err
 returns-in-Err g c =

@@ -1,0 +1,59 @@
+// Who sends a command, and when, and what it may do to the store: what a book is told of it beside its words.
+ghost use Rattle.std.specs.Prelude.{◌≡◌};
+ghost use Rattle.sk_desk.specs.Writing.{effect_of, idles_at, is_null};
+
+use sk_cmd::{Command, PlainCommand};
+use sk_resp::Reply;
+
+/// Whether a command may change the store, but for its time.
+#[derive(Clone, Copy)]
+pub enum Effect {
+    /// It never does.
+    Never,
+    /// It doesn't where it is answered null or with an error.
+    UnlessNull,
+    /// It doesn't where it is answered with an error.
+    Always,
+}
+
+/// The seat that sends a command, the moment at which it does, and the one at which the command acts: both in milliseconds since 1970.
+#[derive(Clone, Copy)]
+pub struct Stamp {
+    pub seat: u32,
+    pub sent_at: u64,
+    pub acts_at: u64,
+    pub effect: Effect,
+}
+
+// Whether the reply is null.
+fn is_null(reply: &Reply) -> bool
+    ensures { result ≡ is_null reply.now }
+{
+    matches!(reply, Reply::Null)
+}
+
+impl Effect {
+    /// What the command may do. SHUTDOWN and commands that only read never change the store, and LMOVE doesn't where it finds nothing to move.
+    pub fn of(command: &Command) -> Effect
+        ensures { result ≡ effect_of command.now }
+    {
+        if command.is_quiet() {
+            return Effect::Never;
+        }
+        match command {
+            Command::Plain(PlainCommand::Lmove(..)) => Effect::UnlessNull,
+            _ => Effect::Always,
+        }
+    }
+
+    /// Whether a command of this kind that was answered so has left the store as it was, but for its time.
+    pub fn idles_at(self, reply: &Reply) -> bool
+        ensures { result ≡ idles_at self reply.now }
+    {
+        match self {
+            Effect::Never => true,
+            Effect::UnlessNull => reply.is_error() || is_null(reply),
+            Effect::Always => reply.is_error(),
+        }
+    }
+}
