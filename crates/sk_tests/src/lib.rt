@@ -10,4 +10,6 @@ mod files;
 #[cfg(test)]
 mod gates;
 #[cfg(test)]
+mod held;
+#[cfg(test)]
 mod streams;

@@ -1,0 +1,20 @@
+// Who knows what is stored.
+ghost use Rattle.std.specs.Prelude.{ℕ};
+ghost use Rattle.sk_base.specs.Outside.{HasCause};
+ghost use Rattle.sk_held.specs.Counts.{CountsOks};
+
+use sk_base::Failed;
+
+/// Stores what is done, or waits for who does.
+pub trait Settler: Drop {
+    /// How often it has settled. The count never falls.
+    ghost settled: { Self → ℕ };
+
+    /// How often it has failed to. The count never falls.
+    ghost settle_faults: { Self → ℕ };
+
+    /// Waits until all that was done so far is stored.
+    fn settle(&mut self) -> Result<(), Failed>
+        ensures counts { CountsOks (settled self.old) (settled self.new) result }
+        ensures cause { HasCause (settle_faults self.old) (settle_faults self.new) result };
+}
