@@ -6,3 +6,4 @@ pub mod Accounts
 pub mod Ends
 pub mod Crossing
 pub mod Nudging
+pub mod GivenBack

@@ -1,4 +1,5 @@
 pub mod Session
+pub mod HeldSession
 pub mod Ending
 pub mod Visits
 pub mod Server

@@ -4,6 +4,7 @@
 mod accept_loop;
 mod driver;
 mod gate;
+mod held;
 mod reserve;
 mod serve_end;
 mod server;
@@ -12,6 +13,7 @@ mod sitting;
 
 pub use driver::session;
 pub use gate::{Gate, OpenGate};
+pub use held::{HeldEnd, held_session};
 pub use serve_end::{ServeEnd, Served};
 pub use server::serve;
 pub use sk_talk::TalkEnd as SessionEnd;
