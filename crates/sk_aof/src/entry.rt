@@ -3,11 +3,15 @@ ghost use Rattle.std.specs.Prelude.{◌≡◌, ◌<◌, ◌^◌, ◌++◌, ◌�
 ghost use Rattle.std.specs.Fmt.{decimal};
 ghost use Rattle.sk_resp.specs.Request.{IsCommand, array};
 ghost use Rattle.sk_model.specs.Event.{Ask, Cut};
-ghost use Rattle.sk_aof.specs.Bodies.{body_of, event_of};
+ghost use Rattle.sk_aof.specs.Bodies.{MayStand, body_of, event_of};
 
+use crate::log_event::is_command;
 use sk_log::{Record, record_of};
 use sk_resp::{Memory, Word, Words, write_request};
 use std::alloc::Global;
+
+// The last moment that a log may have.
+const LAST_NUMBER: u64 = (1 << 63) - 1;
 
 // Appends a word and a number as an array.
 fn write_number(alloc: Global, word: &[u8], number: u64, body: &mut Vec<u8>) -> Result<(), Memory>
@@ -40,25 +44,32 @@ pub(crate) fn cut_body(alloc: Global, seat: u32) -> Result<Vec<u8>, Memory>
 }
 
 /// The record of a cut.
-pub(crate) fn cut_record(alloc: Global, seat: u32) -> Result<Record, Memory>
+pub fn cut_record(alloc: Global, seat: u32) -> Result<Record, Memory>
     ensures { IfOk result (λ entry. entry ≡ body_of (Cut seat)) }
 {
     let body = cut_body(alloc, seat)?;
     Ok(record_of(alloc, &body)?)
 }
 
-/// The record of a command that a seat hands in. The words are a command's.
-pub(crate) fn ask_record(
-    alloc: Global,
-    seat: u32,
-    now: u64,
-    words: &Words,
-) -> Result<Record, Memory>
+// The record of a command that a seat hands in. The words are a command's.
+fn ask_record(alloc: Global, seat: u32, now: u64, words: &Words) -> Result<Record, Memory>
     requires { IsCommand words.now }
     ensures { IfOk result (λ entry. entry ≡ body_of (Ask seat now words.now)) }
 {
     let body = ask_body(alloc, seat, now, words)?;
     Ok(record_of(alloc, &body)?)
+}
+
+/// The record of a command that a seat hands in and that acts at this moment, where words and moment may stand in a log: a command's words, as a reader of
+/// requests gives them, and fewer than 2^63 milliseconds. Others are answered as want of memory is.
+pub fn draft_record(alloc: Global, seat: u32, now: u64, words: &Words) -> Result<Record, Memory>
+    ensures may { IfOk result (λ entry. MayStand (Ask seat now words.now)) }
+    ensures is { IfOk result (λ entry. entry ≡ body_of (Ask seat now words.now)) }
+{
+    if now > LAST_NUMBER || !is_command(words) {
+        return Err(Memory);
+    }
+    ask_record(alloc, seat, now, words)
 }
 
 /// The record of an event: that the seat is cut off, or that it hands in the words of a command, which act at this moment, in milliseconds since 1970.

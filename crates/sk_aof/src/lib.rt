@@ -13,7 +13,7 @@ mod replay;
 mod talking;
 
 pub use cutting::cut_all;
-pub use entry::make_record;
+pub use entry::{cut_record, draft_record, make_record};
 pub use laws::a_body_has_one_event;
 pub use log_end::LogEnd;
 pub use opening::open;

@@ -6,8 +6,7 @@ ghost use Rattle.sk_talk.specs.declared.talk_end.Stop.TheVariants.{Lost};
 ghost use Rattle.sk_aof.specs.Causes.{Blames};
 ghost use Rattle.sk_aof.specs.Logging.{Serves, AnswersLine, IsDraft, IsDrafted, IsLogged, Puts, place_of};
 
-use crate::entry::{ask_record, cut_record};
-use crate::log_event::is_command;
+use crate::entry::{cut_record, draft_record};
 use sk_cmd::Command;
 use sk_disk::Disk;
 use sk_log::{Log, LogFault, Record};
@@ -15,9 +14,6 @@ use sk_pipe::{PipeCommand, Session, read_words};
 use sk_resp::{Memory, Reply, Say, Words};
 use sk_talk::{Answer, Stop, Talker};
 use std::alloc::Global;
-
-// The last moment that a file may have.
-const LAST_NUMBER: u64 = (1 << 63) - 1;
 
 /// A pipe's session, its log, the disk that has it, and why the log can't go on.
 pub(crate) struct LogSession<'a, D: Disk> {
@@ -51,11 +47,12 @@ impl<'a, D: Disk> LogSession<'a, D> {
     fn draft(&self, words: &Words) -> Result<Record, Memory>
         ensures { IfOk result (λ entry. IsDraft self.entry.now.session.now words.now entry) }
     {
-        let now = self.session.acts_at();
-        if now > LAST_NUMBER || !is_command(words) {
-            return Err(Memory);
-        }
-        ask_record(self.alloc, self.session.seat(), now, words)
+        draft_record(
+            self.alloc,
+            self.session.seat(),
+            self.session.acts_at(),
+            words,
+        )
     }
 
     // The log can't go on, and no reply is written. Nothing was done.

@@ -1,0 +1,36 @@
+-- What a book that logs tells of its writing.
+use Rattle.std.specs.Prelude.{◌≡◌, ℕ, List, [], ◌∷◌, Option, None, Some, Bool, true, false}
+use mathlib.Core.List.{IsPrefix}
+use Rattle.sk_log.specs.File.{Body}
+use Rattle.sk_commit.specs.Shared.{Backed}
+use Rattle.sk_model.specs.Event.{Event}
+use Rattle.sk_desk.specs.Writing.{Writing}
+use Rattle.sk_aof.specs.Bodies.{MayStand, body_of}
+
+-- The body is the event's, which may stand in a file.
+abbrev pub SpellsBody : Event → Body → Type 0
+SpellsBody event body = MayStand event × (body ≡ body_of event)
+
+-- what was written, unless nothing can be any more
+abbrev pub writing_in : Bool → Backed → Option Writing
+writing_in true backed = None
+writing_in false backed = Some (record { bodies = backed.history; draft = backed.draft })
+
+-- what was stored when a settler last settled, and how often it has settled and failed to
+pub record SettlerView : Type 0 where
+  pub durable : Option (List Body)
+  pub settled : ℕ
+  pub faults : ℕ
+
+-- What was stored begins with these.
+abbrev pub IsStoredIn : List Body → Option (List Body) → Type 0
+IsStoredIn bodies None = ⊥
+IsStoredIn bodies (Some durable) = IsPrefix bodies durable
+
+-- A command's draft waits behind what was written.
+pub record HasDraft (event : Event) (old new : Option Writing) : Type 0 where
+  pub body : Body
+  pub spelled : SpellsBody event body
+  pub kept : List Body
+  pub was : old ≡ Some (record { bodies = kept; draft = [] })
+  pub is : new ≡ Some (record { bodies = kept; draft = body ∷ [] })

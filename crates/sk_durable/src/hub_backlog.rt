@@ -1,0 +1,53 @@
+// A shared store as the place where a leader finds what waits to be stored.
+ghost use Rattle.std.specs.Prelude.{◌≡◌, List, ℕ, IfSome};
+ghost use Rattle.sk_desk.specs.Writing.{IsWritten, WroteSome};
+ghost use Rattle.sk_model.specs.World.{World};
+ghost use Rattle.sk_durable.specs.Writes.{SpellsBody};
+
+use crate::LogBook;
+use sk_commit::{Backlog, LogId, Prefix, Taken};
+use sk_desk::{Hub, HubId};
+use sk_log::Group;
+use std::marker::Model;
+use std::sync::Wait;
+
+/// The backlog of a store whose events are logged: of each history that leaders take it holds that it is what a log keeps of a run from the start.
+#[derive(Drop)]
+pub struct HubBacklog<'a, I: HubId, J: LogId> {
+    hub: &'a Hub<I, LogBook<J>>,
+}
+
+impl<'a, I: HubId, J: LogId> Model for HubBacklog<'a, I, J> {
+    ghost use Rattle.std.specs.Prelude.{List, ℕ};
+    ghost use Rattle.sk_desk.specs.Writing.{IsWritten};
+    ghost use Rattle.sk_model.specs.World.{World};
+    ghost use Rattle.sk_durable.specs.Writes.{SpellsBody};
+
+    ghost Value = { Unit {0} };
+
+    ghost view = { λ b. tt };
+
+    ghost invariant = { λ b. (w : World) (bodies : List (List ℕ)) → IsWritten SpellsBody I.start w bodies → J.holds bodies };
+}
+
+impl<'a, I: HubId, J: LogId> HubBacklog<'a, I, J> {
+    /// The backlog of this store.
+    pub fn new(hub: &'a Hub<I, LogBook<J>>) -> HubBacklog<'a, I, J>
+        requires { (w : World) (bodies : List (List ℕ)) → IsWritten SpellsBody I.start w bodies → J.holds bodies }
+    {
+        HubBacklog { hub }
+    }
+
+    /// All that was logged so far. None where nothing can be logged any more.
+    pub fn mark<R: Wait>(&self, rt: &R) -> Option<Prefix<J>>
+        ensures { IfSome result (λ mark. WroteSome SpellsBody I.start (λ bodies. mark ≡ bodies)) }
+    {
+        self.hub.mark(rt)
+    }
+}
+
+impl<'a, I: HubId, J: LogId> Backlog<J> for HubBacklog<'a, I, J> {
+    fn take<R: Wait>(&self, rt: &R, spare: Group) -> Option<Taken<J>> {
+        self.hub.take(rt, spare)
+    }
+}

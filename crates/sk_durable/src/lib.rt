@@ -1,0 +1,12 @@
+//! A shared store whose events are logged: what its book writes waits behind the store's own lock, and a settler has it stored before replies are handed
+//! on. No clause can say through a lock that a mark has all that its session did before; that what is stored then is what a log keeps of a run of the
+//! store from the start on, the clauses say.
+#![tactic(auto)]
+
+mod hub_backlog;
+mod log_book;
+mod log_settler;
+
+pub use hub_backlog::HubBacklog;
+pub use log_book::LogBook;
+pub use log_settler::LogSettler;
