@@ -1,13 +1,13 @@
-// Jobs behind a gate, and jobs that tell their runs.
+// Jobs behind a gate.
 ghost use Rattle.std.specs.Prelude.{None, Result};
 ghost use Rattle.std.specs.declared.alloc.AllocError.{AllocError};
 ghost use Rattle.sk_payload.specs.declared.head.Head.{Head};
 ghost use Rattle.sk_middle.specs.declared.gate.Verdict.{Verdict};
 
-use sk_middle::{Gate, Memory, Verdict, told, wrap};
-use sk_payload::{Args, Head, JobDraft, Retry};
+use sk_middle::{Gate, Memory, Verdict, wrap};
+use sk_payload::{Head, Payload};
 use sk_policy::{DelayRule, plain_delay};
-use sk_resp::Text;
+use sk_resp::{Text, Word};
 use sk_worker::{Job, Outcome, Raised, Registry};
 use std::alloc::Global;
 use std::test::Fail;
@@ -16,23 +16,9 @@ fn text(alloc: Global, text: &str) -> Result<Text, Memory> {
     Ok(Text::new(String::from_str(alloc, text)?))
 }
 
-fn note(alloc: Global) -> Result<JobDraft, Memory> {
-    let jid = text(alloc, "j1")?;
-    let class = text(alloc, "Note")?;
-    let queue = text(alloc, "default")?;
-    Ok(JobDraft {
-        jid,
-        class,
-        queue,
-        args: Args::new(Vec::new(alloc)),
-        retry: Retry::Default,
-        retry_for: None,
-        bid: None,
-        lock: None,
-        dead: true,
-        created: 0,
-    })
-}
+/// The text of a job.
+const NOTE: &[u8] =
+    b"{\"args\":[],\"class\":\"Note\",\"created_at\":0,\"jid\":\"j1\",\"queue\":\"default\",\"retry\":true}";
 
 // Returns.
 #[derive(Drop)]
@@ -69,9 +55,7 @@ impl Gate for Barrier {
 
 // Whether a run of the job raises an error. None where there is no job to run.
 fn raises<J: Job>(alloc: Global, mut job: J) -> Result<Option<bool>, Memory> {
-    let Ok(payload) = note(alloc)?.build(alloc) else {
-        return Ok(None);
-    };
+    let payload = Payload::of(alloc, Word::new(NOTE.to_vec(alloc)?))?;
     let Some(head) = payload.head() else {
         return Ok(None);
     };
@@ -90,31 +74,11 @@ fn a_gate_lets_a_run_begin_or_raises(rt: HostRuntime) -> Result<(), Fail> {
 }
 
 #[test]
-fn a_job_that_tells_its_runs_runs_as_the_job_in_it(rt: HostRuntime) -> Result<(), Fail> {
-    let alloc = rt.alloc();
-    assert!(rt; raises(alloc, told(Quick))? == Some(false));
-    let shut = told(wrap(Quick, Barrier { alloc, shut: true }));
-    assert!(rt; raises(alloc, shut)? == Some(true));
-    Ok(())
-}
-
-#[test]
 fn a_wrapped_job_is_added_to_a_registry(rt: HostRuntime) -> Result<(), Fail> {
     let alloc = rt.alloc();
     let mut registry = Registry::new(alloc);
     let gate = Barrier { alloc, shut: true };
     let job: Box<dyn Job + Send> = Box::new(alloc, wrap(Quick, gate))?;
-    let delay: Box<dyn Fn(u32) -> u64 + Send> = Box::new(alloc, |count: u32| plain_delay(count))?;
-    let added = registry.add(text(alloc, "Quick")?, job, DelayRule::new(delay));
-    assert!(rt; added.is_ok());
-    Ok(())
-}
-
-#[test]
-fn a_job_that_tells_its_runs_is_added_to_a_registry(rt: HostRuntime) -> Result<(), Fail> {
-    let alloc = rt.alloc();
-    let mut registry = Registry::new(alloc);
-    let job: Box<dyn Job + Send> = Box::new(alloc, told(Quick))?;
     let delay: Box<dyn Fn(u32) -> u64 + Send> = Box::new(alloc, |count: u32| plain_delay(count))?;
     let added = registry.add(text(alloc, "Quick")?, job, DelayRule::new(delay));
     assert!(rt; added.is_ok());

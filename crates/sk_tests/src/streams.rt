@@ -1,6 +1,6 @@
-// What no clause says: which reads and writes fail, and where the pieces end.
+// What no clause says: which reads and writes of real streams fail, and where the pieces end.
 
-use sk_base::{Feed, Sink, Source, StdSink, StdSource, SteadyFeed, SteadyTray, Tray, write_all};
+use sk_base::{Sink, Source, StdSink, StdSource, write_all};
 use std::alloc::{AllocError, Global};
 use std::io::{self, ErrorKind, Read, Write};
 use std::test::Fail;
@@ -20,40 +20,6 @@ fn reads<S: Source>(alloc: Global, source: &mut S, rooms: &[usize]) -> Result<Ve
         }
     }
     Ok(told)
-}
-
-#[test]
-fn a_feed_reads_its_pieces_and_fails_where_it_is_told(rt: HostRuntime) -> Result<(), Fail> {
-    let alloc = rt.alloc();
-    let bytes = b"abcd".to_vec(alloc)?;
-    let mut feed = Feed::new(bytes, vec![in alloc; 1, 2]?, vec![in alloc; 2]?);
-    let told = reads(alloc, &mut feed, &[8, 8, 8, 8, 8])?;
-    assert_eq!(rt; told.as_slice(), b"a|!bc|d||".as_slice());
-    Ok(())
-}
-
-#[test]
-fn a_steady_feed_reads_its_pieces(rt: HostRuntime) -> Result<(), Fail> {
-    let alloc = rt.alloc();
-    let bytes = b"abcd".to_vec(alloc)?;
-    let mut steady = SteadyFeed::new(bytes, vec![in alloc; 0, 9]?);
-    let told = reads(alloc, &mut steady, &[8, 2, 8, 8])?;
-    assert_eq!(rt; told.as_slice(), b"a|bc|d||".as_slice());
-    Ok(())
-}
-
-#[test]
-fn a_tray_takes_bytes_and_fails_where_it_is_told(rt: HostRuntime) -> Result<(), Fail> {
-    let alloc = rt.alloc();
-    let mut tray = Tray::new(alloc, vec![in alloc; 2]?);
-    assert!(rt; write_all(&mut tray, b"ab").is_ok());
-    assert!(rt; write_all(&mut tray, b"c").is_err());
-    assert!(rt; write_all(&mut tray, b"").is_ok());
-    assert_eq!(rt; tray.taken(), b"ab".as_slice());
-    let mut steady = SteadyTray::new(alloc);
-    assert!(rt; write_all(&mut steady, b"ab").is_ok());
-    assert_eq!(rt; steady.taken(), b"ab".as_slice());
-    Ok(())
 }
 
 /// A writer that takes one byte at a call, as long as it is the next one of these, and then fails.
