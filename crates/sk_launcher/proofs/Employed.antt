@@ -1,5 +1,5 @@
 -- What follows of workers that were hired, took turns and left, where none had a fault.
-use Rattle.std.proofs.Common.{◌≡◌, ◌≤◌, ◌<◌, ◌++◌, ◌∙◌, sym, ap, subst, ℕ, zero, suc, Bool, true, false, List, [], ◌∷◌, map, length, Option, Some, None, option_map, Result, Ok, Err, refl, arith, append_assoc, take}
+use Rattle.std.proofs.Common.{◌≡◌, ◌≤◌, ◌<◌, ◌++◌, ◌∙◌, sym, ap, subst, ℕ, zero, suc, Bool, true, false, List, [], ◌∷◌, map, length, Option, Some, None, option_map, Result, Ok, Err, refl, arith, append_assoc, length-append, take, ◌+◌}
 use Rattle.std.specs.Prelude.{option_to_list}
 use Rattle.std.proofs.Math.Seq.{take-append_seam}
 use Rattle.std.specs.Bool.{MatchBool}
@@ -126,6 +126,12 @@ none_faulty now before mid gone others is grown empty = none_right before gone (
 pub teams_now : {A : Type 0} (now before gone others : List A) (mid : List A) → now ≡ mid ++ others → mid ≡ before ++ gone → before ≡ [] → now ≡ gone ++ others
 teams_now now before gone others mid is grown empty = is ∙ ap (λ ts. ts ++ others) (grown ∙ ap (λ ts. ts ++ gone) empty)
 
+-- as many as there were in all
+pub room_left : {A : Type 0} (before gone others total now : List A) → now ≡ before ++ gone → before ≡ [] → gone ++ others ≡ total →
+    length now + length others ≡ length total
+room_left before gone others total now grown empty all =
+    ap (λ xs. length xs + length others) (grown ∙ ap (λ xs. xs ++ gone) empty) ∙ sym (length-append gone others) ∙ ap length all
+
 -- ## A worker without a fault hasn't ended
 
 abbrev pub Tells : {Link Delay Dice : Type 0} → WorkState Link Delay Dice → Type 0
@@ -180,6 +186,13 @@ module _ {Link Delay Dice : Type 0} (Carried : Link → Link → List Call → T
   leaves_ruled : (a b : WorkState Link Delay Dice) → Leaves Carried a b → b.rules ≡ a.rules
   leaves_ruled a b left = rules_by a b a.ended left
 
+  plain_by : (a b : WorkState Link Delay Dice) (ended : Bool) → MatchBool ended (b ≡ a) (HasLeft Carried a b) → b.plain ≡ a.plain
+  plain_by a b false left = ap (λ (w : WorkState _ _ _). w.plain) left.becomes
+  plain_by a b true left = ap (λ (w : WorkState _ _ _). w.plain) left
+
+  leaves_plain : (a b : WorkState Link Delay Dice) → Leaves Carried a b → b.plain ≡ a.plain
+  leaves_plain a b left = plain_by a b a.ended left
+
   module _ (Answers : Delay → ℕ → ℕ → Type 0) where
     turns_tell : (answers : List Turn) (a b : WorkState Link Delay Dice) → Tells a → Turns (WorkerTurn Carried Answers) a answers b → Tells b
     turns_tell [] a b tells none = tells
@@ -213,6 +226,14 @@ module _ {Link Delay Dice : Type 0} (Carried : Link → Link → List Call → T
     pub went_on_rules : (a b : WorkState Link Delay Dice) → WentOn (WorkerTurn Carried Answers) a b → b.rules ≡ a.rules
     went_on_rules a b (whole answers turns) = turns_rule answers a b turns
     went_on_rules a b (broken answers last f turns broke) = broke.rules_same ∙ turns_rule answers a last turns
+
+    turns_plain : (answers : List Turn) (a b : WorkState Link Delay Dice) → Turns (WorkerTurn Carried Answers) a answers b → b.plain ≡ a.plain
+    turns_plain [] a b none = refl
+    turns_plain (t ∷ answers) a b (one_more answers' mid to t' before last) = last.plain_same ∙ turns_plain answers a mid before
+
+    went_on_plain : (a b : WorkState Link Delay Dice) → WentOn (WorkerTurn Carried Answers) a b → b.plain ≡ a.plain
+    went_on_plain a b (whole answers turns) = turns_plain answers a b turns
+    went_on_plain a b (broken answers last f turns broke) = broke.plain_same ∙ turns_plain answers a last turns
 
     -- Nobody took a turn.
     pub stood_still : (poller : PollState Link Dice) (workers : List (WorkState Link Delay Dice)) → InThreads Carried Answers poller poller workers workers
@@ -264,6 +285,13 @@ module _ {Conn Delay Dice : Type 0} (Carried : WireState Conn → WireState Conn
       let used = map (λ (z : Hire (WireState Conn) Delay Dice). own_team z.fresh) xs in
       teams_used a mid xs before ∙ ap (λ ts. used ++ ts) last.next_team ∙ sym (append_assoc used (own_team h.fresh ∷ []) b.teams)
       ∙ ap (λ ts. ts ++ b.teams) (sym (map_end (λ (z : Hire (WireState Conn) Delay Dice). own_team z.fresh) xs h))
+
+  rules_used : (a b : Office Conn Delay Dice) (hires : List (Hire (WireState Conn) Delay Dice)) → Each (Hires Carried own) a hires b → a.rules ≡ map (λ h. h.fresh.plain) hires ++ b.rules
+  rules_used a b hires none_hired = refl
+  rules_used a b hires (one_hired xs mid to h before last) =
+      let used = map (λ (z : Hire (WireState Conn) Delay Dice). z.fresh.plain) xs in
+      rules_used a mid xs before ∙ ap (λ rs. used ++ rs) last.next_rule ∙ sym (append_assoc used (h.fresh.plain ∷ []) b.rules)
+      ∙ ap (λ rs. rs ++ b.rules) (sym (map_end (λ (z : Hire (WireState Conn) Delay Dice). z.fresh.plain) xs h))
 
   hired_ran : (a b : Office Conn Delay Dice) (h : Hire (WireState Conn) Delay Dice) → Hires Carried own a h b → Ran h.fresh h.joined
   hired_ran a b h hires = ran_alike h.fresh h.joined (ap (λ (w : WorkState _ _ _). w.settings) hires.starts.joins.becomes)
@@ -326,6 +354,20 @@ module _ {Conn Delay Dice : Type 0} (Carried : WireState Conn → WireState Conn
         subst (λ ts. HaveReturned ts (map own_team gone ++ after.teams) (done_in (map (λ w. w.tally.counts) gone)))
         (sym (teams_used before after hires e.hiring.1 ∙ ap (λ ts. ts ++ after.teams) (sym (mapped fresh own_team hires))))
         (with_others after.teams (map own_team (map fresh hires)) (map own_team gone) (done_in (map (λ w. w.tally.counts) gone)) (all_returned (map fresh hires) gone all none))
+
+    -- ## The plain rules
+
+    -- Who left had the plain rules that are used up.
+    pub rules_back : (poller done : PollState (WireState Conn) Dice) (before after : Office Conn Delay Dice) (worked gone : List (WorkState (WireState Conn) Delay Dice)) →
+        Employs Carried Answers own poller done before after worked → AllZip (Leaves Carried) worked gone → map (λ w. w.plain) gone ++ after.rules ≡ before.rules
+    rules_back poller done before after worked gone e left =
+        let plain = λ (w : WorkState (WireState Conn) Delay Dice). w.plain in
+        let worked_same = same_map (Leaves Carried) plain plain (leaves_plain Carried) worked gone left in
+        let hired_same = same_map (WentOn (WorkerTurn Carried Answers)) plain plain (went_on_plain Carried Answers) e.hired worked e.working.worked in
+        let joined_same = all_alike (λ (h : Hire (WireState Conn) Delay Dice). h.fresh.plain) (λ (h : Hire (WireState Conn) Delay Dice). h.joined.plain) e.hiring.0
+        (each_of (λ h. h.joined.plain ≡ h.fresh.plain) (λ a b h hires. ap (λ (w : WorkState _ _ _). w.plain) hires.starts.joins.becomes) before after e.hiring.0 e.hiring.1) in
+        ap (λ rs. rs ++ after.rules) (worked_same ∙ hired_same ∙ ap (map plain) e.hiring.2 ∙ mapped (λ h. h.joined) plain e.hiring.0 ∙ joined_same)
+        ∙ sym (rules_used before after e.hiring.0 e.hiring.1)
 
     -- Whatever is seen of a team by its classes and its rules.
     module _ {X : Type 0} (seen : Team Delay → X) (alike : (a b : Team Delay) → b.classes ≡ a.classes → b.rules ≡ a.rules → seen b ≡ seen a) where

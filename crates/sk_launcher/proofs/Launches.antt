@@ -1,5 +1,5 @@
--- How a launch is told by its parts.
-use Rattle.std.proofs.Common.{◌≡◌, ◌∙◌, ap, ◌≤◌, ◌-◌, ◌^◌, min, ℕ, ℤ, List, [], ◌∷◌, subst, sym, arith, inl, inr, Result, Ok, Err}
+-- How a launch is told by its parts, and how it ends.
+use Rattle.std.proofs.Common.{◌≡◌, ◌∙◌, ap, ◌≤◌, ◌<◌, ◌-◌, ◌^◌, min, ℕ, ℤ, List, [], ◌∷◌, subst, sym, refl, arith, inl, inr, Option, Some, None, Result, Ok, Err}
 use Rattle.std.specs.Prelude.{IfOk}
 use Rattle.std.specs.Result.{IsErrAnd}
 use Rattle.sk_base.specs.Outside.{Rose}
@@ -9,14 +9,18 @@ use Rattle.sk_link.specs.Call.{Call}
 use Rattle.sk_link.specs.Wire.{WireState}
 use Rattle.sk_poller.specs.Stage.{Watch}
 use Rattle.sk_poller.specs.declared.poller.Loop.{Loop}
+use Rattle.sk_poller.specs.declared.report.PollReport.{PollReport}
 use Rattle.sk_worker.specs.Stage.{Settings}
 use Rattle.sk_launcher.specs.Connections.{DoorTells}
-use Rattle.sk_launcher.specs.Launching.{Given, Hindered, IsAnswer, Launched, Office, Process, closed, starved}
-use Rattle.sk_launcher.specs.Polling.{PollState}
+use Rattle.sk_launcher.specs.Launching.{Given, Hindered, IsAnswer, IsLeastOf, Launched, Office, Process, closed, starved}
+use Rattle.sk_launcher.specs.Patience.{LaunchEnded, either}
+use Rattle.sk_launcher.specs.Polling.{PollState, PollerTurn}
+use Rattle.sk_launcher.specs.Turning.{Turns, none, one_more, WentOn, whole, broken}
 use Rattle.sk_launcher.specs.Counting.{no_turns, total_from}
 use Rattle.sk_launcher.specs.Teams.{AreDone, HaveReturned, Team, done_in}
 use Rattle.sk_launcher.proofs.Done.{total_done}
 use Rattle.sk_launcher.specs.declared.counts.Counts.{Counts}
+use Rattle.sk_launcher.specs.declared.launch_end.LaunchEnd.{LaunchEnd}
 use Rattle.sk_launcher.specs.declared.launch_fault.LaunchFault.{LaunchFault}
 use Rattle.sk_launcher.specs.declared.launch_fault.LaunchFault.TheVariants as fault
 
@@ -82,6 +86,42 @@ module _ {Conn Delay Dice : Type 0} (Carried : WireState Conn → WireState Conn
     counts_are = p.counts_are;
     all = p.all;
   }
+
+-- ## The poller's loops
+
+module _ {Link Dice : Type 0} (Carried : Link → Link → List Call → Type 0) where
+  polled_same : (answers : List PollReport) (a b : PollState Link Dice) → Turns (PollerTurn Carried) a answers b → b.watch ≡ a.watch
+  polled_same [] a b none = refl
+  polled_same (t ∷ answers) a b (one_more answers' mid to t' before last) = last.watch_same ∙ polled_same answers a mid before
+
+  -- A poller watches over the same throughout.
+  pub polls_same : (a b : PollState Link Dice) → WentOn (PollerTurn Carried) a b → b.watch ≡ a.watch
+  polls_same a b (whole answers turns) = polled_same answers a b turns
+  polls_same a b (broken answers last f turns broke) = broke.watch_same ∙ polled_same answers a last turns
+
+-- ## How a launch ends
+
+-- a launch that never began
+pub never_began : {Conn Delay : Type 0} (Carried : WireState Conn → WireState Conn → List Call → Type 0) (Answers : Delay → ℕ → ℕ → Type 0) (DoorFailed : Type 0)
+    (settings : WorkSettings) (rules : List Delay) (before after : Given Conn Delay) (sum : Counts) (end : LaunchEnd) (f : LaunchFault) → end.counts ≡ sum →
+    end.fault ≡ Some f → Hindered DoorFailed (f ∷ []) → after.door ≡ before.door → LaunchEnded Carried Answers DoorFailed settings rules before after sum end
+never_began Carried Answers DoorFailed settings rules before after sum end fault.Memory counted is h same =
+    record { own = Err fault.Memory; launch = starved same; own_is = ap (λ z. either z no_turns) (sym is); counted = counted }
+never_began Carried Answers DoorFailed settings rules before after sum end fault.Door counted is h same =
+    record { own = Err fault.Door; launch = closed h same; own_is = ap (λ z. either z no_turns) (sym is); counted = counted }
+never_began Carried Answers DoorFailed settings rules before after sum end (fault.Link f) counted is h same = absurd h
+never_began Carried Answers DoorFailed settings rules before after sum end (fault.Refused r) counted is h same = absurd h
+never_began Carried Answers DoorFailed settings rules before after sum end fault.GenLimit counted is h same = absurd h
+
+pub answered_by : (faults : List LaunchFault) (counts : List Counts) (f : Option LaunchFault) → IsLeastOf faults f → IsAnswer faults counts (either f (total_from no_turns counts))
+answered_by faults counts None is = (is, refl)
+answered_by faults counts (Some f) is = is
+
+pub some_by : (turns : ℕ) (f : Option LaunchFault) (counts : Counts) → (f ≡ None → 0 < turns) → IfOk (either f counts) (λ _. 0 < turns)
+some_by turns None counts some = some refl
+some_by turns (Some f) counts some = tt
+
+-- ## What was done
 
 sum_done : (counts : List Counts) → (total_from no_turns counts).done ≡ min (done_in counts) (2 ^ 64 - 1)
 sum_done counts = let is = total_done counts no_turns 0 (omega arith) in omega (arith, is)

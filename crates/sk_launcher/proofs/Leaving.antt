@@ -28,13 +28,14 @@ work_faults_end (w ∷ gone) one =
 returned_more : {Link Delay Dice : Type 0} (gone : List (WorkState Link Delay Dice)) (one : WorkState Link Delay Dice) (first before after : Returns Delay) → AllReturned gone first before →
     Returned one before after → AllReturned (gone ++ one ∷ []) first after
 returned_more gone one first before after p q = record {
+  rules = grow first.rules before.rules after.rules (map (λ w. w.plain) gone) _ (one.plain ∷ []) p.rules q.rules (map_end (λ (w : WorkState _ _ _). w.plain) gone one);
   teams = grow first.teams before.teams after.teams (map own_team gone) _ (own_team one ∷ []) p.teams q.teams (map_end own_team gone one);
   tallies = grow first.tallies before.tallies after.tallies (map (λ w. w.tally) gone) _ (one.tally ∷ []) p.tallies q.tallies (map_end (λ (w : WorkState _ _ _). w.tally) gone one);
   faults = grow first.faults before.faults after.faults (work_faults gone) _ (option_to_list (option_map by_work one.fault)) p.faults q.faults (work_faults_end gone one);
 }
 
 pub nobody_returned : {Link Delay Dice : Type 0} (r : Returns Delay) → AllReturned {Link = Link} {Dice = Dice} [] r r
-nobody_returned r = record { teams = sym (append-nil r.teams); tallies = sym (append-nil r.tallies); faults = sym (append-nil r.faults) }
+nobody_returned r = record { teams = sym (append-nil r.teams); rules = sym (append-nil r.rules); tallies = sym (append-nil r.tallies); faults = sym (append-nil r.faults) }
 
 -- one more left
 pub gone_more : {Conn Delay Dice Row : Type 0} (Leaving : Row → WorkState (WireState Conn) Delay Dice → Type 0) (from mid to : DoorTells Conn) (rows : List Row) (row : Row)

@@ -7,3 +7,4 @@ pub mod Hiring
 pub mod Leaving
 pub mod Crossing
 pub mod Launches
+pub mod Relaunches

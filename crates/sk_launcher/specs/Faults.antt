@@ -1,5 +1,5 @@
 -- Why a launcher has no counts, and which of several faults it answers.
-use Rattle.std.specs.Prelude.{ℕ}
+use Rattle.std.specs.Prelude.{ℕ, Bool, true, false, length, nat_eq}
 use Rattle.sk_edge.specs.declared.door.DoorFault.{DoorFault}
 use Rattle.sk_edge.specs.declared.door.DoorFault.TheVariants as door
 use Rattle.sk_link.specs.declared.link.LinkFault.TheVariants as link
@@ -18,6 +18,17 @@ status_of fault.Door = 6
 status_of (fault.Link f) = 6
 status_of (fault.Refused reply) = 7
 status_of fault.GenLimit = 7
+
+-- The server is away: the door gave no connection, or a link failed, or it ended and nothing of a reply had come.
+abbrev pub is_away : LaunchFault → Bool
+is_away fault.Memory = false
+is_away fault.Door = true
+is_away (fault.Link link.Failed) = true
+is_away (fault.Link (link.Unreadable bytes)) = nat_eq (length bytes) 0
+is_away (fault.Link link.Ended) = true
+is_away (fault.Link link.Memory) = false
+is_away (fault.Refused reply) = false
+is_away fault.GenLimit = false
 
 abbrev pub by_door : DoorFault → LaunchFault
 by_door door.Failed = fault.Door

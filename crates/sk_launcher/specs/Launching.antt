@@ -132,24 +132,27 @@ abbrev pub work_faults : {Link Delay Dice : Type 0} → List (WorkState Link Del
 work_faults [] = []
 work_faults (w ∷ workers) = option_to_list (option_map by_work w.fault) ++ work_faults workers
 
--- what workers gave back: their teams, their tallies, and their faults
+-- what workers gave back: their teams, their plain rules, their tallies, and their faults
 pub record Returns (Delay : Type 0) : Type 0 where
   pub teams : List (Team Delay)
+  pub rules : List Delay
   pub tallies : List TallyView
   pub faults : List LaunchFault
 
-abbrev pub returned : {Delay : Type 0} → List (Team Delay) → List TallyView → List LaunchFault → Returns Delay
-returned teams tallies faults = record { teams = teams; tallies = tallies; faults = faults }
+abbrev pub returned : {Delay : Type 0} → List (Team Delay) → List Delay → List TallyView → List LaunchFault → Returns Delay
+returned teams rules tallies faults = record { teams = teams; rules = rules; tallies = tallies; faults = faults }
 
 -- This worker gave back what it had.
 pub record Returned {Link Delay Dice : Type 0} (gone : WorkState Link Delay Dice) (before after : Returns Delay) : Type 0 where
   pub teams : after.teams ≡ before.teams ++ own_team gone ∷ []
+  pub rules : after.rules ≡ before.rules ++ gone.plain ∷ []
   pub tallies : after.tallies ≡ before.tallies ++ gone.tally ∷ []
   pub faults : after.faults ≡ before.faults ++ option_to_list (option_map by_work gone.fault)
 
 -- So did all of these.
 pub record AllReturned {Link Delay Dice : Type 0} (gone : List (WorkState Link Delay Dice)) (before after : Returns Delay) : Type 0 where
   pub teams : after.teams ≡ before.teams ++ map own_team gone
+  pub rules : after.rules ≡ before.rules ++ map (λ w. w.plain) gone
   pub tallies : after.tallies ≡ before.tallies ++ map (λ w. w.tally) gone
   pub faults : after.faults ≡ before.faults ++ work_faults gone
 

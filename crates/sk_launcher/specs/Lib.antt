@@ -8,4 +8,5 @@ pub mod Faults
 pub mod Connections
 pub mod Seeding
 pub mod Launching
+pub mod Patience
 pub mod Promises

@@ -24,6 +24,7 @@ use Rattle.sk_worker.specs.declared.registry.Registry.{Registry}
 use Rattle.sk_launcher.specs.Connections.{DoorTells, Each, Keeping, door_tells}
 use Rattle.sk_launcher.specs.Launching.{AllReturned, AllWorked, AreWhole, Employs, HaveAtMost, HaveTaken, Hire, HiresAll, HiresOne, InThreads, IsStarted, Launched, Leaves, Office, Process, Returned, given, office, returned}
 use Rattle.sk_launcher.specs.Launching.{Returns as GivenBack}
+use Rattle.sk_launcher.specs.Patience.{IsSettingsAt, LaunchEnded, Outlasts}
 use Rattle.sk_launcher.specs.Polling.{PollState, PollerTurn, own_poller}
 use Rattle.sk_launcher.specs.Teams.{HaveReturned, done_in, team_of, teams_of}
 use Rattle.sk_launcher.specs.Turning.{WentOn}
@@ -31,6 +32,7 @@ use Rattle.sk_launcher.specs.Working.{WorkState, WorkerAdvances, hired_worker, h
 use Rattle.sk_launcher.specs.declared.counts.Counts.{Counts}
 use Rattle.sk_launcher.specs.declared.dismiss.Returns.{Returns}
 use Rattle.sk_launcher.specs.declared.hire.Outfit.{Outfit}
+use Rattle.sk_launcher.specs.declared.launch_end.LaunchEnd.{LaunchEnd}
 use Rattle.sk_launcher.specs.declared.launch_fault.LaunchFault.{LaunchFault}
 use Rattle.sk_launcher.specs.declared.poller_thread.PollerThread.{PollerThread}
 use Rattle.sk_launcher.specs.declared.worker_thread.WorkerThread.{WorkerThread}
@@ -151,20 +153,25 @@ module _ {Rule Job : Type 0} {OfRule : Rule → Type 0} {OfJob : Job → Type 0}
 
   -- ## What comes back
 
-  -- There is room for so many teams, and for what so many workers, the poller and the launcher give back.
+  -- Nothing came back yet.
+  abbrev pub IsEmpty : Returns Job Rule OfJob OfRule Delays → Type 0
+  IsEmpty returns = (returns.teams.items ≡ []) × (returns.tallies.items ≡ []) × (returns.faults.items ≡ []) × (returns.rules.items ≡ [])
+
+  -- There is room for so many teams with their plain rules, and for what so many workers, the poller and the launcher give back.
   abbrev pub HasRoom : ℕ → ℕ → Returns Job Rule OfJob OfRule Delays → Type 0
-  HasRoom teams workers returns =
-      (teams ≤ vec_capacity returns.teams) × (workers ≤ vec_capacity returns.tallies) × (workers + 2 ≤ vec_capacity returns.faults)
+  HasRoom teams workers returns = (teams ≤ vec_capacity returns.teams) × (workers ≤ vec_capacity returns.tallies)
+      × (workers + 2 ≤ vec_capacity returns.faults) × (teams ≤ vec_capacity returns.rules)
 
   -- There is as much room as before.
   abbrev pub KeepsRoom : Returns Job Rule OfJob OfRule Delays → Returns Job Rule OfJob OfRule Delays → Type 0
   KeepsRoom returns returns_after = (vec_capacity returns_after.teams ≡ vec_capacity returns.teams)
       × (vec_capacity returns_after.tallies ≡ vec_capacity returns.tallies) × (vec_capacity returns_after.faults ≡ vec_capacity returns.faults)
+      × (vec_capacity returns_after.rules ≡ vec_capacity returns.rules)
 
   -- what came back, the teams by what their jobs tell
   abbrev pub returned_in : ((job : Job) × OfJob job → Option (List Run)) → Returns Job Rule OfJob OfRule Delays →
       GivenBack (DelayRule Rule OfRule Delays)
-  returned_in runs returns = returned (teams_of runs returns.teams.items) returns.tallies.items returns.faults.items
+  returned_in runs returns = returned (teams_of runs returns.teams.items) returns.rules.items returns.tallies.items returns.faults.items
 
   -- the counts of each worker
   abbrev pub counts_in : Returns Job Rule OfJob OfRule Delays → List Counts
@@ -203,7 +210,7 @@ module _ {Rule Job : Type 0} {OfRule : Rule → Type 0} {OfJob : Job → Type 0}
   DoneByTeams runs outfit returns = returns.faults.items ≡ [] →
       HaveReturned (teams_of runs outfit.teams.items) (teams_of runs returns.teams.items) (done_in (counts_in returns))
 
-  -- What a launcher did with a door and teams, as they were before and after, by these settings and plain rules, and what it answered. Its dice was
+  -- What one launch did with a door and teams, as they were before and after, by these settings and plain rules, and what it answered. Its dice was
   -- going to give the first words, and then the others.
   abbrev pub LaunchesBy : {N Conn Ear : Type 0} → a_door.Ghosts N Conn Ear → a_source.Ghosts Conn → a_sink.Ghosts Conn →
       ((job : Job) × OfJob job → Option (List Run)) → Option (ℕ → ℕ) → Option (ℕ → ℕ) → Vec (DelayRule Rule OfRule Delays) Global →
@@ -213,10 +220,47 @@ module _ {Rule Job : Type 0} {OfRule : Rule → Type 0} {OfJob : Job → Type 0}
       Launched (Wire Source Sink) Answers (Failed Door net net_after) settings rules.items
       (given (told_by Door net) (teams_of runs teams.items) words) (given (told_by Door net_after) (teams_of runs teams_after.items) words_after) result
 
+  -- A launch with these settings ended so, with a door, the words that a dice was going to give, and teams, as they were before and after, where so many
+  -- turns had been counted before it.
+  abbrev pub EndedBy : {N Conn Ear : Type 0} → a_door.Ghosts N Conn Ear → a_source.Ghosts Conn → a_sink.Ghosts Conn →
+      ((job : Job) × OfJob job → Option (List Run)) → List (DelayRule Rule OfRule Delays) → WorkSettings → Counts →
+      N × Option (ℕ → ℕ) × Vec (Registry Job Rule OfJob OfRule Delays) Global → LaunchEnd →
+      N × Option (ℕ → ℕ) × Vec (Registry Job Rule OfJob OfRule Delays) Global → Type 0
+  EndedBy Door Source Sink runs rules settings sum (net, words, teams) end (net_after, words_after, teams_after) =
+      LaunchEnded (Wire Source Sink) Answers (Failed Door net net_after) settings rules
+      (given (told_by Door net) (teams_of runs teams.items) words) (given (told_by Door net_after) (teams_of runs teams_after.items) words_after) sum end
+
+  -- The same, with this dice.
+  abbrev pub Ended : {N Conn Ear D : Type 0} → a_door.Ghosts N Conn Ear → a_source.Ghosts Conn → a_sink.Ghosts Conn → a_dice.Ghosts D →
+      ((job : Job) × OfJob job → Option (List Run)) → Vec (DelayRule Rule OfRule Delays) Global → WorkSettings → Counts →
+      N → D → Vec (Registry Job Rule OfJob OfRule Delays) Global → LaunchEnd → N → D → Vec (Registry Job Rule OfJob OfRule Delays) Global → Type 0
+  Ended Door Source Sink Dice runs rules settings sum net dice teams end net_after dice_after teams_after =
+      EndedBy Door Source Sink runs rules.items settings sum (net, Dice.words dice, teams) end (net_after, Dice.words dice_after, teams_after)
+
+  -- ## Launches one after another
+
+  -- The n-th of the launches with these settings ended so.
+  abbrev pub EndedAt : {N Conn Ear : Type 0} → a_door.Ghosts N Conn Ear → a_source.Ghosts Conn → a_sink.Ghosts Conn →
+      ((job : Job) × OfJob job → Option (List Run)) → List (DelayRule Rule OfRule Delays) → WorkSettings → ℕ → Counts →
+      N × Option (ℕ → ℕ) × Vec (Registry Job Rule OfJob OfRule Delays) Global → LaunchEnd →
+      N × Option (ℕ → ℕ) × Vec (Registry Job Rule OfJob OfRule Delays) Global → Type 0
+  EndedAt Door Source Sink runs rules settings n sum before end after =
+      (own : WorkSettings) × IsSettingsAt settings n own × EndedBy Door Source Sink runs rules own sum before end after
+
+  -- Launches with these settings and plain rules were made one after another, with a door and teams, as they were before and after, and this came of
+  -- it; without patience it was one. The dice was going to give the first words, and then the others.
+  abbrev pub LaunchesAll : {N Conn Ear : Type 0} → a_door.Ghosts N Conn Ear → a_source.Ghosts Conn → a_sink.Ghosts Conn →
+      ((job : Job) × OfJob job → Option (List Run)) → Option (ℕ → ℕ) → Option (ℕ → ℕ) → Vec (DelayRule Rule OfRule Delays) Global →
+      N → Vec (Registry Job Rule OfJob OfRule Delays) Global → N → Vec (Registry Job Rule OfJob OfRule Delays) Global →
+      WorkSettings → Result Counts LaunchFault → Type 0
+  LaunchesAll Door Source Sink runs words words_after rules net teams net_after teams_after settings result =
+      Outlasts (EndedAt Door Source Sink runs rules.items settings) settings.patience (net, words, teams) (net_after, words_after, teams_after) result
+      × (settings.patience ≡ 0 → LaunchesBy Door Source Sink runs words words_after rules net teams net_after teams_after settings result)
+
   -- The same, with this dice.
   abbrev pub Launches : {N Conn Ear D : Type 0} → a_door.Ghosts N Conn Ear → a_source.Ghosts Conn → a_sink.Ghosts Conn → a_dice.Ghosts D →
       ((job : Job) × OfJob job → Option (List Run)) → Vec (DelayRule Rule OfRule Delays) Global →
       N → D → Vec (Registry Job Rule OfJob OfRule Delays) Global → N → D → Vec (Registry Job Rule OfJob OfRule Delays) Global →
       WorkSettings → Result Counts LaunchFault → Type 0
   Launches Door Source Sink Dice runs rules net dice teams net_after dice_after teams_after settings result =
-      LaunchesBy Door Source Sink runs (Dice.words dice) (Dice.words dice_after) rules net teams net_after teams_after settings result
+      LaunchesAll Door Source Sink runs (Dice.words dice) (Dice.words dice_after) rules net teams net_after teams_after settings result

@@ -2,7 +2,7 @@
 ghost use Rattle.std.specs.Prelude.{◌≡◌, ◌≤◌, ◌<◌, ◌+◌, ◌++◌, [], vec_len, vec_capacity, option_map, option_to_list, IfOk};
 ghost use Rattle.sk_base.specs.declared.limits.TheConstants.{MOST_WORKERS};
 ghost use Rattle.sk_launcher.specs.Faults.{by_work};
-ghost use Rattle.sk_launcher.specs.Promises.{Dismisses, DismissesAll, HasRoom, KeepsRoom};
+ghost use Rattle.sk_launcher.specs.Promises.{Dismisses, DismissesAll, HasRoom, IsEmpty, KeepsRoom};
 
 use crate::LaunchFault;
 use crate::processor::Processor;
@@ -11,26 +11,29 @@ use crate::worker_thread::WorkerThread;
 use sk_base::Clock;
 use sk_edge::{Door, PcgDice};
 use sk_link::WireLink;
+use sk_policy::DelayRule;
 use sk_worker::{Registry, WorkFault};
 use std::alloc::{AllocError, Global};
 
-/// What workers gave back when they had left: their teams, their turns, and their faults. It has room for those of all workers.
+/// What workers gave back when they had left: their teams, their plain rules, their turns, and their faults. It has room for those of all workers.
 #[derive(Drop)]
 pub(crate) struct Returns {
     pub teams: Vec<Registry>,
+    pub rules: Vec<DelayRule>,
     pub tallies: Vec<Tally>,
     pub faults: Vec<LaunchFault>,
 }
 
 impl Returns {
-    /// Room for so many teams, and for what so many workers, the poller and the launcher give back.
+    /// Room for so many teams with their plain rules, and for what so many workers, the poller and the launcher give back.
     pub fn with_room(alloc: Global, teams: usize, workers: usize) -> Result<Returns, AllocError>
         requires { workers ≤ MOST_WORKERS }
-        ensures empty { IfOk result (λ r. (r.teams.items ≡ []) × (r.tallies.items ≡ []) × (r.faults.items ≡ [])) }
+        ensures empty { IfOk result IsEmpty }
         ensures room { IfOk result (λ r. HasRoom teams workers r) }
     {
         Ok(Returns {
             teams: Vec::with_capacity(alloc, teams)?,
+            rules: Vec::with_capacity(alloc, teams)?,
             tallies: Vec::with_capacity(alloc, workers)?,
             faults: Vec::with_capacity(alloc, workers + 2)?,
         })
@@ -57,11 +60,13 @@ fn dismiss<N: Door, C: Clock>(
     returns: &mut Returns,
 )
     requires teams { vec_len returns.old.teams < vec_capacity returns.old.teams }
+    requires rules { vec_len returns.old.rules < vec_capacity returns.old.rules }
     requires tallies { vec_len returns.old.tallies < vec_capacity returns.old.tallies }
     requires faults { vec_len returns.old.faults < vec_capacity returns.old.faults }
     ensures gone { Dismisses N.Door N.Conn.Source N.Conn.Sink C.Clock runs worker net.old returns.old net.new returns.new }
     ensures room { KeepsRoom returns.old returns.new }
     ensures teams { vec_len returns.new.teams ≡ vec_len returns.old.teams + 1 }
+    ensures rules { vec_len returns.new.rules ≡ vec_len returns.old.rules + 1 }
     ensures tallies { vec_len returns.new.tallies ≡ vec_len returns.old.tallies + 1 }
     ensures few { vec_len returns.new.faults ≤ vec_len returns.old.faults + 1 }
     ensures faults { N.door_faults net.new ≡ N.door_faults net.old }
@@ -75,12 +80,13 @@ fn dismiss<N: Door, C: Clock>(
         dice: _,
     } = worker;
     let Processor {
-        worker: _,
+        worker,
         registry,
         tally,
         fault,
     } = processor;
     returns.teams.push_reserved(registry);
+    returns.rules.push_reserved(worker.plain);
     returns.tallies.push_reserved(tally);
     keep_fault(&mut returns.faults, fault);
     net.leave(link.into_conn());
@@ -94,12 +100,15 @@ pub(crate) fn dismiss_all<N: Door, C: Clock>(
     returns: &mut Returns,
 )
     requires teams { vec_len returns.old.teams + vec_len staff ≤ vec_capacity returns.old.teams }
+    requires rules { vec_len returns.old.rules + vec_len staff ≤ vec_capacity returns.old.rules }
     requires tallies { vec_len returns.old.tallies + vec_len staff ≤ vec_capacity returns.old.tallies }
     requires faults { vec_len returns.old.faults + vec_len staff ≤ vec_capacity returns.old.faults }
     ensures gone { DismissesAll N.Door N.Conn.Source N.Conn.Sink C.Clock runs staff net.old returns.old net.new returns.new }
     ensures room_of_teams { vec_capacity returns.new.teams ≡ vec_capacity returns.old.teams }
+    ensures room_of_rules { vec_capacity returns.new.rules ≡ vec_capacity returns.old.rules }
     ensures room { vec_capacity returns.new.faults ≡ vec_capacity returns.old.faults }
     ensures teams { vec_len returns.new.teams ≡ vec_len returns.old.teams + vec_len staff }
+    ensures rules { vec_len returns.new.rules ≡ vec_len returns.old.rules + vec_len staff }
     ensures few { vec_len returns.new.faults ≤ vec_len returns.old.faults + vec_len staff }
     ensures faults { N.door_faults net.new ≡ N.door_faults net.old }
 {

@@ -1,6 +1,6 @@
 // Why a launcher has no counts.
 ghost use Rattle.std.specs.Prelude.{◌≡◌};
-ghost use Rattle.sk_launcher.specs.Faults.{by_door, by_poll, by_work, status_of};
+ghost use Rattle.sk_launcher.specs.Faults.{by_door, by_poll, by_work, is_away, status_of};
 ghost use Rattle.sk_launcher.specs.declared.launch_fault.LaunchFault.TheVariants.{Memory};
 
 use sk_edge::DoorFault;
@@ -35,6 +35,17 @@ impl LaunchFault {
             LaunchFault::Memory | LaunchFault::Link(LinkFault::Memory) => 5,
             LaunchFault::Door | LaunchFault::Link(_) => 6,
             LaunchFault::Refused(_) | LaunchFault::GenLimit => 7,
+        }
+    }
+
+    /// The server is away: the door gave no connection, or a link failed, or it ended and nothing of a reply had come.
+    pub(crate) fn is_away(&self) -> bool
+        ensures { result ≡ is_away self.now }
+    {
+        match self {
+            LaunchFault::Door | LaunchFault::Link(LinkFault::Failed | LinkFault::Ended) => true,
+            LaunchFault::Link(LinkFault::Unreadable(read)) => read.bytes().is_empty(),
+            _ => false,
         }
     }
 }

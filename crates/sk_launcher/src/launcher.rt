@@ -1,13 +1,14 @@
-// The launcher: it makes the connections, starts the poller and the workers, lets them take their turns in threads, and gives everything back.
-ghost use Rattle.std.specs.Prelude.{◌≡◌, ◌≤◌, ◌<◌, ◌+◌, ◌-◌, ◌^◌, ◌∷◌, ◌++◌, [], IfOk, IfErr, OnOk, OnErr, None, length, map, option_map, option_to_list, true, vec_len, vec_capacity};
+// One launch: it makes the connections, starts the poller and the workers, lets them take their turns in threads, and gives everything back.
+ghost use Rattle.std.specs.Prelude.{◌≡◌, ◌≤◌, ◌<◌, ◌+◌, ◌-◌, ◌^◌, ◌∷◌, ◌++◌, [], IfOk, IfErr, OnErr, OnOk, None, length, map, option_map, option_to_list, true, vec_len, vec_capacity};
 ghost use Rattle.std.specs.List.{list_all};
 ghost use Rattle.sk_base.specs.declared.limits.TheConstants.{MOST_PREFETCH, MOST_WORKERS};
 ghost use Rattle.sk_cron.specs.Offset.{IsOffset};
 ghost use Rattle.sk_launcher.specs.Connections.{Each, Gives, Keeping, classes_of, rules_of};
-ghost use Rattle.sk_launcher.specs.Launching.{Hindered, IsAnswer, hindrance_of};
+ghost use Rattle.sk_launcher.specs.Counting.{total_from};
+ghost use Rattle.sk_launcher.specs.Launching.{Hindered, IsLeastOf, hindrance_of};
 ghost use Rattle.sk_launcher.specs.Faults.{by_poll};
 ghost use Rattle.sk_launcher.specs.Polling.{own_poller};
-ghost use Rattle.sk_launcher.specs.Promises.{Begins, DoneByTeams, Employ, Failed, Fills, FillsSettings, HasOutfits, HasRoom, Launches, RunsProcess, Wire, Works, WorksThrough, told_by};
+ghost use Rattle.sk_launcher.specs.Promises.{Begins, DoneByTeams, Employ, Ended, Failed, Fills, FillsSettings, HasOutfits, HasRoom, IsEmpty, RunsProcess, Wire, Works, WorksThrough, told_by};
 ghost use Rattle.sk_launcher.specs.Seeding.{Seeds, SeedsAll};
 ghost use Rattle.sk_launcher.specs.Teams.{teams_of};
 ghost use Rattle.sk_poller.specs.Loop.{is_loop};
@@ -16,6 +17,7 @@ ghost use Rattle.sk_poller.specs.Stage.{watch_of};
 use crate::dismiss::{Returns, dismiss_all};
 use crate::faults::least;
 use crate::hire::{Outfit, hire_all};
+use crate::launch_end::LaunchEnd;
 use crate::manager::{are_whole, run_on};
 use crate::poller_thread::PollerThread;
 use crate::shared::Shared;
@@ -26,7 +28,7 @@ use sk_base::{Clock, Dice};
 use sk_edge::{Door, PcgDice};
 use sk_link::{Link, WireLink};
 use sk_policy::DelayRule;
-use sk_poller::Poller;
+use sk_poller::{Loop, Poller};
 use sk_resp::Text;
 use sk_worker::Registry;
 use std::alloc::{AllocError, Global};
@@ -74,24 +76,15 @@ fn turns_of(settings: &WorkSettings) -> u64
 }
 
 // Where workers go on until a fault there are no counts: should they come to an end without one, the launcher waits until the process is ended.
-fn settle<R: Wait>(
-    rt: &R,
-    turns: u32,
-    answer: Result<Counts, LaunchFault>,
-) -> Result<Counts, LaunchFault>
-    ensures same { result ≡ answer }
-    ensures turns { IfOk result (λ counts. 0 < turns) }
+fn settle<R: Wait>(rt: &R, turns: u32, end: LaunchEnd) -> LaunchEnd
+    ensures same { result ≡ end }
+    ensures turns { result.fault ≡ None → 0 < turns }
 {
-    match answer {
-        Ok(counts) => {
-            if turns == 0 {
-                for _ in rt.forever() {}
-                unreachable!()
-            }
-            Ok(counts)
-        }
-        Err(fault) => Err(fault),
+    if end.fault.is_none() && turns == 0 {
+        for _ in rt.forever() {}
+        unreachable!()
     }
+    end
 }
 
 // What a launcher has before its first turn: the poller's name, dice and connection, the workers' dice, and room for all that comes back.
@@ -116,7 +109,7 @@ fn make_ready<N: Door, D: Dice>(
         × Gives (told_by N.Door net.old) r.conn (told_by N.Door net.new)) }
     ensures dice { IfOk result (λ r. length r.others.items ≡ settings.now.threads) }
     ensures seeded { IfOk result (λ r. SeedsAll (D.words dice.old) r.own r.others.items (D.words dice.new)) }
-    ensures empty { IfOk result (λ r. (r.returns.teams.items ≡ []) × (r.returns.tallies.items ≡ []) × (r.returns.faults.items ≡ [])) }
+    ensures empty { IfOk result (λ r. IsEmpty r.returns) }
     ensures err { OnErr result (told_by N.Door net.new ≡ told_by N.Door net.old) }
     ensures cause { IfErr result (λ f. Hindered (Failed N.Door net.old net.new) (f ∷ [])) }
     ensures room { IfOk result (λ r. HasRoom teams settings.now.threads r.returns) }
@@ -231,13 +224,14 @@ fn employ<R: Threads + Wait + Sync, N: Door, C: Clock + Send>(
     hired
 }
 
-// The poller gives back its connection, and its fault.
+// The poller gives back its connection, its fault, and its periodic jobs.
 fn dismiss_poller<N: Door, C: Clock>(
     poller: PollerThread<WireLink<N::Conn>, C, PcgDice>,
     net: &mut N,
     faults: &mut Vec<LaunchFault>,
-)
+) -> Vec<Loop>
     requires { vec_len faults.old < vec_capacity faults.old }
+    ensures loops { result.items ≡ poller.poller.loops.items }
     ensures kept { Keeping (told_by N.Door net.old) poller.link.conn (told_by N.Door net.new) }
     ensures given { faults.new.items ≡ faults.old.items ++ option_to_list (option_map by_poll poller.fault) }
     ensures few { vec_len faults.new ≤ vec_len faults.old + 1 }
@@ -245,7 +239,7 @@ fn dismiss_poller<N: Door, C: Clock>(
     ensures faults { N.door_faults net.new ≡ N.door_faults net.old }
 {
     let PollerThread {
-        poller: _,
+        poller,
         link,
         clock: _,
         dice: _,
@@ -256,6 +250,7 @@ fn dismiss_poller<N: Door, C: Clock>(
     if let Some(fault) = fault {
         faults.push_reserved(LaunchFault::from(fault));
     }
+    poller.loops
 }
 
 // The teams that had no worker come back behind the others.
@@ -268,21 +263,35 @@ fn return_teams(mut left: VecDeque<Registry>, teams: &mut Vec<Registry>)
     }
 }
 
-// What came back: the counts of all turns, or a fault with the least status.
-fn answer(returns: Returns) -> (Vec<Registry>, Result<Counts, LaunchFault>)
+// The plain rules that no worker had come back behind the others.
+fn return_rules(mut left: VecDeque<DelayRule>, rules: &mut Vec<DelayRule>)
+    requires { vec_len rules.old + length left.items ≤ vec_capacity rules.old }
+    ensures { rules.new.items ≡ rules.old.items ++ left.items }
+{
+    while let Some(rule) = left.pop_front() {
+        rules.push_reserved(rule);
+    }
+}
+
+// What came back: the teams, the plain rules, and how it ended, by the counts of all turns behind those before it, and a fault with the least status.
+fn answer(before: Counts, returns: Returns) -> (Vec<Registry>, Vec<DelayRule>, LaunchEnd)
     requires { 0 ≤ 1 }
     ensures teams { result.0.items ≡ returns.teams.items }
-    ensures answered { IsAnswer returns.faults.items (map (λ t. t.counts) returns.tallies.items) result.1 }
+    ensures rules { result.1.items ≡ returns.rules.items }
+    ensures counts { result.2.counts ≡ total_from before (map (λ t. t.counts) returns.tallies.items) }
+    ensures fault { IsLeastOf returns.faults.items result.2.fault }
 {
     let Returns {
         teams,
+        rules,
         tallies,
         faults,
     } = returns;
-    match least(faults) {
-        Some(fault) => (teams, Err(fault)),
-        None => (teams, Ok(total(Counts::none(), &tallies))),
-    }
+    let end = LaunchEnd {
+        counts: total(before, &tallies),
+        fault: least(faults),
+    };
+    (teams, rules, end)
 }
 
 // What kept the launcher from having all its workers is one of the faults of all.
@@ -306,17 +315,20 @@ fn run_process<R: Threads + Wait + Sync, N: Door, C: Clock + Send>(
     net: &mut N,
     clock: &C,
     returns: &mut Returns,
-)
+) -> Vec<Loop>
     requires threads { 1 ≤ settings.now.threads }
     requires prefetch { (1 ≤ settings.now.prefetch) × (settings.now.prefetch ≤ MOST_PREFETCH) }
     requires room { (vec_len staff ≡ 0) × (settings.now.threads ≤ vec_capacity staff) }
     requires outfit { HasOutfits settings.now.threads outfit }
     requires begun { poller.taken ≤ 1 }
-    requires empty { (returns.old.teams.items ≡ []) × (returns.old.tallies.items ≡ []) × (returns.old.faults.items ≡ []) }
+    requires empty { IsEmpty returns.old }
     requires returns { HasRoom (length outfit.teams.items) settings.now.threads returns.old }
+    requires paired { length outfit.rules.items ≡ length outfit.teams.items }
     ensures process { RunsProcess N.Door N.Conn.Source N.Conn.Sink C.Clock runs settings.now poller net.old outfit net.new returns.new }
     ensures teams { classes_of returns.new.teams.items ≡ classes_of outfit.teams.items }
     ensures rules { rules_of returns.new.teams.items ≡ rules_of outfit.teams.items }
+    ensures plain { returns.new.rules.items ≡ outfit.rules.items }
+    ensures loops { result.items ≡ poller.poller.loops.items }
     ensures done { DoneByTeams runs outfit returns.new }
     ensures later { N.door_faults net.old ≤ N.door_faults net.new }
 {
@@ -330,71 +342,73 @@ fn run_process<R: Threads + Wait + Sync, N: Door, C: Clock + Send>(
         net,
         clock,
     );
-    dismiss_poller(poller, net, &mut returns.faults);
+    let loops = dismiss_poller(poller, net, &mut returns.faults);
     dismiss_all(alloc, staff, net, returns);
     return_teams(outfit.teams, &mut returns.teams);
+    return_rules(outfit.rules, &mut returns.rules);
     keep_hindrance(hired, &mut returns.faults);
+    loops
 }
 
-/// Starts a poller and as many workers as the settings say, each with a connection, a clock and a dice of its own, and lets them take their turns in
-/// threads. Answers how many turns of the workers came to each answer.
-///
-/// The first worker has the first of the teams and the first of the rules (the rule of classes that have no job), and so on. Once it has joined, a
-/// worker takes as many turns as the settings say, and the poller one more; where they say 0, all go on until a fault. Between two turns the poller
-/// pauses 5,000 ms, and a worker that found no job pauses 1,000 ms. Where a thread meets a fault, each other one ends before its next turn. At the end
-/// each worker without a fault gives back the jobs that it holds; the connections go back to the door, in the order of making, and the teams stand in
-/// their order again, with their rules, whatever came of it.
-///
-/// Two words of `dice` start the poller's own dice, and two more that of each worker, in order.
-///
-/// Errors: of several faults one with the least [`status`](LaunchFault::status).
-pub fn launch<R: Threads + Wait + Sync, N: Door, C: Clock + Send, D: Dice>(
+/// One launch by these settings: its poller and its workers start, take their turns, and give everything back, the periodic jobs and the plain rules
+/// too. Answers how it ended, with the counts of its workers behind those in the sum.
+pub(crate) fn launch_once<R: Threads + Wait + Sync, N: Door, C: Clock + Send, D: Dice>(
     rt: &R,
     alloc: Global,
-    mut settings: WorkSettings,
+    own: &mut WorkSettings,
     teams: &mut Vec<Registry>,
-    rules: Vec<DelayRule>,
+    rules: &mut Vec<DelayRule>,
     net: &mut N,
     clock: &C,
     dice: &mut D,
-) -> Result<Counts, LaunchFault>
-    requires teams { vec_len rules ≡ vec_len teams.old }
+    sum: Counts,
+) -> LaunchEnd
+    requires teams { vec_len rules.old ≡ vec_len teams.old }
     requires few { vec_len teams.old ≤ MOST_WORKERS }
-    requires threads { (1 ≤ settings.threads) × (settings.threads ≤ vec_len teams.old) }
-    requires prefetch { (1 ≤ settings.prefetch) × (settings.prefetch ≤ MOST_PREFETCH) }
-    requires offset { IsOffset settings.offset }
-    requires loops { list_all is_loop settings.loops.items ≡ true }
-    ensures told { Launches N.Door N.Conn.Source N.Conn.Sink D.Dice runs rules net.old dice.old teams.old net.new dice.new teams.new settings result }
+    requires threads { (1 ≤ own.old.threads) × (own.old.threads ≤ vec_len teams.old) }
+    requires prefetch { (1 ≤ own.old.prefetch) × (own.old.prefetch ≤ MOST_PREFETCH) }
+    requires offset { IsOffset own.old.offset }
+    requires loops { list_all is_loop own.old.loops.items ≡ true }
+    ensures told { Ended N.Door N.Conn.Source N.Conn.Sink D.Dice runs rules.old own.old sum
+        net.old dice.old teams.old result net.new dice.new teams.new }
     ensures teams { classes_of teams.new.items ≡ classes_of teams.old.items }
     ensures rules { rules_of teams.new.items ≡ rules_of teams.old.items }
+    ensures plain { rules.new.items ≡ rules.old.items }
+    ensures same { own.new ≡ record own.old { loops = own.new.loops } }
+    ensures loops { own.new.loops.items ≡ own.old.loops.items }
     ensures later { N.door_faults net.old ≤ N.door_faults net.new }
 {
-    let staff = Vec::with_capacity(alloc, settings.threads as usize)?;
-    let ready = make_ready(alloc, &settings, teams.len(), net, dice)?;
+    let Ok(staff) = Vec::with_capacity(alloc, own.threads as usize) else {
+        return LaunchEnd::hindered(sum, LaunchFault::Memory);
+    };
+    let ready = match make_ready(alloc, own, teams.len(), net, dice) {
+        Ok(ready) => ready,
+        Err(fault) => return LaunchEnd::hindered(sum, fault),
+    };
     let Ready {
         ident,
-        own,
+        own: dice,
         others,
         mut returns,
         conn,
     } = ready;
-    let loops = mem::replace(&mut settings.loops, Vec::new(alloc));
+    let loops = mem::replace(&mut own.loops, Vec::new(alloc));
     let poller = start_poller::<N, C>(
         alloc,
-        Poller::new(ident, loops, settings.offset),
+        Poller::new(ident, loops, own.offset),
         conn,
         clock,
-        own,
+        dice,
     );
     let outfit = Outfit {
         teams: VecDeque::from(mem::replace(teams, Vec::new(alloc))),
-        rules: VecDeque::from(rules),
+        rules: VecDeque::from(mem::replace(rules, Vec::new(alloc))),
         dice: others,
     };
-    run_process(
+    own.loops = run_process(
         rt,
         alloc,
-        &settings,
+        own,
         poller,
         staff,
         outfit,
@@ -402,7 +416,8 @@ pub fn launch<R: Threads + Wait + Sync, N: Door, C: Clock + Send, D: Dice>(
         clock,
         &mut returns,
     );
-    let (back, answer) = answer(returns);
+    let (back, plain, end) = answer(sum, returns);
     *teams = back;
-    settle(rt, settings.turns, answer)
+    *rules = plain;
+    settle(rt, own.turns, end)
 }

@@ -21,6 +21,8 @@ pub struct WorkSettings {
     pub offset: i32,
     /// How many jobs a worker holds at most, from 1 to 16.
     pub prefetch: u32,
+    /// For how many seconds in all it waits, between launches, for a server that is away, since it last had a connection; 0: not at all.
+    pub patience: u32,
     /// The periodic jobs.
     pub loops: Vec<Loop>,
 }

@@ -14,7 +14,8 @@ returns-clause-gone g c = (
   ),
   record {
     teams = mapped_end (team_of (λ v. (goal.Job-dyn g v).runs v.1)) _ _ _ c.push_reserved.ensures.items;
-    tallies = c.push_reserved-2.ensures.items;
+    rules = c.push_reserved-2.ensures.items;
+    tallies = c.push_reserved-3.ensures.items;
     faults = c.keep_fault.ensures.faults;
   },
 )

@@ -14,8 +14,10 @@ invariant-loop-worker g l = record {
       (hired_worker g.C.Clock.moments (λ v. (goal.Job-dyn g v).runs v.1) w) gone) l.yielded gone
       × Each (λ a gone b. Keeping a gone.link.conn b) (door_tells (g.N.Door.dialled l.fn.net) (g.N.Door.kept l.fn.net)) gone
       (door_tells (g.N.Door.dialled l.net) (g.N.Door.kept l.net))
-      × AllReturned gone (returned (teams_of (λ v. (goal.Job-dyn g v).runs v.1) l.fn.returns.teams.items) l.fn.returns.tallies.items l.fn.returns.faults.items)
-      (returned (teams_of (λ v. (goal.Job-dyn g v).runs v.1) l.returns.teams.items) l.returns.tallies.items l.returns.faults.items);
+      × AllReturned gone (returned (teams_of (λ v. (goal.Job-dyn g v).runs v.1) l.fn.returns.teams.items) l.fn.returns.rules.items l.fn.returns.tallies.items l.fn.returns.faults.items)
+      (returned (teams_of (λ v. (goal.Job-dyn g v).runs v.1) l.returns.teams.items) l.returns.rules.items l.returns.tallies.items l.returns.faults.items);
+  rules : vec_capacity l.returns.rules ≡ vec_capacity l.fn.returns.rules;
+  some_rules : vec_len l.returns.rules + length l.worker-iterator.rest.items ≡ vec_len l.fn.returns.rules + vec_len l.fn.staff;
   teams : vec_capacity l.returns.teams ≡ vec_capacity l.fn.returns.teams;
   tallies : vec_capacity l.returns.tallies ≡ vec_capacity l.fn.returns.tallies;
   faults : vec_capacity l.returns.faults ≡ vec_capacity l.fn.returns.faults;
