@@ -136,6 +136,23 @@ def a_fault_of_a_worker_ends_the_others():
         assert seconds < 30, seconds
 
 
+def a_lost_launch_is_followed_by_one_of_another_name():
+    """The peer hangs up on the poller at its second turn. With patience `work` launches anew, under the name with a number behind it, and tells the jobs
+    of both; without, that was all."""
+    jobs = iter([JOB % n for n in range(2)])
+
+    def answer(peer, asked):
+        if asked.words[0] == b'SK.BEAT' and len(peer.named(b'SK.BEAT')) == 2:
+            return None
+        job = next(jobs, None) if asked.words[0] == b'LMOVE' else None
+        return b'$%d\r\n%s\r\n' % (len(job), job) if job else usual(peer, asked)
+    with Peer(answer) as peer:
+        status, out, seconds = worked(peer, '--threads', '1', '--turns', '1', '--ident', 'one', '--patience', '1')
+        assert (status, out) == (0, b'done 2 retried 0 buried 0 discarded 0\n'), (status, out)
+        assert [it.words[1] for it in peer.named(b'SK.JOIN')] == [b'one', b'one-2'], peer.named(b'SK.JOIN')
+        assert 11 <= seconds < 30, seconds
+
+
 def gaps(asked):
     return [later.moment - it.moment for it, later in zip(asked, asked[1:])]
 
@@ -171,8 +188,8 @@ def no_pause_between_jobs():
     assert len(fetches) > 200 and fetches[200].moment - fetches[0].moment < 50, len(fetches)
 
 
-TESTS = [workers_fetch_side_by_side, a_fault_of_the_poller_ends_the_workers, a_fault_of_a_worker_ends_the_others, pauses,
-         idle_workers_ask_one_after_another, no_pause_between_jobs]
+TESTS = [workers_fetch_side_by_side, a_fault_of_the_poller_ends_the_workers, a_fault_of_a_worker_ends_the_others,
+         a_lost_launch_is_followed_by_one_of_another_name, pauses, idle_workers_ask_one_after_another, no_pause_between_jobs]
 
 
 def main():

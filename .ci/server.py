@@ -12,6 +12,7 @@ import os
 import random
 import re
 import resource
+import signal
 import socket
 import struct
 import subprocess
@@ -658,6 +659,64 @@ def a_shutdown_with_workers(_):
             worker.wait()
 
 
+def first_line(stream, text, lines=8):
+    """Reads lines until one has this text, and answers it."""
+    for _ in range(lines):
+        line = stream.readline()
+        if text in line:
+            return line
+    raise AssertionError('no line with %r' % text)
+
+
+def patient_work(port, seconds, *words):
+    """`work` that waits so many seconds for its server."""
+    line = [PROGRAM, 'work', '--port', str(port), '--patience', str(seconds), '--threads', '2', *words]
+    return subprocess.Popen(line, stdin=subprocess.DEVNULL, stdout=subprocess.PIPE, stderr=subprocess.PIPE)
+
+
+def a_server_that_comes_back(_):
+    """`work --patience` outlives its server's restart: it tells that the server is away and that it is back, and does the jobs of the new one."""
+    server = Server(None)
+    worker = patient_work(server.port, 60)
+    try:
+        for _again in range(2):
+            ran(server, 'push', 'Note', '[1]')
+            wait_for(lambda: page(server)['processed'] >= 1, lambda: page(server))
+            shut_down(server)
+            first_line(worker.stderr, b' is away, and is waited for, 60 seconds at most\n')
+            server = Server(None, port=server.port)
+            first_line(worker.stderr, b' is back\n', 1)
+        ran(server, 'push', 'Note', '[1]')
+        wait_for(lambda: page(server)['processed'] >= 1, lambda: page(server))
+        assert worker.poll() is None, worker.returncode
+    finally:
+        worker.kill()
+        worker.communicate()
+    assert server.end()[0] == 0
+
+
+def patience_that_ends(_):
+    """Where no server comes in time, `work` ends as without patience: with status 6, behind the seconds that it waits."""
+    began = time.time()
+    worker = patient_work(free_port(), 3, '--turns', '1')
+    out, told = worker.communicate(timeout=SECONDS)
+    assert (worker.returncode, out) == (6, b''), (worker.returncode, out)
+    assert time.time() - began >= 3 and told.count(b' is away') == 1 and b' is back' not in told, told
+
+
+def a_signal_while_it_waits(_):
+    """SIGTERM and SIGINT end `work` at once while it waits for its server."""
+    for number in signal.SIGTERM, signal.SIGINT:
+        worker = patient_work(free_port(), 86_400)
+        try:
+            first_line(worker.stderr, b' is away')
+            worker.send_signal(number)
+            assert worker.wait(5) == -number, worker.returncode
+        finally:
+            worker.kill()
+            worker.communicate()
+
+
 def descriptors_of(process):
     return len(os.listdir('/proc/%d/fd' % process.pid))
 
@@ -899,7 +958,8 @@ def names_used_once(_):
 TESTS = [pipeline, large_reply, single_bytes, one_that_leaves, one_that_never_reads, ends, own_words_of_a_pipe, a_page_of_a_browser,
          lines_that_no_page_sends, a_handshake_of_tls, a_worker_that_dies, many_at_once, taken_port, elsewhere, ids_and_moments, processes,
          started_again, a_process_that_is_killed, defaults, a_reset_behind_the_loops, few_descriptors, too_few_descriptors, a_crowd_and_a_shutdown,
-         a_shutdown_among_clients, a_shutdown_with_workers, connections_leave_no_descriptors, memory_that_is_used_up,
+         a_shutdown_among_clients, a_shutdown_with_workers, a_server_that_comes_back, patience_that_ends, a_signal_while_it_waits,
+         connections_leave_no_descriptors, memory_that_is_used_up,
          a_stack_that_cant_grow, too_few_threads, a_silent_peer, full_log, old_texts_go, many_rows, full_store, names_used_once]
 
 

@@ -271,6 +271,14 @@ impl Notice {
         }
     }
 
+    /// For how many seconds a server that is away is waited for.
+    pub fn patience(&self) -> u32 {
+        match self {
+            Notice::Work(settings) => settings.patience,
+            _ => 0,
+        }
+    }
+
     /// Tells that the system doesn't give the program so many threads.
     pub fn crowded(&self, rt: &HostRuntime, threads: usize) -> io::Result<()> {
         eprintln!(rt;

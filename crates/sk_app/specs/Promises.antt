@@ -16,7 +16,7 @@ use Rattle.sk_edge.specs.declared.door.Door as a_door
 use Rattle.sk_edge.specs.declared.door.Ear as an_ear
 use Rattle.sk_resp.specs.Spelling.{Bytes}
 use Rattle.sk_link.specs.Call.{Call}
-use Rattle.sk_launcher.specs.Promises.{LaunchesBy}
+use Rattle.sk_launcher.specs.Promises.{LaunchesAll}
 use Rattle.sk_launcher.specs.declared.counts.Counts.{Counts}
 use Rattle.sk_launcher.specs.declared.launch_fault.LaunchFault.{LaunchFault}
 use Rattle.sk_launcher.specs.declared.work_settings.WorkSettings.{WorkSettings}
@@ -116,13 +116,13 @@ module _ {N Conn Ear C : Type 0} (Door : a_door.Ghosts N Conn Ear) (OfEar : an_e
 -- ## work
 
 module _ {Rule Job : Type 0} {OfRule : Rule → Type 0} {OfJob : Job → Type 0} {Delays : Mut ((rule : Rule) × OfRule rule) (ℕ × Unit {0}) ℕ} where
-  -- What a launcher did with a door and teams, by these settings and plain rules, whatever words its dice was going to give.
+  -- What launches did with a door and teams, by these settings and plain rules, whatever words their dice was going to give.
   abbrev pub LaunchesTeams : {N Conn Ear : Type 0} → a_door.Ghosts N Conn Ear → a_source.Ghosts Conn → a_sink.Ghosts Conn →
       ((job : Job) × OfJob job → Option (List Run)) → Vec (DelayRule Rule OfRule Delays) Global →
       N → Vec (Registry Job Rule OfJob OfRule Delays) Global → N → Vec (Registry Job Rule OfJob OfRule Delays) Global →
       WorkSettings → Result Counts LaunchFault → Type 0
   LaunchesTeams Door Source Sink runs rules net teams net_after teams_after settings how = (words words_after : Option (ℕ → ℕ))
-      × LaunchesBy Door Source Sink runs words words_after rules net teams net_after teams_after settings how
+      × LaunchesAll Door Source Sink runs words words_after rules net teams net_after teams_after settings how
 
   -- What `work` did for these words with a door and teams, and with these plain rules, and came to.
   abbrev pub DoWork : {N Conn Ear A : Type 0} → a_door.Ghosts N Conn Ear → a_source.Ghosts Conn → a_sink.Ghosts Conn →

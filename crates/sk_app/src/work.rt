@@ -1,4 +1,5 @@
-// The program `work`: its words are read, a poller and workers take their turns over connections of their own, and how the turns ended is written.
+// The program `work`: its words are read, a poller and workers take their turns over connections of their own, anew where their server went away and
+// there is patience, and how the turns ended is written.
 ghost use Rattle.std.specs.Prelude.{◌≡◌, ◌≤◌, Err, IfOk, vec_len};
 ghost use Rattle.sk_base.specs.Outside.{Rose};
 ghost use Rattle.sk_base.specs.declared.limits.TheConstants.{MOST_WORKERS};

@@ -12,6 +12,7 @@ use Rattle.sk_policy.specs.declared.order_fault.OrderFault.{OrderFault}
 use Rattle.sk_policy.specs.declared.order_fault.OrderFault.TheVariants as order_fault
 use Rattle.sk_poller.specs.Loop.{is_loop}
 use Rattle.sk_poller.specs.declared.poller.Loop.{Loop}
+use Rattle.sk_line.specs.declared.work_line.TheConstants.{MOST_PATIENCE}
 use Rattle.sk_line.specs.Lines.{IsAddress, IsLine, addressed}
 use Rattle.sk_line.specs.Options.{flag, positionals, with_default}
 use Rattle.sk_line.specs.Values.{Has, IsNamed, IsNumber}
@@ -102,10 +103,10 @@ pub record IsOffsetText (text : Text) (value : ℤ) : Type 0 where
 -- ## The line
 
 abbrev pub work_app : App
-work_app = with_rule (with_rule (with_rule (with_rule (with_rule (with_rule (with_rule (with_rule (addressed (new_app (codes "work")))
+work_app = with_rule (with_rule (with_rule (with_rule (with_rule (with_rule (with_rule (with_rule (with_rule (addressed (new_app (codes "work")))
     (with_default (codes "ident") (codes "local:1:0"))) (with_default (codes "queues") (codes "default"))) (flag (codes "strict")))
     (with_default (codes "threads") (codes "4"))) (with_default (codes "turns") (codes "0"))) (with_default (codes "offset") (codes "1439")))
-    (with_default (codes "prefetch") (codes "1"))) (positionals (codes "CRON"))
+    (with_default (codes "prefetch") (codes "1"))) (with_default (codes "patience") (codes "0"))) (positionals (codes "CRON"))
 
 -- The values, where there are so many teams.
 pub record IsWorkValues (teams : ℕ) (rows : List Row) (settings : WorkSettings) : Type 0 where
@@ -116,6 +117,7 @@ pub record IsWorkValues (teams : ℕ) (rows : List Row) (settings : WorkSettings
   pub turns : Has (IsNumber 0 (2 ^ 32 - 1)) rows (codes "turns") settings.turns
   pub offset : Has IsOffsetText rows (codes "offset") settings.offset
   pub prefetch : Has (IsNumber 1 MOST_PREFETCH) rows (codes "prefetch") settings.prefetch
+  pub patience : Has (IsNumber 0 MOST_PATIENCE) rows (codes "patience") settings.patience
   pub loops : AllZip IsLoop (words_in rows (codes "CRON")) settings.loops.items
 
 -- The words, which begin with `work`, ask for this, where there are so many teams.

@@ -33,6 +33,9 @@ pub const OFFSET: &str = "1439";
 /// How many jobs a worker holds at most: each as it comes, so that a worker that dies leaves one job to be rescued.
 pub const PREFETCH: &str = "1";
 
+/// For how many seconds `work` waits for a server that is away: not at all, so that whoever watches it knows at once.
+pub const PATIENCE: &str = "0";
+
 /// After how many items of an iteration its cursor is saved: a cut costs at most so many items that are done twice.
 pub const EVERY: &str = "100";
 

@@ -100,6 +100,9 @@ pub const OFFSET_HELP: &str =
 
 pub const PREFETCH_HELP: &str = "How many jobs a worker holds at a time, 1 to 16";
 
+pub const PATIENCE_HELP: &str =
+    "How long it waits for a server that is away, in seconds, 0 to 86400; each return counts anew";
+
 pub const CRON_HELP: &str = "A periodic job, one word: 'MINUTE HOUR DAY MONTH WEEKDAY CLASS QUEUE'";
 
 pub const KIND_HELP: &str =

@@ -5,8 +5,8 @@ use crate::drill_line::{MOST_CRASHES, MOST_DRILLED};
 use crate::help_lines::{
     ARGS_HELP, AT_HELP, CLASS_HELP, CRASHES_HELP, CRON_HELP, DRILL_JOBS_HELP, EVERY_HELP,
     IDENT_HELP, ITEMS_HELP, JID_HELP, JOBS_HELP, KIND_HELP, LIMITER_HELP, LOG_HELP, LOOPS_HELP,
-    MILLIS_HELP, MOST_HELP, MOST_ITEMS_HELP, OFFSET_HELP, PORT_HELP, PREFETCH_HELP, QUEUE_HELP,
-    QUEUES_HELP, RETRY_FOR_HELP, RETRY_HELP, SEED_HELP, SERVE_PORT_HELP, SESSIONS_HELP,
+    MILLIS_HELP, MOST_HELP, MOST_ITEMS_HELP, OFFSET_HELP, PATIENCE_HELP, PORT_HELP, PREFETCH_HELP,
+    QUEUE_HELP, QUEUES_HELP, RETRY_FOR_HELP, RETRY_HELP, SEED_HELP, SERVE_PORT_HELP, SESSIONS_HELP,
     THREADS_HELP, TURNS_HELP, UNIQUE_HELP, WORKERS_HELP,
 };
 use crate::iterate_line::{MOST_EVERY, MOST_ITERATED};
@@ -18,6 +18,7 @@ use crate::value::{
     args_of, name_of, number_of, path_of, retry_of, score_of, seconds_of, seed_of, text_in,
     words_in,
 };
+use crate::work_line::MOST_PATIENCE;
 use clap::ArgMatches;
 use sk_base::limits::{
     LAST_OFFSET, LONGEST_ID, LONGEST_NAME, MOST_LOOPS_SERVED, MOST_PREFETCH, MOST_WORKERS,
@@ -108,6 +109,7 @@ fn of_team<'a>(matches: &ArgMatches<'a>) -> Option<Breach<'a>> {
         .or(number_breach(matches, "--turns", TURNS_HELP, 0, u32::MAX))
         .or(number_breach(matches, "--offset", OFFSET_HELP, 0, offset))
         .or(number_breach(matches, "--prefetch", PREFETCH_HELP, 1, prefetch))
+        .or(number_breach(matches, "--patience", PATIENCE_HELP, 0, MOST_PATIENCE))
 }
 
 fn of_work<'a>(alloc: Global, matches: &ArgMatches<'a>) -> Option<Breach<'a>> {

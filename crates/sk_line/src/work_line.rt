@@ -1,5 +1,5 @@
 // The command line of `work`: `work [--host HOST] [--port PORT] [--ident NAME] [--queues NAME[:WEIGHT],..] [--strict] [--threads COUNT] [--turns COUNT]
-// [--offset MINUTES] [--prefetch COUNT] [CRON ..]`, where a CRON is one word: five fields of a cron text, a class and a queue.
+// [--offset MINUTES] [--prefetch COUNT] [--patience SECONDS] [CRON ..]`, where a CRON is one word: five fields of a cron text, a class and a queue.
 ghost use Rattle.std.specs.Prelude.{◌≡◌, ◌≤◌, IfOk, codes, map, string_bytes};
 ghost use Rattle.clap.specs.Words.{app_of, found_of, rows_of};
 ghost use Rattle.sk_line.specs.Lines.{Reads};
@@ -9,10 +9,10 @@ ghost use Rattle.sk_line.specs.Work.{IsOffsetText, IsWork, IsWorkValues, work_ap
 use crate::LineFault;
 use crate::address::{address_of, addressed};
 use crate::cron_words::loops_of;
-use crate::defaults::{IDENT, OFFSET, PREFETCH, QUEUE, THREADS, TURNS};
+use crate::defaults::{IDENT, OFFSET, PATIENCE, PREFETCH, QUEUE, THREADS, TURNS};
 use crate::help_lines::{
-    CRON_HELP, IDENT_HELP, OFFSET_HELP, PREFETCH_HELP, QUEUES_HELP, STRICT_HELP, THREADS_HELP,
-    TURNS_HELP,
+    CRON_HELP, IDENT_HELP, OFFSET_HELP, PATIENCE_HELP, PREFETCH_HELP, QUEUES_HELP, STRICT_HELP,
+    THREADS_HELP, TURNS_HELP,
 };
 use crate::matches::matches_of;
 use crate::option::{Options, flag, positionals, with_default};
@@ -22,6 +22,9 @@ use clap::{ArgMatches, Command};
 use sk_base::limits::{LAST_OFFSET, LONGEST_NAME, MOST_PREFETCH, OFFSET_UTC};
 use sk_launcher::WorkSettings;
 use std::alloc::Global;
+
+/// For how many seconds `work` waits at most for a server that is away: a day.
+pub const MOST_PATIENCE: u32 = 86_400;
 
 /// The options of `work`.
 pub fn work_command<'a>(alloc: Global) -> Options<'a>
@@ -35,6 +38,7 @@ pub fn work_command<'a>(alloc: Global) -> Options<'a>
     let options = with_default(alloc, options, "turns", TURNS, TURNS_HELP);
     let options = with_default(alloc, options, "offset", OFFSET, OFFSET_HELP);
     let options = with_default(alloc, options, "prefetch", PREFETCH, PREFETCH_HELP);
+    let options = with_default(alloc, options, "patience", PATIENCE, PATIENCE_HELP);
     positionals(alloc, options, "CRON", CRON_HELP)
 }
 
@@ -58,6 +62,7 @@ fn settings_of(
     let turns = number_of(matches, "turns", 0, u32::MAX)?;
     let offset = offset_of(matches)?;
     let prefetch = number_of(matches, "prefetch", 1, MOST_PREFETCH as u32)?;
+    let patience = number_of(matches, "patience", 0, MOST_PATIENCE)?;
     let address = address_of(alloc, matches)?;
     let ident = name_of(alloc, matches, "ident", LONGEST_NAME)?;
     let order = order_of(alloc, matches)?;
@@ -70,6 +75,7 @@ fn settings_of(
         turns,
         offset,
         prefetch,
+        patience,
         loops,
     })
 }

@@ -22,5 +22,8 @@ returns-in_err-offset c = passed _ _ c.from_residual-in_err-offset.ensures.1 c.i
 pub returns-in_err-prefetch : goal.returns-in_err-prefetch
 returns-in_err-prefetch c = passed _ _ c.from_residual-in_err-prefetch.ensures.1 c.in_err-prefetch.ensures (λ settings p. (settings.prefetch, p.prefetch))
 
+pub returns-in_err-patience : goal.returns-in_err-patience
+returns-in_err-patience c = passed _ _ c.from_residual-in_err-patience.ensures.1 c.in_err-patience.ensures (λ settings p. (settings.patience, p.patience))
+
 pub returns-in_err-loops : goal.returns-in_err-loops
 returns-in_err-loops c = passed _ _ c.from_residual-in_err-loops.ensures.1 c.in_err-loops.ensures (λ settings p. (settings.loops.items, p.loops))
