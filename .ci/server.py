@@ -671,7 +671,9 @@ def first_line(stream, text, lines=8):
 def patient_work(port, seconds, *words):
     """`work` that waits so many seconds for its server."""
     line = [PROGRAM, 'work', '--port', str(port), '--patience', str(seconds), '--threads', '2', *words]
-    return subprocess.Popen(line, stdin=subprocess.DEVNULL, stdout=subprocess.PIPE, stderr=subprocess.PIPE)
+    # (who runs this in the background may have it ignore SIGINT, which its children would, too)
+    heed = lambda: signal.signal(signal.SIGINT, signal.SIG_DFL)
+    return subprocess.Popen(line, stdin=subprocess.DEVNULL, stdout=subprocess.PIPE, stderr=subprocess.PIPE, preexec_fn=heed)
 
 
 def a_server_that_comes_back(_):
