@@ -1,10 +1,10 @@
 -- What a book that logs tells of its writing.
 use Rattle.std.specs.Prelude.{◌≡◌, ℕ, List, [], ◌∷◌, Option, None, Some, Bool, true, false}
-use mathlib.Core.List.{IsPrefix}
 use Rattle.sk_log.specs.File.{Body}
 use Rattle.sk_commit.specs.Shared.{Backed}
 use Rattle.sk_model.specs.Event.{Event}
-use Rattle.sk_desk.specs.Writing.{Writing}
+use Rattle.sk_model.specs.World.{World}
+use Rattle.sk_desk.specs.Writing.{IsWritten, Writing}
 use Rattle.sk_aof.specs.Bodies.{MayStand, body_of}
 
 -- The body is the event's, which may stand in a file.
@@ -16,16 +16,24 @@ abbrev pub writing_in : Bool → Backed → Option Writing
 writing_in true backed = None
 writing_in false backed = Some (record { bodies = backed.history; draft = backed.draft })
 
+-- They are what a log keeps of some run from the start.
+abbrev pub IsKeptLog : World → List Body → Type 0
+IsKeptLog start bodies = (w : World) × IsWritten SpellsBody start w bodies
+
+-- This holds of them, and of no others.
+abbrev pub TellsOf : World → (List Body → Type 0) → Type 0
+TellsOf start Holds = (bodies : List Body) → (IsKeptLog start bodies → Holds bodies) × (Holds bodies → IsKeptLog start bodies)
+
 -- what was stored when a settler last settled, and how often it has settled and failed to
 pub record SettlerView : Type 0 where
   pub durable : Option (List Body)
   pub settled : ℕ
   pub faults : ℕ
 
--- What was stored begins with these.
-abbrev pub IsStoredIn : List Body → Option (List Body) → Type 0
-IsStoredIn bodies None = ⊥
-IsStoredIn bodies (Some durable) = IsPrefix bodies durable
+-- What was stored is what a log keeps of some run from the start.
+abbrev pub KeepsLog : World → Option (List Body) → Type 0
+KeepsLog start None = ⊥
+KeepsLog start (Some durable) = IsKeptLog start durable
 
 -- A command's draft waits behind what was written.
 pub record HasDraft (event : Event) (old new : Option Writing) : Type 0 where

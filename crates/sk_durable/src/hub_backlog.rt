@@ -1,8 +1,7 @@
 // A shared store as the place where a leader finds what waits to be stored.
-ghost use Rattle.std.specs.Prelude.{◌≡◌, List, ℕ, IfSome};
-ghost use Rattle.sk_desk.specs.Writing.{IsWritten, WroteSome};
-ghost use Rattle.sk_model.specs.World.{World};
-ghost use Rattle.sk_durable.specs.Writes.{SpellsBody};
+ghost use Rattle.std.specs.Prelude.{◌≡◌, IfSome};
+ghost use Rattle.sk_desk.specs.Writing.{WroteSome};
+ghost use Rattle.sk_durable.specs.Writes.{SpellsBody, TellsOf};
 
 use crate::LogBook;
 use sk_commit::{Backlog, LogId, Prefix, Taken};
@@ -11,31 +10,35 @@ use sk_log::Group;
 use std::marker::Model;
 use std::sync::Wait;
 
-/// The backlog of a store whose events are logged: of each history that leaders take it holds that it is what a log keeps of a run from the start.
+/// The backlog of a store whose events are logged. What holds of each history that leaders take is that it is what a log keeps of a run from the start.
 #[derive(Drop)]
 pub struct HubBacklog<'a, I: HubId, J: LogId> {
     hub: &'a Hub<I, LogBook<J>>,
 }
 
 impl<'a, I: HubId, J: LogId> Model for HubBacklog<'a, I, J> {
-    ghost use Rattle.std.specs.Prelude.{List, ℕ};
-    ghost use Rattle.sk_desk.specs.Writing.{IsWritten};
-    ghost use Rattle.sk_model.specs.World.{World};
-    ghost use Rattle.sk_durable.specs.Writes.{SpellsBody};
+    ghost use Rattle.sk_durable.specs.Writes.{TellsOf};
 
     ghost Value = { Unit {0} };
 
     ghost view = { λ b. tt };
 
-    ghost invariant = { λ b. (w : World) (bodies : List (List ℕ)) → IsWritten SpellsBody I.start w bodies → J.holds bodies };
+    ghost invariant = { λ b. TellsOf I.start J.holds };
 }
 
 impl<'a, I: HubId, J: LogId> HubBacklog<'a, I, J> {
     /// The backlog of this store.
     pub fn new(hub: &'a Hub<I, LogBook<J>>) -> HubBacklog<'a, I, J>
-        requires { (w : World) (bodies : List (List ℕ)) → IsWritten SpellsBody I.start w bodies → J.holds bodies }
+        requires { TellsOf I.start J.holds }
     {
         HubBacklog { hub }
+    }
+
+    /// What holds of a history that leaders take.
+    pub fn sound(&self)
+        ensures { TellsOf I.start J.holds }
+    {
+        let _ = &self.hub;
     }
 
     /// All that was logged so far. None where nothing can be logged any more.

@@ -1,8 +1,8 @@
 // The book of a store whose events are logged: a record for each command that may have changed the store, and for each cut, in the order in which the
 // store did them. They wait here until a leader takes them to the file.
-ghost use Rattle.std.specs.Prelude.{◌≡◌, [], true, None, Some, OnOk, OnErr, refl};
+ghost use Rattle.std.specs.Prelude.{◌≡◌, [], true, None, Some, IfSome, OnOk, OnErr, refl};
 ghost use Rattle.sk_commit.specs.Shared.{backed};
-ghost use Rattle.sk_desk.specs.Writing.{IsIdle, nothing_written};
+ghost use Rattle.sk_desk.specs.Writing.{IsIdle, WroteUpTo, nothing_written};
 ghost use Rattle.sk_model.specs.Event.{Ask, Cut};
 ghost use Rattle.sk_aof.specs.Bodies.{body_of};
 ghost use Rattle.sk_durable.specs.Writes.{HasDraft, SpellsBody};
@@ -125,14 +125,24 @@ impl<J: LogId> Outbox for LogBook<J> {
 
     ghost marks = { λ mark bodies. mark ≡ bodies };
 
-    fn take(&mut self, spare: Group) -> Option<Taken<J>> {
+    /// None only where nothing can be written any more.
+    fn take(&mut self, spare: Group) -> Option<Taken<J>>
+        requires { IsIdle self.old }
+        ensures same { self.new ≡ self.old }
+        ensures batch { IfSome result (λ batch. WroteUpTo (λ bodies. batch ≡ bodies) self.old) }
+        ensures none { result ≡ None → self.old ≡ None }
+    {
         if self.ended {
             return None;
         }
         Some(self.pending.take(spare))
     }
 
-    fn mark(&self) -> Option<Prefix<J>> {
+    /// None only where nothing can be written any more.
+    fn mark(&self) -> Option<Prefix<J>>
+        ensures mark { IfSome result (λ mark. WroteUpTo (λ bodies. mark ≡ bodies) self.now) }
+        ensures none { result ≡ None → self.now ≡ None }
+    {
         if self.ended {
             return None;
         }

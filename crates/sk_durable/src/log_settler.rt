@@ -1,10 +1,8 @@
 // The settler of one connection to a store whose events are logged.
 ghost use Rattle.std.specs.Prelude.{◌≡◌, None, IfSome, OnOk};
 ghost use Rattle.sk_base.specs.Outside.{HasCause};
-ghost use Rattle.sk_desk.specs.Writing.{WroteSome};
 ghost use Rattle.sk_held.specs.Counts.{CountsOks};
-ghost use Rattle.sk_durable.specs.Writes.{SpellsBody, IsStoredIn};
-ghost use mathlib.Core.List.{IsPrefix};
+ghost use Rattle.sk_durable.specs.Writes.{IsKeptLog, KeepsLog};
 
 use crate::HubBacklog;
 use sk_base::Failed;
@@ -56,9 +54,9 @@ impl<'a, R: Wait, D: Disk + Drop, I: HubId, J: LogId> LogSettler<'a, R, D, I, J>
 
     // Has stored what is logged by now.
     fn store(&self) -> Option<Durable<J>>
-        ensures has { IfSome result (λ durable. WroteSome SpellsBody I.start (λ bodies. IsPrefix bodies durable)) }
-        ensures holds { IfSome result (λ durable. J.holds durable) }
+        ensures { IfSome result (λ durable. IsKeptLog I.start durable) }
     {
+        self.backlog.sound();
         let me = self.backlog.mark(self.rt)?;
         self.committer.settle(self.rt, self.backlog, &me)
     }
@@ -69,12 +67,12 @@ impl<'a, R: Wait, D: Disk + Drop, I: HubId, J: LogId> Settler for LogSettler<'a,
 
     ghost settle_faults = { λ s. s.faults };
 
-    /// What is stored then is what a log keeps of a run of the store from the start, and all that was logged when it was called is in it.
+    /// What is stored then is what a log keeps of a run of the store from the start. By the order of its steps, and no clause, all that was logged when it
+    /// was called is in that. It fails for good once the log has ended: where the disk fails, the file is full, or nothing can be logged any more.
     fn settle(&mut self) -> Result<(), Failed>
         ensures counts { CountsOks self.old.settled self.new.settled result }
         ensures cause { HasCause self.old.faults self.new.faults result }
-        ensures stored { OnOk result (WroteSome SpellsBody I.start (λ bodies. IsStoredIn bodies self.new.durable)) }
-        ensures holds { OnOk result (IfSome self.new.durable (λ durable. J.holds durable)) }
+        ensures stored { OnOk result (KeepsLog I.start self.new.durable) }
     {
         let Some(durable) = self.store() else {
             self.faults = self.faults.saturating_add(1);
