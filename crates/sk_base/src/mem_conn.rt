@@ -64,4 +64,6 @@ impl Duplex for MemConn {
     ghost writes_apart = { λ c. refl };
 }
 
-impl Conn for MemConn {}
+impl Conn for MemConn {
+    ghost steady = { λ _ _. refl };
+}

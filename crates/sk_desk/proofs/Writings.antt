@@ -12,17 +12,15 @@ use Rattle.sk_cmd.specs.declared.command.Command.{Command}
 use Rattle.sk_cmd.specs.declared.command.Command.TheVariants as command
 use Rattle.sk_cmd.specs.declared.command.PlainCommand.{PlainCommand}
 use Rattle.sk_cmd.specs.declared.command.PlainCommand.TheVariants as plain
-use Rattle.sk_model.specs.Change.{moment_after, passed, perform}
+use Rattle.sk_model.specs.Change.{moment_after, perform}
 use Rattle.sk_model.specs.Event.{Ask, Cut, Event, Happens, Reaches, Step, after, world_after}
 use Rattle.sk_model.specs.Outcome.{Outcome}
 use Rattle.sk_model.specs.Reading.{Words}
 use Rattle.sk_model.specs.Replay.{Entry, Idles, Written, acted, entry_of}
-use Rattle.sk_model.specs.Step.{MayComeTo, by_seat, cut, outcome, run as run_script}
-use Rattle.sk_model.specs.World.{World, phase_of}
-use Rattle.sk_model.proofs.Replay.Calm.{Calm}
-use Rattle.sk_model.proofs.Replay.CalmCommands.{calm_by_seat, calm_run}
+use Rattle.sk_model.specs.Step.{MayComeTo, cut, outcome}
+use Rattle.sk_model.specs.World.{World}
 use Rattle.sk_model.proofs.Replay.NullMoves.{null_moves_idle}
-use Rattle.sk_model.proofs.Replay.Quiet.{quiet_by_seat}
+use Rattle.sk_model.proofs.Replay.Replaying.{error_still, quiet_still}
 use Rattle.sk_model.proofs.Theorems.Runs.{leads_on}
 use Rattle.sk_desk.specs.declared.stamp.Effect.{Effect}
 use Rattle.sk_desk.specs.declared.stamp.Effect.TheVariants as effect
@@ -30,18 +28,6 @@ use Rattle.sk_desk.specs.declared.stamp.Stamp.{Stamp}
 use Rattle.sk_desk.specs.Writing.{Drafts, IsDraft, IsIdle, IsKeptUp, IsWritten, Settles, Spelling, SpellsAll, Writing, WritesCut, WroteSome, WroteUpTo, nothing_written, effect_of, effect_of_plain, idles_at, is_null, moves_or_changes}
 
 -- ## A command that changes nothing
-
-calm_still : (w : World) (o : Outcome) → Calm w o → is_error o.reply ≡ true → perform w o.changes ≡ w
-calm_still w o (inl ok) error = absurd (cc (ok, error))
-calm_still w o (inr same) error = same
-
-error_still : (w : World) (seat now : ℕ) (c : Command) → is_error (outcome w seat now c).reply ≡ true → perform w (outcome w seat now c).changes ≡ passed now w
-error_still w seat now (command.Plain c) error = calm_still (passed now w) (by_seat (passed now w) seat (phase_of w seat) c) (calm_by_seat (passed now w) seat (phase_of w seat) c) error
-error_still w seat now (command.Script c) error = calm_still (passed now w) (run_script (passed now w) seat (phase_of w seat) c) (calm_run (passed now w) seat (phase_of w seat) c) error
-
-quiet_still : (w : World) (seat now : ℕ) (c : Command) → is_quiet c ≡ true → perform w (outcome w seat now c).changes ≡ passed now w
-quiet_still w seat now (command.Plain c) quiet = quiet_by_seat (passed now w) seat (phase_of w seat) c quiet
-quiet_still w seat now (command.Script c) quiet = absurd (cc quiet)
 
 null_is : (answer : Reply) → is_null answer ≡ true → answer ≡ reply.Null
 null_is reply.Null is = refl

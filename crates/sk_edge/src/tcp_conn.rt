@@ -218,7 +218,9 @@ impl Duplex for TcpConn {
     ghost writes_apart = { λ _. refl };
 }
 
-impl Conn for TcpConn {}
+impl Conn for TcpConn {
+    ghost steady = { λ _ _. refl };
+}
 
 /// What was gathered is sent, where that can be. Then it is closed, and no ear shuts it down any more.
 impl Drop for TcpConn {

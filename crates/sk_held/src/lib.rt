@@ -3,11 +3,9 @@
 
 mod held_conn;
 mod held_id;
-mod holdable;
 mod outlet;
 mod settler;
 
 pub use held_conn::HeldConn;
 pub use held_id::HeldId;
-pub use holdable::Holdable;
 pub use settler::Settler;

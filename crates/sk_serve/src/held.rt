@@ -4,15 +4,15 @@ ghost use Rattle.sk_held.specs.Holding.{IsSince};
 ghost use Rattle.sk_serve.specs.HeldSession.{IsHeldSession};
 
 use crate::{SessionEnd, session};
-use sk_base::{Clock, Failed};
+use sk_base::{Clock, Conn, Failed};
 use sk_desk::Desk;
-use sk_held::{HeldConn, HeldId, Holdable, Settler};
+use sk_held::{HeldConn, HeldId, Settler};
 use std::alloc::Global;
 use std::marker::Brand;
 
 /// What a session over a held connection leaves.
 #[derive(Drop)]
-pub struct HeldEnd<C: Holdable, W: Settler> {
+pub struct HeldEnd<C: Conn, W: Settler> {
     pub conn: C,
     pub settler: W,
     pub end: SessionEnd,
@@ -21,7 +21,7 @@ pub struct HeldEnd<C: Holdable, W: Settler> {
 }
 
 // The session, over a connection that stands as its id tells.
-fn hold<D: Desk, C: Holdable, K: Clock, W: Settler, I: HeldId>(
+fn hold<D: Desk, C: Conn, K: Clock, W: Settler, I: HeldId>(
     alloc: Global,
     desk: &mut D,
     conn: C,
@@ -46,7 +46,7 @@ fn hold<D: Desk, C: Holdable, K: Clock, W: Settler, I: HeldId>(
 
 /// Does the commands of a connection as [`session`] does, and hands its replies on only once the settler says that all is stored: before each read,
 /// and at the end.
-pub fn held_session<D: Desk, C: Holdable, K: Clock, W: Settler>(
+pub fn held_session<D: Desk, C: Conn, K: Clock, W: Settler>(
     alloc: Global,
     desk: &mut D,
     conn: C,

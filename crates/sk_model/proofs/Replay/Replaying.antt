@@ -96,11 +96,11 @@ calm_still w o (inl ok) error = absurd (cc (ok, error))
 calm_still w o (inr same) error = same
 
 -- After an error time alone has gone on, and after a quiet command.
-error_still : (w : World) (seat now : ℕ) (c : Command) → is_error (outcome w seat now c).reply ≡ true → perform w (outcome w seat now c).changes ≡ passed now w
+pub error_still : (w : World) (seat now : ℕ) (c : Command) → is_error (outcome w seat now c).reply ≡ true → perform w (outcome w seat now c).changes ≡ passed now w
 error_still w seat now (command.Plain c) error = calm_still (passed now w) (by_seat (passed now w) seat (phase_of w seat) c) (calm_by_seat (passed now w) seat (phase_of w seat) c) error
 error_still w seat now (command.Script c) error = calm_still (passed now w) (run_script (passed now w) seat (phase_of w seat) c) (calm_run (passed now w) seat (phase_of w seat) c) error
 
-quiet_still : (w : World) (seat now : ℕ) (c : Command) → is_quiet c ≡ true → perform w (outcome w seat now c).changes ≡ passed now w
+pub quiet_still : (w : World) (seat now : ℕ) (c : Command) → is_quiet c ≡ true → perform w (outcome w seat now c).changes ≡ passed now w
 quiet_still w seat now (command.Plain c) quiet = quiet_by_seat (passed now w) seat (phase_of w seat) c quiet
 quiet_still w seat now (command.Script c) quiet = absurd (cc quiet)
 
