@@ -164,6 +164,7 @@ where
         Some(Program::Iterate) => run_question::<K, N, IterateLine>(alloc, words, sink, net),
         Some(Program::Drill) => run_drill(rt, alloc, words, teams, rules, sink),
         Some(Program::LogPipe) => run_log_pipe(alloc, words, source, sink, shelf),
+        Some(Program::LogServe) => 2,
         None => run_pipe(alloc, words, source, sink),
     }
 }

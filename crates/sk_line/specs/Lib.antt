@@ -4,6 +4,7 @@ pub mod Lines
 pub mod Push
 pub mod Soak
 pub mod Log
+pub mod LogServe
 pub mod Drill
 pub mod Work
 pub mod Limit

@@ -1,9 +1,9 @@
 // What help (`--help`) says of each subcommand, with an example, and of each of its options: what it is, with its unit and its range.
 
 pub const SERVE_ABOUT: &str =
-    "Serves the store at a port of this machine, to clients of Redis and to `work`.
+    "Serves the store at a port of this machine, to clients of Redis and to `work`. With --log the store is kept in a file.
 
-Example: sidekiq serve --port 7419";
+Example: sidekiq serve --port 7419 --log jobs.log";
 
 pub const WORK_ABOUT: &str =
     "Runs the jobs of a server's queues, and sends those that are due there.
@@ -84,6 +84,9 @@ pub const LOOPS_HELP: &str = "How many connections it serves at a time, 1 to 64;
 
 pub const SESSIONS_HELP: &str =
     "How many connections each loop serves before it ends, 1 to 4294967295; 0: all that come";
+
+pub const SERVE_LOG_HELP: &str =
+    "The file that keeps the store: what was answered outlives a crash; left out, all is kept in memory";
 
 pub const IDENT_HELP: &str = "The process, by a name that never comes back; left out, a new one";
 

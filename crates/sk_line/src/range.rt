@@ -6,8 +6,8 @@ use crate::help_lines::{
     ARGS_HELP, AT_HELP, CLASS_HELP, CRASHES_HELP, CRON_HELP, DRILL_JOBS_HELP, EVERY_HELP,
     IDENT_HELP, ITEMS_HELP, JID_HELP, JOBS_HELP, KIND_HELP, LIMITER_HELP, LOG_HELP, LOOPS_HELP,
     MILLIS_HELP, MOST_HELP, MOST_ITEMS_HELP, OFFSET_HELP, PATIENCE_HELP, PORT_HELP, PREFETCH_HELP,
-    QUEUE_HELP, QUEUES_HELP, RETRY_FOR_HELP, RETRY_HELP, SEED_HELP, SERVE_PORT_HELP, SESSIONS_HELP,
-    THREADS_HELP, TURNS_HELP, UNIQUE_HELP, WORKERS_HELP,
+    QUEUE_HELP, QUEUES_HELP, RETRY_FOR_HELP, RETRY_HELP, SEED_HELP, SERVE_LOG_HELP,
+    SERVE_PORT_HELP, SESSIONS_HELP, THREADS_HELP, TURNS_HELP, UNIQUE_HELP, WORKERS_HELP,
 };
 use crate::iterate_line::{MOST_EVERY, MOST_ITERATED};
 use crate::limit_line::{LONGEST_LIMITER, MOST_LIMITED, MOST_LIMITED_MILLIS, kind_of};
@@ -78,11 +78,23 @@ fn port_breach<'a>(matches: &ArgMatches<'a>, help: &'static str) -> Option<Breac
     number_breach(matches, "--port", help, 1, 65_535)
 }
 
-fn of_serve<'a>(matches: &ArgMatches<'a>) -> Option<Breach<'a>> {
+// The same of a file that may be left out.
+fn log_breach<'a>(alloc: Global, matches: &ArgMatches<'a>) -> Option<Breach<'a>> {
+    match text_in(matches, "log") {
+        Some(_) => {
+            let path = path_of(alloc, matches, "log");
+            broken(matches, path, "--log", SERVE_LOG_HELP)
+        }
+        None => None,
+    }
+}
+
+fn of_serve<'a>(alloc: Global, matches: &ArgMatches<'a>) -> Option<Breach<'a>> {
     let most = MOST_LOOPS_SERVED as u32;
     port_breach(matches, SERVE_PORT_HELP)
         .or(number_breach(matches, "--loops", LOOPS_HELP, 1, most))
         .or(number_breach(matches, "--sessions", SESSIONS_HELP, 0, u32::MAX))
+        .or(log_breach(alloc, matches))
 }
 
 // The first periodic job that is none.
@@ -183,7 +195,7 @@ pub fn breach_of<'a>(
     matches: &ArgMatches<'a>,
 ) -> Option<Breach<'a>> {
     match subcommand {
-        Subcommand::Serve => of_serve(matches),
+        Subcommand::Serve => of_serve(alloc, matches),
         Subcommand::Work => of_work(alloc, matches),
         Subcommand::Push => of_push(alloc, matches),
         Subcommand::Drill => of_drill(matches),

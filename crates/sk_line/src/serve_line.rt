@@ -35,8 +35,8 @@ pub fn serve_command<'a>(alloc: Global) -> Options<'a>
     with_default(alloc, options, "sessions", SESSIONS, SESSIONS_HELP)
 }
 
-// Their values.
-fn line_of(matches: &ArgMatches<'_>) -> Result<ServeLine, LineFault>
+/// Their values.
+pub(crate) fn line_of(matches: &ArgMatches<'_>) -> Result<ServeLine, LineFault>
     ensures { Reads (IsServeValues (rows_of (found_of matches.now))) result }
 {
     let port = port_of(matches)?;

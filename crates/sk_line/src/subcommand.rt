@@ -7,9 +7,9 @@ use crate::help_lines::{
 use crate::iterate_line::iterate_command;
 use crate::limit_line::limit_command;
 use crate::log_line::log_command;
+use crate::log_serve_line::log_serve_command;
 use crate::option::Options;
 use crate::push_line::push_command;
-use crate::serve_line::serve_command;
 use crate::soak_line::soak_command;
 use crate::status_line::status_command;
 use crate::work_line::work_command;
@@ -49,7 +49,7 @@ impl Subcommand {
     /// Its options.
     pub fn options<'a>(self, alloc: Global) -> Options<'a> {
         match self {
-            Subcommand::Serve => serve_command(alloc),
+            Subcommand::Serve => log_serve_command(alloc),
             Subcommand::Work => work_command(alloc),
             Subcommand::Push => push_command(alloc),
             Subcommand::Drill => drill_command(alloc),
