@@ -2,7 +2,7 @@
 ghost use Rattle.std.specs.Prelude.{IfSome};
 ghost use mathlib.Core.List.{IsPrefix};
 
-use crate::{Backlog, Durable, LogId, Prefix, Stored};
+use crate::{Backlog, Broken, Durable, LogId, Prefix, Stored};
 use sk_disk::Disk;
 use sk_log::Group;
 use std::sync::{Condvar, Mutex, Wait};
@@ -14,18 +14,18 @@ struct Idle<D: Disk + Drop, I: LogId> {
     spare: Group,
 }
 
-// What is stored, and the file, unless a leader has it.
+// What is stored, and the file, unless a leader has it; or the file that takes no more.
 #[derive(Drop)]
 struct Slot<D: Disk + Drop, I: LogId> {
     durable: Durable<I>,
     file: Option<Idle<D, I>>,
-    ended: bool,
+    broken: Option<Broken<D, I>>,
 }
 
 impl<D: Disk + Drop, I: LogId> Slot<D, I> {
     // So many records aren't stored yet, and somebody leads.
     fn must_wait(&self, records: u64) -> bool {
-        self.durable.len() < records && self.file.is_none() && !self.ended
+        self.durable.len() < records && self.file.is_none() && self.broken.is_none()
     }
 }
 
@@ -44,7 +44,7 @@ impl<D: Disk + Drop, I: LogId> Committer<D, I> {
         let slot = Slot {
             durable,
             file,
-            ended: false,
+            broken: None,
         };
         Committer {
             slot: Mutex::new(slot),
@@ -53,16 +53,24 @@ impl<D: Disk + Drop, I: LogId> Committer<D, I> {
     }
 
     // Puts the file back with what was stored, or ends the log.
-    fn put_back<R: Wait>(&self, rt: &R, done: Option<(Stored<D, I>, Group)>) -> Option<Durable<I>> {
+    fn put_back<R: Wait>(
+        &self,
+        rt: &R,
+        done: Result<(Stored<D, I>, Group), Broken<D, I>>,
+    ) -> Option<Durable<I>> {
         let mut slot = self.slot.lock(rt);
-        let Some((stored, spare)) = done else {
-            slot.ended = true;
-            return None;
-        };
-        let durable = stored.durable();
-        slot.durable = durable.again();
-        slot.file = Some(Idle { stored, spare });
-        Some(durable)
+        match done {
+            Ok((stored, spare)) => {
+                let durable = stored.durable();
+                slot.durable = durable.again();
+                slot.file = Some(Idle { stored, spare });
+                Some(durable)
+            }
+            Err(broken) => {
+                slot.broken = Some(broken);
+                None
+            }
+        }
     }
 
     // Stores what waits, and wakes all that sleep.
@@ -75,7 +83,7 @@ impl<D: Disk + Drop, I: LogId> Committer<D, I> {
         let Idle { stored, spare } = idle;
         let done = match backlog.take(rt, spare) {
             Some(taken) => stored.store(taken),
-            None => None,
+            None => Err(stored.give_up()),
         };
         let durable = self.put_back(rt, done);
         self.changed.notify_all();
@@ -110,10 +118,18 @@ impl<D: Disk + Drop, I: LogId> Committer<D, I> {
         }
     }
 
-    /// The file, once nobody shares the log. None where the log has ended.
-    pub fn close(self) -> Option<Stored<D, I>> {
+    /// The file, once nobody shares the log; or the one that takes no more, where the log has ended. Neither is there only where a leader has it, and no
+    /// leader is left then.
+    pub fn close(self) -> Result<Stored<D, I>, Option<Broken<D, I>>> {
         let Committer { slot, changed: _ } = self;
-        let idle = slot.into_inner().file?;
-        Some(idle.stored)
+        let Slot {
+            durable: _,
+            file,
+            broken,
+        } = slot.into_inner();
+        match file {
+            Some(idle) => Ok(idle.stored),
+            None => Err(broken),
+        }
     }
 }

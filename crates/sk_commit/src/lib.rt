@@ -3,6 +3,7 @@
 #![tactic(auto)]
 
 mod backlog;
+mod broken;
 mod committer;
 mod history;
 mod log_id;
@@ -11,6 +12,7 @@ mod rule;
 mod stored;
 
 pub use backlog::{Backlog, PlainBacklog};
+pub use broken::{Broken, Halt};
 pub use committer::Committer;
 pub use history::{History, NewHistory, Prefix};
 pub use log_id::LogId;

@@ -1,11 +1,11 @@
 // The file of a shared log, which has a beginning of the history.
-ghost use Rattle.std.specs.Prelude.{◌≡◌, [], IfSome, length, true};
+ghost use Rattle.std.specs.Prelude.{◌≡◌, ◌≤◌, [], IfOk, length, true};
 ghost use mathlib.Core.List.{IsPrefix};
 ghost use Rattle.sk_commit.specs.Shared.{HasBehind, IsStart};
 
-use crate::{LogId, Prefix, Taken};
+use crate::{Broken, Halt, LogId, Prefix, Taken};
 use sk_disk::Disk;
-use sk_log::{Group, Log};
+use sk_log::{Group, Log, LogFault};
 use std::marker::Model;
 
 /// A file, and the records that were stored in it since it was handed over. Contracts see these. Whatever a crash leaves is a log of what stood in
@@ -18,7 +18,7 @@ pub struct Stored<D: Disk + Drop, I: LogId> {
 }
 
 impl<D: Disk + Drop, I: LogId> Model for Stored<D, I> {
-    ghost use Rattle.std.specs.Prelude.{List};
+    ghost use Rattle.std.specs.Prelude.{◌≤◌, List};
     ghost use Rattle.sk_log.specs.File.{Body};
     ghost use Rattle.sk_commit.specs.Shared.{HasBehind};
 
@@ -26,7 +26,7 @@ impl<D: Disk + Drop, I: LogId> Model for Stored<D, I> {
 
     ghost view = { λ s. s.prefix };
 
-    ghost invariant = { λ s. HasBehind I.starts s.prefix s.log (D.may_leave s.disk) × I.holds s.prefix };
+    ghost invariant = { λ s. HasBehind I.starts s.prefix s.log (D.may_leave s.disk) × I.holds s.prefix × (I.faults ≤ D.disk_faults s.disk) };
 }
 
 /// A beginning of the history that is in the file, at whose end a leader once took it. Only the file itself makes one. Contracts see the bodies of its
@@ -77,12 +77,24 @@ impl<I: LogId> Durable<I> {
     }
 }
 
+// Why a log ends that couldn't be appended to.
+fn halt_at(fault: LogFault) -> Halt
+    ensures { result ≡ Halt.Disk → fault ≡ LogFault.Disk }
+{
+    match fault {
+        LogFault::Disk => Halt::Disk,
+        LogFault::Full => Halt::Full,
+        _ => Halt::Astray,
+    }
+}
+
 impl<D: Disk + Drop, I: LogId> Stored<D, I> {
     /// A file that was just made or opened, and the beginning of the history that has no record.
     pub fn new(disk: D, log: Log, prefix: Prefix<I>) -> Stored<D, I>
         requires prefix { prefix ≡ [] }
         requires holds { I.holds [] }
         requires start { IsStart I.starts log (D.may_leave disk) }
+        requires count { D.disk_faults disk ≡ I.faults }
         ensures { result ≡ [] }
     {
         Stored { disk, log, prefix }
@@ -98,11 +110,11 @@ impl<D: Disk + Drop, I: LogId> Stored<D, I> {
     }
 
     /// Stores what a leader took, with two syncs for all of it, and answers the leader's group beside the file: all of the history up to the group's
-    /// end is in the file then. None where the disk failed, the file would be too long, or another group comes next: the log has ended.
-    pub fn store(self, taken: Taken<I>) -> Option<(Stored<D, I>, Group)>
+    /// end is in the file then. Broken where the disk failed, the file would be too long, or another group comes next: the log has ended.
+    pub fn store(self, taken: Taken<I>) -> Result<(Stored<D, I>, Group), Broken<D, I>>
         requires { I.holds taken }
-        ensures stored { IfSome result (λ r. r.0 ≡ taken) }
-        ensures grows { IfSome result (λ r. IsPrefix self r.0) }
+        ensures stored { IfOk result (λ r. r.0 ≡ taken) }
+        ensures grows { IfOk result (λ r. IsPrefix self r.0) }
     {
         let Stored {
             mut disk,
@@ -111,23 +123,37 @@ impl<D: Disk + Drop, I: LogId> Stored<D, I> {
         } = self;
         let (next, before, group) = taken.into_parts();
         if before != prefix.len() {
-            return None;
+            return Err(Broken::new(disk, Halt::Astray));
         }
         let _both = prefix.longer(&next);
-        let Ok(()) = log.append_all(&mut disk, &group) else {
-            return None;
-        };
+        if let Err(fault) = log.append_all(&mut disk, &group) {
+            return Err(Broken::new(disk, halt_at(fault)));
+        }
         let stored = Stored {
             disk,
             log,
             prefix: next,
         };
-        Some((stored, group))
+        Ok((stored, group))
+    }
+
+    /// The log ends: nothing more can be logged.
+    pub fn give_up(self) -> Broken<D, I>
+        ensures { result ≡ Halt.Astray }
+    {
+        let Stored {
+            disk,
+            log: _,
+            prefix: _,
+        } = self;
+        Broken::new(disk, Halt::Astray)
     }
 
     /// The file and its log.
     pub fn into_parts(self) -> (D, Log)
-        ensures { HasBehind I.starts self result.1 (D.may_leave result.0) }
+        ensures log { HasBehind I.starts self result.1 (D.may_leave result.0) }
+        ensures holds { I.holds self }
+        ensures count { I.faults ≤ D.disk_faults result.0 }
     {
         let Stored {
             disk,

@@ -6,16 +6,16 @@ ghost use Rattle.sk_base.specs.Outside.{Gives, HasCause, Rose, Takes};
 ghost use Rattle.sk_held.specs.Holding.{Breaks, HandsBack, HandsOn, HandsWritten, IsBlamed, IsSince, with_gathered};
 
 use crate::outlet::Outlet;
-use crate::{HeldId, Settler};
+use crate::{HeldId, Holdable, Settler};
 use sk_base::limits::LARGEST_BATCH;
-use sk_base::{Conn, Duplex, Failed, Sink, Source};
+use sk_base::{Duplex, Failed, Sink, Source};
 use std::alloc::Global;
 use std::marker::Model;
 
 /// A connection that is held back. Contracts see it, its settler, what is gathered, whether it is broken, and how often its own reads and writes have
 /// failed. One that is dropped hands nothing on.
 #[derive(Drop)]
-pub struct HeldConn<C: Conn, W: Settler, I: HeldId> {
+pub struct HeldConn<C: Holdable, W: Settler, I: HeldId> {
     outlet: Outlet<C, W, I>,
     gathered: Vec<u8>,
     broken: bool,
@@ -23,7 +23,7 @@ pub struct HeldConn<C: Conn, W: Settler, I: HeldId> {
     write_faults: u64,
 }
 
-impl<C: Conn, W: Settler, I: HeldId> Model for HeldConn<C, W, I> {
+impl<C: Holdable, W: Settler, I: HeldId> Model for HeldConn<C, W, I> {
     ghost use Rattle.sk_held.specs.Holding.{Held};
 
     ghost Value = { Held C W };
@@ -31,7 +31,7 @@ impl<C: Conn, W: Settler, I: HeldId> Model for HeldConn<C, W, I> {
     ghost view = { λ h. record { conn = h.outlet.conn; settler = h.outlet.settler; gathered = h.gathered.items; broken = h.broken; reads = h.read_faults; writes = h.write_faults } };
 }
 
-impl<C: Conn, W: Settler, I: HeldId> HeldConn<C, W, I> {
+impl<C: Holdable, W: Settler, I: HeldId> HeldConn<C, W, I> {
     /// Holds the connection back. Takes no memory.
     pub fn new(alloc: Global, conn: C, settler: W) -> HeldConn<C, W, I>
         requires first { C.taken conn ≡ I.first }
@@ -175,7 +175,7 @@ impl<C: Conn, W: Settler, I: HeldId> HeldConn<C, W, I> {
     }
 }
 
-impl<C: Conn, W: Settler, I: HeldId> Source for HeldConn<C, W, I> {
+impl<C: Holdable, W: Settler, I: HeldId> Source for HeldConn<C, W, I> {
     ghost left = { λ h. C.left h.conn };
 
     ghost read_faults = { λ h. h.reads };
@@ -192,7 +192,7 @@ impl<C: Conn, W: Settler, I: HeldId> Source for HeldConn<C, W, I> {
     }
 }
 
-impl<C: Conn, W: Settler, I: HeldId> Sink for HeldConn<C, W, I> {
+impl<C: Holdable, W: Settler, I: HeldId> Sink for HeldConn<C, W, I> {
     ghost taken = { λ h. with_gathered (C.taken h.conn) h.gathered };
 
     ghost write_faults = { λ h. h.writes };
@@ -209,7 +209,7 @@ impl<C: Conn, W: Settler, I: HeldId> Sink for HeldConn<C, W, I> {
     }
 }
 
-impl<C: Conn, W: Settler, I: HeldId> Duplex for HeldConn<C, W, I> {
+impl<C: Holdable, W: Settler, I: HeldId> Duplex for HeldConn<C, W, I> {
     ghost reads_apart = { λ _. refl };
 
     ghost writes_apart = { λ _. refl };

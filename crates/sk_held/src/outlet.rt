@@ -4,19 +4,19 @@ ghost use Rattle.sk_base.specs.Outside.{Gives, HasCause, Rose, Takes};
 ghost use Rattle.sk_held.specs.Counts.{CountsOks};
 ghost use Rattle.sk_held.specs.Holding.{IsSince};
 
-use crate::{HeldId, Settler};
-use sk_base::{Conn, Duplex, Failed, Sink};
+use crate::{HeldId, Holdable, Settler};
+use sk_base::{Duplex, Failed, Sink};
 use std::marker::{Model, PhantomData};
 
 /// A connection and its settler. Contracts see both. The connection has taken something only where the settler has settled since it was made.
 #[derive(Drop)]
-pub struct Outlet<C: Conn, W: Settler, I: HeldId> {
+pub struct Outlet<C: Holdable, W: Settler, I: HeldId> {
     conn: C,
     settler: W,
     of: PhantomData<I>,
 }
 
-impl<C: Conn, W: Settler, I: HeldId> Model for Outlet<C, W, I> {
+impl<C: Holdable, W: Settler, I: HeldId> Model for Outlet<C, W, I> {
     ghost use Rattle.sk_held.specs.Holding.{IsSince, Out};
 
     ghost Value = { Out C W };
@@ -48,7 +48,7 @@ fn hand_on<C: Duplex>(conn: &mut C, bytes: &mut Vec<u8>) -> Result<(), Failed>
     Ok(())
 }
 
-impl<C: Conn, W: Settler, I: HeldId> Outlet<C, W, I> {
+impl<C: Holdable, W: Settler, I: HeldId> Outlet<C, W, I> {
     pub fn new(conn: C, settler: W) -> Outlet<C, W, I>
         requires first { C.taken conn ≡ I.first }
         requires count { W.settled settler ≡ I.count }

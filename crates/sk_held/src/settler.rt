@@ -1,5 +1,5 @@
 // Who knows what is stored.
-ghost use Rattle.std.specs.Prelude.{ℕ};
+ghost use Rattle.std.specs.Prelude.{◌≡◌, ℕ};
 ghost use Rattle.sk_base.specs.Outside.{HasCause};
 ghost use Rattle.sk_held.specs.Counts.{CountsOks};
 
@@ -17,4 +17,8 @@ pub trait Settler: Drop {
     fn settle(&mut self) -> Result<(), Failed>
         ensures counts { CountsOks (settled self.old) (settled self.new) result }
         ensures cause { HasCause (settle_faults self.old) (settle_faults self.new) result };
+
+    /// How often it has failed to.
+    fn faults(&self) -> u64
+        ensures { result ≡ settle_faults self.now };
 }

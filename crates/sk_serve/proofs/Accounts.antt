@@ -1,22 +1,18 @@
 -- What came of the ears of a server, by the loops that had them.
-use Rattle.std.proofs.Common.{◌≡◌, ◌≢◌, ℕ, ◌-◌, ◌/◌, ◌^◌, ◌⊎◌, List, [], ◌∷◌, refl, sym, ap, ◌∙◌, subst, arith, inl, inr, true, zero, suc, Err}
+use Rattle.std.proofs.Common.{◌≡◌, ◌≢◌, ℕ, ◌-◌, ◌/◌, ◌^◌, ◌⊎◌, List, [], ◌∷◌, refl, sym, ap, ◌∙◌, subst, arith, inl, inr, true, zero, suc}
 use Rattle.std.specs.Prelude.{All, map, reverse}
 use Rattle.std.specs.List.{AllByRecursion, AllZip, Any, sum_by}
 use Rattle.std.proofs.lemmas.List.{reverse-reverse}
 use Rattle.sk_base.specs.Outside.{Rose}
-use Rattle.sk_base.specs.declared.clock.Clock as a_clock
-use Rattle.sk_base.specs.declared.sink.Sink as a_sink
-use Rattle.sk_base.specs.declared.source.Source as a_source
-use Rattle.sk_desk.specs.State.{IsBalanced}
 use Rattle.sk_edge.specs.Doors.{IsNudged}
 use Rattle.sk_edge.specs.declared.door.Ear as an_ear
 use Rattle.sk_serve.specs.declared.accept_loop.LoopEnd.{LoopEnd}
 use Rattle.sk_serve.specs.declared.accept_loop.LoopEnd.TheVariants as loop_end
 use Rattle.sk_serve.specs.declared.serve_end.ServeFault.{ServeFault}
 use Rattle.sk_serve.specs.declared.serve_end.ServeFault.TheVariants as fault
-use Rattle.sk_serve.specs.declared.serve_end.Served.{Served}
-use Rattle.sk_serve.specs.Server.{Account, Became, EarFailed, HaveEnded, IsAccount, IsFresh, IsFull, IsServed, IsSettled, IsShut, IsUsed, IsUsedUp, LoopView, Runs, nudges_at}
-use Rattle.sk_serve.specs.Visits.{Among, EndsUnserved, HasShutdown, acknowledged_in, served_in}
+use Rattle.sk_serve.specs.Server.{Account, Became, EarFailed, EndedAt, EndsUnsettled, HaveRun, IsAccount, IsFresh, IsFull, IsSettled, IsShut, IsUsed, IsUsedUp, LoopView, Runs, nudges_at}
+use Rattle.sk_serve.specs.Attending.{Attending}
+use Rattle.sk_serve.specs.Visits.{Among, EndsUnserved, HasShutdown, HasUnsettled, acknowledged_in, served_in}
 use Rattle.sk_serve.proofs.Lists.{all_turned, among_back, map_turned, sum_turned, sums_same}
 
 nudged_at : (others : ℕ) (end : LoopEnd) (P : ℕ → Type 0) → end ≢ loop_end.Done → P (nudges_at end others) → P others
@@ -25,10 +21,11 @@ nudged_at others loop_end.Shutdown P ended nudged = nudged
 nudged_at others loop_end.Failed P ended nudged = nudged
 nudged_at others loop_end.Spent P ended nudged = nudged
 nudged_at others loop_end.Memory P ended nudged = nudged
+nudged_at others loop_end.Unsettled P ended nudged = nudged
 
-module _ {E C K : Type 0} (Ear : an_ear.Ghosts E C) (Source : a_source.Ghosts C) (Sink : a_sink.Ghosts C) (Clock : a_clock.Ghosts K) (others n : ℕ) where
+module _ {E C K : Type 0} (Ear : an_ear.Ghosts E C) (Attended : Attending C K) (others n : ℕ) where
   abbrev Ran : LoopView E K → LoopView E K → Type 0
-  Ran = Runs Ear Source Sink Clock others
+  Ran = Runs Ear Attended others
 
   -- what came of a loop's ear
   abbrev account : (a b : LoopView E K) → Ran a b → Account E C K
@@ -55,7 +52,7 @@ module _ {E C K : Type 0} (Ear : an_ear.Ghosts E C) (Source : a_source.Ghosts C)
   at_last [] (b ∷ new) ran = absurd ran
   at_last (a ∷ old) [] ran = absurd ran
 
-  each : (old new : List (LoopView E K)) (ran : AllZip Ran old new) → AllByRecursion (IsAccount Ear Source Sink Clock) (accounts old new ran)
+  each : (old new : List (LoopView E K)) (ran : AllZip Ran old new) → AllByRecursion (IsAccount Ear Attended) (accounts old new ran)
   each [] [] ran = tt
   each (a ∷ old) (b ∷ new) ran = (ran.0.came, each old new ran.1)
   each [] (b ∷ new) ran = absurd ran
@@ -116,6 +113,12 @@ module _ {E C K : Type 0} (Ear : an_ear.Ghosts E C) (Source : a_source.Ghosts C)
     by_cause (inl was) = absurd (cc (sym fresh.end_is ∙ was))
     by_cause (inr last) = last
 
+  unsettled_one : (a b : LoopView E K) (r : Ran a b) → IsFresh n a → b.end ≡ loop_end.Unsettled → EndsUnsettled (account a b r)
+  unsettled_one a b r fresh is = by_cause (r.unsettled is) where
+    by_cause : (a.end ≡ loop_end.Unsettled) ⊎ HasUnsettled r.visits → HasUnsettled r.visits
+    by_cause (inl was) = absurd (cc (sym fresh.end_is ∙ was))
+    by_cause (inr some) = some
+
   shut_one : (count : ℕ) → others ≡ count → (a b : LoopView E K) (r : Ran a b) → IsFresh n a → b.shut ≡ true → IsShut Ear count (account a b r)
   shut_one count same a b r fresh shut = by_cause (r.quit shut) where
     by_cause : (a.shut ≡ true) ⊎ (HasShutdown r.visits × (b.end ≢ loop_end.Done)) → IsShut Ear count (account a b r)
@@ -127,12 +130,12 @@ module _ {E C K : Type 0} (Ear : an_ear.Ghosts E C) (Source : a_source.Ghosts C)
 
   module _ (old new : List (LoopView E K)) (ran : AllZip Ran old new) (fresh : All (IsFresh n) old) where
     pub became : (ears ears' : List E) (P : List (Account E C K) → Type 0) → map (λ l. l.ear) old ≡ reverse ears → ears' ≡ reverse (map (λ l. l.ear) new)
-        → P (reverse (accounts old new ran)) → Became Ear Source Sink Clock ears ears' P
+        → P (reverse (accounts old new ran)) → Became Ear Attended ears ears' P
     became ears ears' P first last p = record {
       accounts = reverse (accounts old new ran);
       at_first = map_turned (λ a. a.ear) (accounts old new ran) ∙ ap reverse (at_first old new ran ∙ first) ∙ reverse-reverse ears;
       at_last = map_turned (λ a. a.ear') (accounts old new ran) ∙ ap reverse (at_last old new ran) ∙ sym last;
-      each = all_turned (IsAccount Ear Source Sink Clock) (accounts old new ran) (each old new ran);
+      each = all_turned (IsAccount Ear Attended) (accounts old new ran) (each old new ran);
       holds = p;
     }
 
@@ -142,24 +145,27 @@ module _ {E C K : Type 0} (Ear : an_ear.Ghosts E C) (Source : a_source.Ghosts C)
     pub some_used : (numbers : ℕ) → n ≡ numbers → Any (λ it. IsUsed it) new → Among (IsUsedUp numbers) (reverse (accounts old new ran))
     some_used numbers same some = among_back (IsUsedUp numbers) (accounts old new ran) (among_all IsUsed (IsUsedUp numbers) (used_one numbers same) old new ran fresh some)
 
+    pub some_unsettled : Any (λ it. it.end ≡ loop_end.Unsettled) new → Among EndsUnsettled (reverse (accounts old new ran))
+    some_unsettled some = among_back EndsUnsettled (accounts old new ran) (among_all (λ l. l.end ≡ loop_end.Unsettled) EndsUnsettled unsettled_one old new ran fresh some)
+
     done_by : (bound count : ℕ) → others ≡ count → IsSettled bound new → IsFull bound (reverse (accounts old new ran)) ⊎ Among (IsShut Ear count) (reverse (accounts old new ran))
     done_by bound count same (inl (some, all)) = inl (some, all_turned (λ a. served_in a.visits ≡ bound) (accounts old new ran) (full_all bound old new ran fresh all))
     done_by bound count same (inr shut) =
         inr (among_back (IsShut Ear count) (accounts old new ran) (among_all (λ l. l.shut ≡ true) (IsShut Ear count) (shut_one count same) old new ran fresh shut))
 
-    pub all_served : (bound loops : ℕ) (s : Served) → others ≡ loops - 1 → IsSettled bound new → s.sessions ≡ sum_by (λ l. l.served) new → s.acknowledged ≡ sum_by (λ l. l.pass.amount) new
-        → s.acknowledged ≡ s.tally.outside → IsBalanced s.tally → IsServed Ear bound loops s (reverse (accounts old new ran))
-    all_served bound loops s same settled sessions acknowledged outside balanced = record {
-      sessions = sessions ∙ sym (sum_turned (λ a. served_in a.visits) (accounts old new ran) ∙ served_all old new ran fresh);
-      acknowledged = acknowledged ∙ sym (sum_turned (λ a. acknowledged_in a.visits) (accounts old new ran) ∙ acknowledged_all old new ran fresh);
+    pub all_run : (bound loops sessions rows : ℕ) → others ≡ loops - 1 → IsSettled bound new → sessions ≡ sum_by (λ l. l.served) new → rows ≡ sum_by (λ l. l.pass.amount) new
+        → HaveRun Ear bound loops sessions rows (reverse (accounts old new ran))
+    all_run bound loops sessions rows same settled sessions_are rows_are = record {
+      sessions_are = sessions_are ∙ sym (sum_turned (λ a. served_in a.visits) (accounts old new ran) ∙ served_all old new ran fresh);
+      rows_are = rows_are ∙ sym (sum_turned (λ a. acknowledged_in a.visits) (accounts old new ran) ∙ acknowledged_all old new ran fresh);
       done = done_by bound (loops - 1) same settled;
-      outside = outside;
-      balanced = balanced;
     }
 
-    pub by_fault : (bound loops : ℕ) (ears ears' : List E) (f : ServeFault) → n ≡ (2 ^ 32 - 2) / loops → map (λ l. l.ear) old ≡ reverse ears → ears' ≡ reverse (map (λ l. l.ear) new)
-        → (f ≡ fault.Failed → Any (λ it. it.end ≡ loop_end.Failed) new) → (f ≡ fault.Spent → Any (λ it. IsUsed it) new) → HaveEnded Ear Source Sink Clock bound loops ears ears' (Err f)
-    by_fault bound loops ears ears' fault.Failed same first last failed spent = became ears ears' (Among (EarFailed Ear)) first last (some_failed (failed refl))
-    by_fault bound loops ears ears' fault.Spent same first last failed spent =
+    pub by_fault : (loops : ℕ) (ears ears' : List E) (f : ServeFault) → n ≡ (2 ^ 32 - 2) / loops → map (λ l. l.ear) old ≡ reverse ears → ears' ≡ reverse (map (λ l. l.ear) new)
+        → (f ≡ fault.Failed → Any (λ it. it.end ≡ loop_end.Failed) new) → (f ≡ fault.Spent → Any (λ it. IsUsed it) new)
+        → (f ≡ fault.Unsettled → Any (λ it. it.end ≡ loop_end.Unsettled) new) → EndedAt Ear Attended loops ears ears' f
+    by_fault loops ears ears' fault.Failed same first last failed spent unsettled = became ears ears' (Among (EarFailed Ear)) first last (some_failed (failed refl))
+    by_fault loops ears ears' fault.Spent same first last failed spent unsettled =
         became ears ears' (Among (IsUsedUp ((2 ^ 32 - 2) / loops))) first last (some_used ((2 ^ 32 - 2) / loops) same (spent refl))
-    by_fault bound loops ears ears' fault.Memory same first last failed spent = tt
+    by_fault loops ears ears' fault.Unsettled same first last failed spent unsettled = became ears ears' (Among EndsUnsettled) first last (some_unsettled (unsettled refl))
+    by_fault loops ears ears' fault.Memory same first last failed spent unsettled = tt

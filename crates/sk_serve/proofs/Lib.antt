@@ -1,4 +1,5 @@
 pub mod Seated
+pub mod Attended
 pub mod Counting
 pub mod Lists
 pub mod Loops

@@ -1,13 +1,10 @@
 -- What comes of a loop that runs, once and again, and of several.
-use Rattle.std.proofs.Common.{◌≡◌, ◌≢◌, ℕ, ◌+◌, ◌⊎◌, List, [], ◌∷◌, ◌++◌, length, refl, sym, ap, ◌∙◌, subst, arith, inl, inr, Result, Ok, Option, None, true}
-use Rattle.std.specs.Prelude.{◌≤◌, ◌<◌, All, IfOk, MatchOption}
+use Rattle.std.proofs.Common.{◌≡◌, ◌≢◌, ℕ, ◌+◌, ◌⊎◌, List, [], ◌∷◌, ◌++◌, length, refl, sym, ap, ◌∙◌, subst, arith, inl, inr, Result, Ok, Err, Option, None, Bool, true}
+use Rattle.std.specs.Prelude.{◌≤◌, ◌<◌, All, IfErr, IfOk, MatchOption}
 use Rattle.std.specs.List.{AllZip, sum_by}
 use Rattle.std.proofs.lemmas.List.Elements.{AllZip-get_or, length_all_zip}
 use Rattle.std.proofs.lemmas.List.Sums.{sum_by-append, sum_by-cons}
 use Rattle.sk_base.specs.Outside.{Rose}
-use Rattle.sk_base.specs.declared.clock.Clock as a_clock
-use Rattle.sk_base.specs.declared.sink.Sink as a_sink
-use Rattle.sk_base.specs.declared.source.Source as a_source
 use Rattle.sk_desk.specs.Pass.{PassView}
 use Rattle.sk_edge.specs.Collected.{Collected, Keeps}
 use Rattle.sk_edge.specs.Doors.{GivesFirst, IsNudged}
@@ -15,12 +12,16 @@ use Rattle.sk_edge.specs.declared.door.Ear as an_ear
 use Rattle.sk_serve.specs.declared.accept_loop.LoopEnd.{LoopEnd}
 use Rattle.sk_serve.specs.declared.accept_loop.LoopEnd.TheVariants as loop_end
 use Rattle.sk_serve.specs.Server.{IsFresh, IsLoop, LoopView, Runs, nudges_at, stands}
-use Rattle.sk_serve.specs.Visits.{AreVisits, EndsUnserved, HasShutdown, IsShutdown, IsSummary, IsVisit, Standing, Visit, count_of, rows_of, standing}
+use Rattle.sk_serve.specs.Attending.{Attending}
+use Rattle.sk_serve.specs.Visits.{AreVisits, EndsUnserved, HasShutdown, HasUnsettled, IsShutdown, IsUnsettled, IsVisit, Standing, Visit, count_of, rows_of, standing}
 use Rattle.sk_serve.proofs.Lists.{among_first, among_later, folds_on, plus_none, plus_on, unserved_first, unserved_later}
 use Rattle.sk_serve.proofs.Nudging.{nudged_more, nudged_none}
 
 pub from_ok : {T E : Type 0} (r : Result T E) (x : T) (F : T → Type 0) → r ≡ Ok x → IfOk r F → F x
 from_ok r x F is got = subst (λ z. IfOk z F) is got
+
+pub from_err : {T E : Type 0} (r : Result T E) (e : E) (F : E → Type 0) → r ≡ Err e → IfErr r F → F e
+from_err r e F is got = subst (λ z. IfErr z F) is got
 
 -- one more connection was served
 pub served_one : (old new : PassView) (numbers served : ℕ) (how : LoopEnd) → IsLoop old numbers served how → new.parts ≡ old.parts → new.count + 1 ≡ old.count → IsLoop new numbers (served + 1) how
@@ -49,6 +50,7 @@ done_or loop_end.Shutdown = inr (λ is. cc is)
 done_or loop_end.Failed = inr (λ is. cc is)
 done_or loop_end.Spent = inr (λ is. cc is)
 done_or loop_end.Memory = inr (λ is. cc is)
+done_or loop_end.Unsettled = inr (λ is. cc is)
 
 -- ## A loop that stops
 
@@ -66,12 +68,31 @@ module _ (end end' : LoopEnd) (cause : end ≢ loop_end.Done) (ended : (end' ≡
     by_cause (inl is) = other (sym is ∙ spent)
     by_cause (inr is) = cc (sym is ∙ spent)
 
+  pub unsettled_by : end' ≡ loop_end.Unsettled → end ≡ loop_end.Unsettled
+  unsettled_by unsettled = by_cause ended where
+    by_cause : (end' ≡ end) ⊎ (end' ≡ loop_end.Failed) → end ≡ loop_end.Unsettled
+    by_cause (inl is) = sym is ∙ unsettled
+    by_cause (inr is) = absurd (cc (sym is ∙ unsettled))
+
+  pub settled_by : end ≢ loop_end.Unsettled → end' ≢ loop_end.Unsettled
+  settled_by other unsettled = by_cause ended where
+    by_cause : (end' ≡ end) ⊎ (end' ≡ loop_end.Failed) → ⊥
+    by_cause (inl is) = other (sym is ∙ unsettled)
+    by_cause (inr is) = cc (sym is ∙ unsettled)
+
+-- A session ended by SHUTDOWN before, or this one did.
+pub shut_by : (was : Bool) (end' end : LoopEnd) (Shut : Type 0) → end' ≢ loop_end.Done → (was ≡ true) ⊎ (end ≡ loop_end.Shutdown) → (end ≡ loop_end.Shutdown → Shut)
+    → (was ≡ true) ⊎ (Shut × (end' ≢ loop_end.Done))
+shut_by was end' end Shut over (inl before) law = inl before
+shut_by was end' end Shut over (inr now) law = inr (law now, over)
+
 nudges_of : (others : ℕ) (end : LoopEnd) → end ≢ loop_end.Done → nudges_at end others ≡ others
 nudges_of others loop_end.Done ended = absurd (ended refl)
 nudges_of others loop_end.Shutdown ended = refl
 nudges_of others loop_end.Failed ended = refl
 nudges_of others loop_end.Spent ended = refl
 nudges_of others loop_end.Memory ended = refl
+nudges_of others loop_end.Unsettled ended = refl
 
 pub nudged_by : (others : ℕ) (end : LoopEnd) (a a' b : Option ℕ) → end ≢ loop_end.Done → a' ≡ a → IsNudged a' others b → IsNudged a (nudges_at end others) b
 nudged_by others end a a' b ended same nudged = subst (λ n. IsNudged a n b) (sym (nudges_of others end ended)) (subst (λ z. IsNudged z others b) same nudged)
@@ -85,13 +106,13 @@ sum_one f x = sum_by-cons f x [] ∙ sym (plus_none (f x))
 abbrev stand_of : {C K : Type 0} → Option (List C) → Option (Collected C) → K → Standing C K
 stand_of heard kept clock = record { heard = heard; kept = kept; clock = clock }
 
-module _ {E C K : Type 0} (Ear : an_ear.Ghosts E C) (Source : a_source.Ghosts C) (Sink : a_sink.Ghosts C) (Clock : a_clock.Ghosts K) where
+module _ {E C K : Type 0} (Ear : an_ear.Ghosts E C) (Attended : Attending C K) where
   -- one connection
-  pub one_visit : (old new : Standing C K) (v : Visit C) → IsVisit Source Sink Clock old v new → AreVisits Source Sink Clock old (v ∷ []) new
+  pub one_visit : (old new : Standing C K) (v : Visit C) → IsVisit Attended old v new → AreVisits Attended old (v ∷ []) new
   one_visit old new v is = (new, is, refl)
 
   abbrev Ran : ℕ → LoopView E K → LoopView E K → Type 0
-  Ran = Runs Ear Source Sink Clock
+  Ran = Runs Ear Attended
 
   pub runs_nothing : (others : ℕ) (l : LoopView E K) → Ran others l l
   runs_nothing others l = record {
@@ -103,6 +124,7 @@ module _ {E C K : Type 0} (Ear : an_ear.Ghosts E C) (Source : a_source.Ghosts C)
     later = omega arith;
     failed = λ is. inl is;
     spent = λ is. inl is;
+    unsettled = λ is. inl is;
     woke = λ done. subst (λ end. IsNudged (Ear.nudged l.ear) (nudges_at end others) (Ear.nudged l.ear)) (sym done) (nudged_none (Ear.nudged l.ear));
     over = λ ended. (refl, refl);
     quit = λ shut. inl shut;
@@ -136,6 +158,13 @@ module _ {E C K : Type 0} (Ear : an_ear.Ghosts E C) (Source : a_source.Ghosts C)
       by_first (inl was) = inl was
       by_first (inr last) = inr (unserved_first first.visits then_.visits last (then_.over (λ done. cc (sym spent ∙ done))).1)
 
+    unsettled_on : (mid.end ≡ loop_end.Unsettled) ⊎ HasUnsettled then_.visits → (old.end ≡ loop_end.Unsettled) ⊎ HasUnsettled (first.visits ++ then_.visits)
+    unsettled_on (inr some) = inr (among_later (λ v. IsUnsettled v.session) first.visits then_.visits some)
+    unsettled_on (inl is) = by_first (first.unsettled is) where
+      by_first : (old.end ≡ loop_end.Unsettled) ⊎ HasUnsettled first.visits → (old.end ≡ loop_end.Unsettled) ⊎ HasUnsettled (first.visits ++ then_.visits)
+      by_first (inl was) = inl was
+      by_first (inr some) = inr (among_first (λ v. IsUnsettled v.session) first.visits then_.visits some)
+
     failed_on : (mid.end ≡ loop_end.Failed) ⊎ Rose (Ear.ear_faults mid.ear) (Ear.ear_faults new.ear) → (old.end ≡ loop_end.Failed) ⊎ Rose (Ear.ear_faults old.ear) (Ear.ear_faults new.ear)
     failed_on (inr rose) = inr (rose_from (Ear.ear_faults old.ear) (Ear.ear_faults mid.ear) (Ear.ear_faults new.ear) first.later rose)
     failed_on (inl failed) = by_first (first.failed failed) where
@@ -152,13 +181,14 @@ module _ {E C K : Type 0} (Ear : an_ear.Ghosts E C) (Source : a_source.Ghosts C)
     pub runs_on : Ran others old new
     runs_on = record {
       visits = first.visits ++ then_.visits;
-      came = folds_on (IsVisit Source Sink Clock) (stands Ear old) (stands Ear mid) (stands Ear new) first.visits then_.visits first.came then_.came;
+      came = folds_on (IsVisit Attended) (stands Ear old) (stands Ear mid) (stands Ear new) first.visits then_.visits first.came then_.came;
       served = plus_on old.served mid.served new.served _ _ _ first.served then_.served (sum_by-append (λ v. count_of v.session) first.visits then_.visits);
       amount = plus_on old.pass.amount mid.pass.amount new.pass.amount _ _ _ first.amount then_.amount (sum_by-append (λ v. rows_of v.session) first.visits then_.visits);
       numbers_same = then_.numbers_same ∙ first.numbers_same;
       later = omega (arith, first.later, then_.later);
       failed = λ is. failed_on (then_.failed is);
       spent = λ is. spent_on (then_.spent is);
+      unsettled = λ is. unsettled_on (then_.unsettled is);
       woke = λ done. woke_on (first.woke done);
       over = over_on;
       quit = λ shut. quit_on (then_.quit shut);
@@ -178,8 +208,9 @@ module _ {E C K : Type 0} (Ear : an_ear.Ghosts E C) (Source : a_source.Ghosts C)
       (failed : new.end ≡ loop_end.Failed → Rose (Ear.ear_faults old.ear) (Ear.ear_faults new.ear))
       (woke : IsNudged (Ear.nudged old.ear) (nudges_at new.end others) (Ear.nudged new.ear)) where
     -- no connection came
-    pub runs_none : stands Ear new ≡ stands Ear old → new.served ≡ old.served → new.pass.amount ≡ old.pass.amount → new.end ≢ loop_end.Spent → new.shut ≡ old.shut → Ran others old new
-    runs_none same served amount unspent shut = record {
+    pub runs_none : stands Ear new ≡ stands Ear old → new.served ≡ old.served → new.pass.amount ≡ old.pass.amount → new.end ≢ loop_end.Spent → new.end ≢ loop_end.Unsettled → new.shut ≡ old.shut
+        → Ran others old new
+    runs_none same served amount unspent settled shut = record {
       visits = [];
       came = sym same;
       served = served ∙ plus_none old.served;
@@ -188,16 +219,17 @@ module _ {E C K : Type 0} (Ear : an_ear.Ghosts E C) (Source : a_source.Ghosts C)
       later = later;
       failed = λ is. inr (failed is);
       spent = λ is. absurd (unspent is);
+      unsettled = λ is. absurd (settled is);
       woke = λ done. woke;
       over = λ ended. absurd (ended waits);
       quit = λ is. inl (sym shut ∙ is);
     }
 
     -- one did
-    pub runs_one : (v : Visit C) → IsVisit Source Sink Clock (stands Ear old) v (stands Ear new) → new.served ≡ old.served + count_of v.session
-        → new.pass.amount ≡ old.pass.amount + rows_of v.session → (new.end ≡ loop_end.Spent → v.session ≡ None)
+    pub runs_one : (v : Visit C) → IsVisit Attended (stands Ear old) v (stands Ear new) → new.served ≡ old.served + count_of v.session
+        → new.pass.amount ≡ old.pass.amount + rows_of v.session → (new.end ≡ loop_end.Spent → v.session ≡ None) → (new.end ≡ loop_end.Unsettled → IsUnsettled v.session)
         → (new.shut ≡ true → (old.shut ≡ true) ⊎ (IsShutdown v.session × (new.end ≢ loop_end.Done))) → Ran others old new
-    runs_one v visit served amount spent quit = record {
+    runs_one v visit served amount spent unsettled quit = record {
       visits = v ∷ [];
       came = one_visit (stands Ear old) (stands Ear new) v visit;
       served = served ∙ ap (λ n. old.served + n) (sym (sum_one (λ u. count_of u.session) v));
@@ -206,6 +238,7 @@ module _ {E C K : Type 0} (Ear : an_ear.Ghosts E C) (Source : a_source.Ghosts C)
       later = later;
       failed = λ is. inr (failed is);
       spent = λ is. inr ([], v, refl, spent is);
+      unsettled = λ is. inr (inl (unsettled is));
       woke = λ done. woke;
       over = λ ended. absurd (ended waits);
       quit = λ is. by_cause (quit is);
@@ -218,8 +251,8 @@ module _ {E C K : Type 0} (Ear : an_ear.Ghosts E C) (Source : a_source.Ghosts C)
   -- a connection that was accepted, and left
   pub left_visit : (ear ear1 ear2 : E) (clock clock' : K) (v : Visit C) (stand : Standing C K) → stand ≡ standing Ear ear2 clock' → GivesFirst (Ear.heard ear) v.came (Ear.heard ear1)
       → Ear.heard ear2 ≡ Ear.heard ear1 → Ear.kept ear1 ≡ Ear.kept ear → Keeps (Ear.kept ear1) (v.gone ∷ []) (Ear.kept ear2)
-      → MatchOption v.session ((v.gone ≡ v.came) × (clock' ≡ clock)) (λ s. IsSummary Source Sink Clock s clock v.came clock' v.gone) → IsVisit Source Sink Clock (standing Ear ear clock) v stand
-  left_visit ear ear1 ear2 clock clock' v stand is gave heard kept left had = subst (IsVisit Source Sink Clock (standing Ear ear clock) v) (sym is) (record {
+      → MatchOption v.session ((v.gone ≡ v.came) × (clock' ≡ clock)) (λ s. Attended s clock v.came clock' v.gone) → IsVisit Attended (standing Ear ear clock) v stand
+  left_visit ear ear1 ear2 clock clock' v stand is gave heard kept left had = subst (IsVisit Attended (standing Ear ear clock) v) (sym is) (record {
     gave = subst (GivesFirst (Ear.heard ear) v.came) (sym heard) gave;
     had = had;
     left = subst (λ k. Keeps k (v.gone ∷ []) (Ear.kept ear2)) kept left;

@@ -12,7 +12,7 @@ use Rattle.sk_desk.specs.declared.call.Call.{Call}
 use Rattle.sk_talk.specs.Talk.{DoesAll, Ends}
 use Rattle.sk_talk.proofs.Doing.{does_keep, does_map}
 use Rattle.sk_talk.proofs.Mapping.{ends_map, some_of}
-use Rattle.sk_serve.specs.Session.{Does, IsSession, Seen}
+use Rattle.sk_serve.specs.Session.{Does, Seen}
 
 pub none_read : (words : Words) → length words ≡ 0 → IsRead words (Err fault.Unknown)
 none_read [] e = refl
@@ -24,17 +24,6 @@ pub told_as : (wants_words : Bool) (before after : Option (List Call)) (lent wor
 told_as true before after lent words now answer same untold adds = subst (λ z. AddsCall before (call_of z now answer) after) (same refl) adds
 told_as false None after lent words now answer same untold adds = adds
 told_as false (Some calls) after lent words now answer same untold adds = absurd (cc (untold refl))
-
--- What a session on a new seat came to, by the rows that its desk acknowledged, where the desk tells no calls.
-pub summary_of : {D K C : Type 0} (acked : D → ℕ) (moments : K → Option (ℕ → ℕ)) (left taken : C → Option Bytes) (desk desk' : D) (clock clock' : K) (conn conn' : C) (talk : TalkEnd)
-    → IsSession false (λ d. None) acked moments left taken desk clock conn talk desk' clock' conn' → acked desk ≡ 0
-    → IsSession {D = ℕ} false (λ rows. None) (λ rows. rows) moments left taken 0 clock conn talk (acked desk') clock' conn'
-summary_of acked moments left taken desk desk' clock clock' conn conn' talk s new = record {
-  bytes = s.bytes;
-  written = s.written;
-  moves = s.moves;
-  ends = subst (λ n. Ends (DoesAll (Does false)) (record { calls = None; acked = n; moments = moments clock }) talk s.bytes (left conn') (record { calls = None; acked = acked desk'; moments = moments clock' }) s.written) new s.ends;
-}
 
 -- a number was left
 pub some_left : (n : ℕ) → (n ≡ 0 → ⊥) → 0 < n

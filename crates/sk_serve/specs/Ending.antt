@@ -9,3 +9,4 @@ abbrev pub end_of : ServeFault → ServeEnd
 end_of fault.Failed = serve_end.Failed
 end_of fault.Spent = serve_end.Spent
 end_of fault.Memory = serve_end.Memory
+end_of fault.Unsettled = serve_end.Failed

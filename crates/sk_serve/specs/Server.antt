@@ -2,9 +2,6 @@
 use Rattle.std.specs.Prelude.{◌≡◌, ◌≢◌, ◌⊎◌, ℕ, ◌+◌, ◌-◌, ◌*◌, ◌/◌, ◌^◌, ◌<◌, ◌≤◌, All, List, [], length, map, Option, Some, None, Result, Ok, Err, Bool, true, false}
 use Rattle.std.specs.List.{Any, sum_by}
 use Rattle.sk_base.specs.Outside.{Rose}
-use Rattle.sk_base.specs.declared.clock.Clock as a_clock
-use Rattle.sk_base.specs.declared.sink.Sink as a_sink
-use Rattle.sk_base.specs.declared.source.Source as a_source
 use Rattle.sk_desk.specs.declared.hub.HubFault.{HubFault}
 use Rattle.sk_desk.specs.declared.hub.HubFault.TheVariants as hub_fault
 use Rattle.sk_desk.specs.Pass.{PassView}
@@ -13,8 +10,9 @@ use Rattle.sk_edge.specs.Collected.{Collected, Keeps, MakesRoom}
 use Rattle.sk_edge.specs.Doors.{IsNudged, Listens}
 use Rattle.sk_edge.specs.declared.door.Door as a_door
 use Rattle.sk_edge.specs.declared.door.Ear as an_ear
-use Rattle.sk_talk.specs.declared.talk_end.TalkEnd.{TalkEnd}
-use Rattle.sk_serve.specs.Visits.{Among, AreVisits, EndsUnserved, HasShutdown, IsSummary, Standing, Visit, acknowledged_in, served_in, standing}
+use Rattle.sk_serve.specs.Visits.{Among, AreVisits, EndsUnserved, HasShutdown, HasUnsettled, Standing, Visit, acknowledged_in, served_in, standing}
+use Rattle.sk_serve.specs.declared.attend.Ending.{Ending}
+use Rattle.sk_serve.specs.Attending.{Attending}
 use Rattle.sk_serve.specs.declared.accept_loop.LoopEnd.{LoopEnd}
 use Rattle.sk_serve.specs.declared.accept_loop.LoopEnd.TheVariants as loop_end
 use Rattle.sk_serve.specs.declared.serve_end.ServeEnd.{ServeEnd}
@@ -24,9 +22,9 @@ use Rattle.sk_serve.specs.declared.serve_end.ServeFault.TheVariants as fault
 use Rattle.sk_serve.specs.declared.serve_end.Served.{Served}
 
 -- A number of the pass was given, and the connection's session on its seat came to this; its amount is the pass's now.
-abbrev pub ServesOne : {C K : Type 0} → a_source.Ghosts C → a_sink.Ghosts C → a_clock.Ghosts K → PassView → K → C → TalkEnd → PassView → K → C → Type 0
-ServesOne Source Sink Clock old clock conn how new clock' conn' = (new.count + 1 ≡ old.count)
-    × ((added : ℕ) × IsSummary Source Sink Clock (record { acknowledged = added; end = how }) clock conn clock' conn' × (new.amount ≡ old.amount + added))
+abbrev pub ServesOne : {C K : Type 0} → Attending C K → PassView → K → C → Ending → PassView → K → C → Type 0
+ServesOne Attended old clock conn how new clock' conn' = (new.count + 1 ≡ old.count)
+    × ((added : ℕ) × Attended (record { acknowledged = added; how = how }) clock conn clock' conn' × (new.amount ≡ old.amount + added))
 
 -- ## Loops
 
@@ -64,19 +62,20 @@ nudges_at other others = others
 abbrev pub stands : {E C K : Type 0} → an_ear.Ghosts E C → LoopView E K → Standing C K
 stands Ear l = standing Ear l.ear l.clock
 
-module _ {E C K : Type 0} (Ear : an_ear.Ghosts E C) (Source : a_source.Ghosts C) (Sink : a_sink.Ghosts C) (Clock : a_clock.Ghosts K) where
+module _ {E C K : Type 0} (Ear : an_ear.Ghosts E C) (Attended : Attending C K) where
   -- A loop ran, beside so many others: these connections came, and it counts those that it served and what they acknowledged. It ended as one whose ear
-  -- failed only where the ear's count rose; and as one whose numbers were used up only where one more connection had come. Where it ended by a cause of
-  -- its own, as SHUTDOWN is one, it woke each other loop once, and else none; and it doesn't run again.
+  -- failed only where the ear's count rose; as one whose numbers were used up only where one more connection had come; and as unsettled only where a
+  -- session was. Where it ended by a cause of its own, as SHUTDOWN is one, it woke each other loop once, and else none; and it doesn't run again.
   pub record Runs (others : ℕ) (old new : LoopView E K) : Type 0 where
     pub visits : List (Visit C)
-    pub came : AreVisits Source Sink Clock (stands Ear old) visits (stands Ear new)
+    pub came : AreVisits Attended (stands Ear old) visits (stands Ear new)
     pub served : new.served ≡ old.served + served_in visits
     pub amount : new.pass.amount ≡ old.pass.amount + acknowledged_in visits
     pub numbers_same : new.numbers ≡ old.numbers
     pub later : Ear.ear_faults old.ear ≤ Ear.ear_faults new.ear
     pub failed : new.end ≡ loop_end.Failed → (old.end ≡ loop_end.Failed) ⊎ Rose (Ear.ear_faults old.ear) (Ear.ear_faults new.ear)
     pub spent : new.end ≡ loop_end.Spent → (old.end ≡ loop_end.Spent) ⊎ EndsUnserved visits
+    pub unsettled : new.end ≡ loop_end.Unsettled → (old.end ≡ loop_end.Unsettled) ⊎ HasUnsettled visits
     pub woke : old.end ≡ loop_end.Done → IsNudged (Ear.nudged old.ear) (nudges_at new.end others) (Ear.nudged new.ear)
     pub over : old.end ≢ loop_end.Done → (new ≡ old) × (visits ≡ [])
     pub quit : new.shut ≡ true → (old.shut ≡ true) ⊎ (HasShutdown visits × (new.end ≢ loop_end.Done))
@@ -98,12 +97,15 @@ end_of hub_fault.Memory = loop_end.Memory
 abbrev pub NoneAt : {E K : Type 0} → LoopEnd → List (LoopView E K) → Type 0
 NoneAt how loops = All (λ l. l.end ≢ how) loops
 
--- The loops' gravest fault: that an ear failed; else that numbers were used up; else that there was no memory. None where no loop ended by one of these.
+-- The loops' gravest fault: that an ear failed; else that numbers were used up; else that there was no memory; else that a session was unsettled. None where
+-- no loop ended by one of these.
 abbrev pub IsGravest : {E K : Type 0} → List (LoopView E K) → Option ServeFault → Type 0
 IsGravest loops (Some fault.Failed) = Any (λ l. l.end ≡ loop_end.Failed) loops
 IsGravest loops (Some fault.Spent) = NoneAt loop_end.Failed loops × Any IsUsed loops
 IsGravest loops (Some fault.Memory) = NoneAt loop_end.Failed loops × (NoneAt loop_end.Spent loops × Any (λ l. l.end ≡ loop_end.Memory) loops)
-IsGravest loops None = NoneAt loop_end.Failed loops × (NoneAt loop_end.Spent loops × NoneAt loop_end.Memory loops)
+IsGravest loops (Some fault.Unsettled) =
+    NoneAt loop_end.Failed loops × (NoneAt loop_end.Spent loops × (NoneAt loop_end.Memory loops × Any (λ l. l.end ≡ loop_end.Unsettled) loops))
+IsGravest loops None = NoneAt loop_end.Failed loops × (NoneAt loop_end.Spent loops × (NoneAt loop_end.Memory loops × NoneAt loop_end.Unsettled loops))
 
 -- ## Ears
 
@@ -115,10 +117,10 @@ pub record Account (E C K : Type 0) : Type 0 where
   pub clock' : K
   pub visits : List (Visit C)
 
-module _ {E C K : Type 0} (Ear : an_ear.Ghosts E C) (Source : a_source.Ghosts C) (Sink : a_sink.Ghosts C) (Clock : a_clock.Ghosts K) where
+module _ {E C K : Type 0} (Ear : an_ear.Ghosts E C) (Attended : Attending C K) where
   -- The ear gave these connections, in order, and each was left to it: as its session left it, or as it came where it had none.
   abbrev pub IsAccount : Account E C K → Type 0
-  IsAccount a = AreVisits Source Sink Clock (standing Ear a.ear a.clock) a.visits (standing Ear a.ear' a.clock')
+  IsAccount a = AreVisits Attended (standing Ear a.ear a.clock) a.visits (standing Ear a.ear' a.clock')
 
   -- This came of these ears, in order, and of that this holds.
   pub record Became (ears ears' : List E) (P : List (Account E C K) → Type 0) : Type 0 where
@@ -145,26 +147,44 @@ module _ {E C K : Type 0} (Ear : an_ear.Ghosts E C) where
   abbrev pub IsShut : ℕ → Account E C K → Type 0
   IsShut others a = HasShutdown a.visits × IsNudged (Ear.nudged a.ear) others (Ear.nudged a.ear')
 
-  -- What a server did: its sessions are those of the connections, and what they acknowledged adds up to what the store counts from outside. Each ear had as
-  -- many connections served as it was to, or a session ended by SHUTDOWN.
-  pub record IsServed (bound loops : ℕ) (s : Served) (accounts : List (Account E C K)) : Type 0 where
-    pub sessions : s.sessions ≡ sum_by (λ a. served_in a.visits) accounts
-    pub acknowledged : s.acknowledged ≡ sum_by (λ a. acknowledged_in a.visits) accounts
+  -- What the loops did: so many sessions are those of the connections, and what they acknowledged adds up to so many rows. Each ear had as many connections
+  -- served as it was to, or a session ended by SHUTDOWN.
+  pub record HaveRun (bound loops sessions rows : ℕ) (accounts : List (Account E C K)) : Type 0 where
+    pub sessions_are : sessions ≡ sum_by (λ a. served_in a.visits) accounts
+    pub rows_are : rows ≡ sum_by (λ a. acknowledged_in a.visits) accounts
     pub done : IsFull bound accounts ⊎ Among (IsShut (loops - 1)) accounts
+
+  -- What a server did: its loops ran, and what its sessions acknowledged is what the store counts from outside.
+  pub record IsServed (bound loops : ℕ) (s : Served) (accounts : List (Account E C K)) : Type 0 where
+    pub ran : HaveRun bound loops s.sessions s.acknowledged accounts
     pub outside : s.acknowledged ≡ s.tally.outside
     pub balanced : IsBalanced s.tally
 
-module _ {E C K : Type 0} (Ear : an_ear.Ghosts E C) (Source : a_source.Ghosts C) (Sink : a_sink.Ghosts C) (Clock : a_clock.Ghosts K) where
-  -- The loops over these ears ended so. Nothing says when there is no memory.
+-- A session of it was unsettled.
+abbrev pub EndsUnsettled : {E C K : Type 0} → Account E C K → Type 0
+EndsUnsettled a = HasUnsettled a.visits
+
+module _ {E C K : Type 0} (Ear : an_ear.Ghosts E C) (Attended : Attending C K) where
+  -- The loops over these ears ended at this fault. Nothing says when there is no memory.
+  abbrev pub EndedAt : ℕ → List E → List E → ServeFault → Type 0
+  EndedAt loops ears ears' fault.Failed = Became Ear Attended ears ears' (Among (EarFailed Ear))
+  EndedAt loops ears ears' fault.Spent = Became Ear Attended ears ears' (Among (IsUsedUp ((2 ^ 32 - 2) / loops)))
+  EndedAt loops ears ears' fault.Unsettled = Became Ear Attended ears ears' (Among EndsUnsettled)
+  EndedAt loops ears ears' fault.Memory = Unit {0}
+
+  -- They ended so, after so many sessions, whose replies acknowledged so many rows.
+  abbrev pub LoopsEnded : (bound loops rows : ℕ) → List E → List E → Result ℕ ServeFault → Type 0
+  LoopsEnded bound loops rows ears ears' (Ok sessions) = Became Ear Attended ears ears' (HaveRun Ear bound loops sessions rows)
+  LoopsEnded bound loops rows ears ears' (Err f) = EndedAt loops ears ears' f
+
+  -- A server over them ended so.
   abbrev pub HaveEnded : (bound loops : ℕ) → List E → List E → Result Served ServeFault → Type 0
-  HaveEnded bound loops ears ears' (Ok s) = Became Ear Source Sink Clock ears ears' (IsServed Ear bound loops s)
-  HaveEnded bound loops ears ears' (Err fault.Failed) = Became Ear Source Sink Clock ears ears' (Among (EarFailed Ear))
-  HaveEnded bound loops ears ears' (Err fault.Spent) = Became Ear Source Sink Clock ears ears' (Among (IsUsedUp ((2 ^ 32 - 2) / loops)))
-  HaveEnded bound loops ears ears' (Err fault.Memory) = Unit {0}
+  HaveEnded bound loops ears ears' (Ok s) = Became Ear Attended ears ears' (IsServed Ear bound loops s)
+  HaveEnded bound loops ears ears' (Err f) = EndedAt loops ears ears' f
 
 -- ## A server
 
-module _ {N E C K : Type 0} (Door : a_door.Ghosts N C E) (Ear : an_ear.Ghosts E C) (Source : a_source.Ghosts C) (Sink : a_sink.Ghosts C) (Clock : a_clock.Ghosts K) where
+module _ {N E C K : Type 0} (Door : a_door.Ghosts N C E) (Ear : an_ear.Ghosts E C) (Attended : Attending C K) where
   -- The door gave so many ears, which hear what it told, and gathered them again; and this holds of what came of them.
   pub record Serves (loops : ℕ) (old new : N) (P : List (Account E C K) → Type 0) : Type 0 where
     pub ears : List E
@@ -174,7 +194,7 @@ module _ {N E C K : Type 0} (Door : a_door.Ghosts N C E) (Ear : an_ear.Ghosts E 
     pub hears : Listens Ear.heard Ear.kept Ear.nudged (Door.heard old) ears (Door.heard new)
     pub made : MakesRoom (Door.gathered old) loops room
     pub gathers : Keeps room ears' (Door.gathered new)
-    pub became : Became Ear Source Sink Clock ears ears' P
+    pub became : Became Ear Attended ears ears' P
 
   -- The door's own count rose, or that of one of its ears.
   abbrev pub HasFailed : ℕ → N → N → Type 0

@@ -1,21 +1,11 @@
 -- What came of a connection that an ear gave, and what several of them add up to.
-use Rattle.std.specs.Prelude.{◌≡◌, ◌⊎◌, ◌++◌, ℕ, List, [], ◌∷◌, Option, None, Some, MatchOption, false}
+use Rattle.std.specs.Prelude.{◌≡◌, ◌⊎◌, ◌++◌, ℕ, List, [], ◌∷◌, Option, None, Some, MatchOption, true}
 use Rattle.std.specs.List.{FoldsTo, sum_by}
-use Rattle.sk_base.specs.Outside.{Rose}
-use Rattle.sk_base.specs.declared.clock.Clock as a_clock
-use Rattle.sk_base.specs.declared.sink.Sink as a_sink
-use Rattle.sk_base.specs.declared.source.Source as a_source
 use Rattle.sk_edge.specs.declared.door.Ear as an_ear
 use Rattle.sk_edge.specs.Collected.{Collected, Keeps}
 use Rattle.sk_edge.specs.Doors.{GivesFirst}
-use Rattle.sk_talk.specs.declared.talk_end.TalkEnd.{TalkEnd}
 use Rattle.sk_talk.specs.declared.talk_end.TalkEnd.TheVariants as end
-use Rattle.sk_serve.specs.Session.{IsSession}
-
--- how many rows the replies of a session acknowledged, and how it ended
-pub record Summary : Type 0 where
-  pub acknowledged : ℕ
-  pub end : TalkEnd
+use Rattle.sk_serve.specs.Attending.{Attending, Summary}
 
 -- a connection as an ear gave it and as it was left to the ear, and what its session came to, where it had one
 pub record Visit (C : Type 0) : Type 0 where
@@ -32,18 +22,11 @@ pub record Standing (C K : Type 0) : Type 0 where
 abbrev pub standing : {E C K : Type 0} → an_ear.Ghosts E C → E → K → Standing C K
 standing Ear ear clock = record { heard = Ear.heard ear; kept = Ear.kept ear; clock = clock }
 
-module _ {C K : Type 0} (Source : a_source.Ghosts C) (Sink : a_sink.Ghosts C) (Clock : a_clock.Ghosts K) where
-  -- The session of a connection, on a new seat whose desk tells no calls and wants no words, came to this. A fault of the connection was its end only where
-  -- the count of those rose.
-  pub record IsSummary (s : Summary) (clock : K) (conn : C) (clock' : K) (conn' : C) : Type 0 where
-    pub session : IsSession {D = ℕ} false (λ rows. None) (λ rows. rows) Clock.moments Source.left Sink.taken 0 clock conn s.end s.acknowledged clock' conn'
-    pub read_fault : s.end ≡ end.ReadFault → Rose (Source.read_faults conn) (Source.read_faults conn')
-    pub write_fault : s.end ≡ end.WriteFault → Rose (Sink.write_faults conn) (Sink.write_faults conn')
-
+module _ {C K : Type 0} (Attended : Attending C K) where
   -- The ear gave the connection. That had its session at the clock; or none, and is as it came. Then it was left to the ear.
   pub record IsVisit (old : Standing C K) (v : Visit C) (new : Standing C K) : Type 0 where
     pub gave : GivesFirst old.heard v.came new.heard
-    pub had : MatchOption v.session ((v.gone ≡ v.came) × (new.clock ≡ old.clock)) (λ s. IsSummary s old.clock v.came new.clock v.gone)
+    pub had : MatchOption v.session ((v.gone ≡ v.came) × (new.clock ≡ old.clock)) (λ s. Attended s old.clock v.came new.clock v.gone)
     pub left : Keeps old.kept (v.gone ∷ []) new.kept
 
   -- These connections came, one after another.
@@ -67,7 +50,11 @@ rows_of (Some s) = s.acknowledged
 
 abbrev pub IsShutdown : Option Summary → Type 0
 IsShutdown None = ⊥
-IsShutdown (Some s) = s.end ≡ end.Shutdown
+IsShutdown (Some s) = s.how.end ≡ end.Shutdown
+
+abbrev pub IsUnsettled : Option Summary → Type 0
+IsUnsettled None = ⊥
+IsUnsettled (Some s) = s.how.unsettled ≡ true
 
 module _ {C : Type 0} where
   -- how many had a session
@@ -80,6 +67,10 @@ module _ {C : Type 0} where
   -- A session of one of them ended by SHUTDOWN.
   abbrev pub HasShutdown : List (Visit C) → Type 0
   HasShutdown visits = Among (λ v. IsShutdown v.session) visits
+
+  -- What was done before the replies of one of them couldn't be stored.
+  abbrev pub HasUnsettled : List (Visit C) → Type 0
+  HasUnsettled visits = Among (λ v. IsUnsettled v.session) visits
 
   -- The last of them had no session.
   abbrev pub EndsUnserved : List (Visit C) → Type 0

@@ -1,17 +1,20 @@
 // One accept loop: it serves one connection after another, each on a seat of its own, and leaves each to its ear.
-ghost use Rattle.std.specs.Prelude.{◌≡◌, ◌≢◌, ◌⊎◌, ◌≤◌, ◌*◌, ◌↔◌, IfOk, IfErr, IsTrue, Err, false};
+ghost use Rattle.std.specs.Prelude.{◌≡◌, ◌≢◌, ◌⊎◌, ◌≤◌, ◌*◌, ◌↔◌, IfOk, IfErr, IfSome, IsTrue, Err, true, false};
 ghost use Rattle.sk_base.specs.Outside.{Rose};
 ghost use Rattle.sk_edge.specs.Doors.{IsNudged};
 ghost use Rattle.sk_serve.specs.Server.{Runs, ServesOne, end_of, stands};
+ghost use Rattle.sk_serve.specs.Attending.{Attends};
 ghost use Rattle.sk_desk.specs.declared.hub.HubFault.TheVariants as hub_fault;
 
 use crate::gate::{Gate, GatedDesk};
 use crate::reserve::Reserve;
 use crate::shared::Shared;
-use crate::{SessionEnd, session};
-use sk_base::{Clock, Duplex, Failed};
-use sk_desk::{HubFault, HubId, Pass};
+use crate::SessionEnd;
+use crate::attend::{Ending, attend};
+use sk_base::{Clock, Conn, Failed};
+use sk_desk::{Book, HubFault, HubId, Pass};
 use sk_edge::Ear;
+use sk_held::Settlers;
 use std::marker::Model;
 use std::sync::Wait;
 
@@ -28,6 +31,8 @@ pub enum LoopEnd {
     Spent,
     /// There was no memory for a seat.
     Memory,
+    /// What was done before the replies of a session of it couldn't be stored.
+    Unsettled,
 }
 
 /// An ear, a clock, and a pass with two parts for each of its numbers. Contracts see these, how many numbers there were at first, how many connections
@@ -54,26 +59,30 @@ impl<E: Ear, K: Clock, I: HubId> Model for AcceptLoop<E, K, I> {
 }
 
 // Serves one connection on a new seat.
-fn serve_one<R: Wait + Sync, C: Duplex, K: Clock, I: HubId, G: Gate>(
-    shared: &Shared<'_, R, I, G>,
+fn serve_one<R: Wait + Sync, C: Conn, K: Clock, I: HubId, B: Book, W: Settlers, G: Gate>(
+    shared: &Shared<'_, R, I, B, W, G>,
     pass: &mut Pass<I>,
-    conn: &mut C,
+    conn: C,
     clock: &mut K,
     reserve: &mut Reserve,
-) -> Result<SessionEnd, HubFault>
+) -> (C, Result<Ending, HubFault>)
     ensures parts { pass.new.parts ≡ pass.old.parts }
-    ensures served { IfOk result (λ end. ServesOne C.Source C.Sink K.Clock pass.old clock.old conn.old end pass.new clock.new conn.new) }
-    ensures fault { IfErr result (λ fault. (pass.new ≡ pass.old) × (clock.new ≡ clock.old) × (conn.new ≡ conn.old)) }
-    ensures spent { result ≡ Err hub_fault.Spent → pass.old.count ≡ 0 }
+    ensures served { IfOk result.1 (λ how. ServesOne (Attends W.holds_back B.wants_words C.Source C.Sink K.Clock W.Settler.Settler)
+        pass.old clock.old conn how pass.new clock.new result.0) }
+    ensures fault { IfErr result.1 (λ fault. (pass.new ≡ pass.old) × (clock.new ≡ clock.old) × (result.0 ≡ conn)) }
+    ensures spent { result.1 ≡ Err hub_fault.Spent → pass.old.count ≡ 0 }
 {
-    let desk = shared.hub.seat(shared.rt, pass)?;
+    let desk = match shared.hub.seat(shared.rt, pass) {
+        Ok(desk) => desk,
+        Err(fault) => return (conn, Err(fault)),
+    };
     let seat = desk.number();
     let mut gated = GatedDesk::new(desk, shared.gate, reserve.take(), seat);
-    let end = session(shared.alloc, &mut gated, conn, clock);
+    let (conn, ending) = attend(shared.alloc, shared.settlers, &mut gated, conn, clock);
     let (desk, kept) = gated.into_parts();
     *reserve = kept;
     desk.end(pass);
-    Ok(end)
+    (conn, Ok(ending))
 }
 
 // Wakes each other loop. It goes on with the others where that failed.
@@ -98,11 +107,34 @@ fn end_at(fault: HubFault) -> LoopEnd
     ensures is { result ≡ end_of fault }
     ensures failed { result ≢ LoopEnd.Failed }
     ensures cause { result ≢ LoopEnd.Done }
+    ensures settled { result ≢ LoopEnd.Unsettled }
 {
     match fault {
         HubFault::Spent => LoopEnd::Spent,
         HubFault::Memory => LoopEnd::Memory,
     }
+}
+
+// Why a loop ends behind such a session. None where it goes on.
+fn cause_of(how: Ending) -> Option<LoopEnd>
+    ensures cause { IfSome result (λ end. (end ≢ LoopEnd.Done) × (end ≢ LoopEnd.Failed) × (end ≢ LoopEnd.Spent)) }
+    ensures shut { IfSome result (λ end. end ≡ LoopEnd.Shutdown → how.end ≡ SessionEnd.Shutdown) }
+    ensures unsettled { IfSome result (λ end. end ≡ LoopEnd.Unsettled → how.unsettled ≡ true) }
+{
+    if how.unsettled {
+        return Some(LoopEnd::Unsettled);
+    }
+    match how.end {
+        SessionEnd::Shutdown => Some(LoopEnd::Shutdown),
+        _ => None,
+    }
+}
+
+// Whether a session ended by SHUTDOWN: one before, or that by which the loop ends.
+fn has_shut(was: bool, end: LoopEnd) -> bool
+    ensures { result ≡ true → (was ≡ true) ⊎ (end ≡ LoopEnd.Shutdown) }
+{
+    was || end == LoopEnd::Shutdown
 }
 
 impl<E: Ear, K: Clock, I: HubId> AcceptLoop<E, K, I> {
@@ -122,7 +154,11 @@ impl<E: Ear, K: Clock, I: HubId> AcceptLoop<E, K, I> {
     }
 
     // The loop ends by this cause, and wakes the others, which are to end.
-    fn stop<R: Wait + Sync, G: Gate>(&mut self, shared: &Shared<'_, R, I, G>, end: LoopEnd)
+    fn stop<R: Wait + Sync, B: Book, W: Settlers, G: Gate>(
+        &mut self,
+        shared: &Shared<'_, R, I, B, W, G>,
+        end: LoopEnd,
+    )
         requires cause { end ≢ LoopEnd.Done }
         requires spent { end ≡ LoopEnd.Spent → self.old.pass.count ≡ 0 }
         ensures same { (self.new.numbers ≡ self.old.numbers) × (self.new.shut ≡ self.old.shut) }
@@ -141,15 +177,16 @@ impl<E: Ear, K: Clock, I: HubId> AcceptLoop<E, K, I> {
     }
 
     // Waits for the next connection and serves it. False where the loop has ended.
-    fn step<R: Wait + Sync, G: Gate>(
+    fn step<R: Wait + Sync, B: Book, W: Settlers, G: Gate>(
         &mut self,
-        shared: &Shared<'_, R, I, G>,
+        shared: &Shared<'_, R, I, B, W, G>,
         reserve: &mut Reserve,
     ) -> bool
         requires { self.old.end ≡ LoopEnd.Done }
-        ensures { Runs E.Ear E.Conn.Source E.Conn.Sink K.Clock shared.now.others self.old self.new }
+        ensures { Runs E.Ear (Attends W.holds_back B.wants_words E.Conn.Source E.Conn.Sink K.Clock W.Settler.Settler)
+            shared.now.others self.old self.new }
     {
-        let Ok(mut conn) = self.ear.accept() else {
+        let Ok(conn) = self.ear.accept() else {
             self.stop(shared, LoopEnd::Failed);
             return false;
         };
@@ -157,18 +194,17 @@ impl<E: Ear, K: Clock, I: HubId> AcceptLoop<E, K, I> {
             self.ear.leave(conn);
             return false;
         }
-        let served = serve_one(shared, &mut self.pass, &mut conn, &mut self.clock, reserve);
+        let (conn, served) = serve_one(shared, &mut self.pass, conn, &mut self.clock, reserve);
         self.ear.leave(conn);
         match served {
-            Ok(SessionEnd::Shutdown) => {
+            Ok(how) => {
                 self.served += 1;
-                self.shut = true;
-                self.stop(shared, LoopEnd::Shutdown);
+                let Some(end) = cause_of(how) else {
+                    return true;
+                };
+                self.shut = has_shut(self.shut, end);
+                self.stop(shared, end);
                 false
-            }
-            Ok(_) => {
-                self.served += 1;
-                true
             }
             Err(fault) => {
                 self.stop(shared, end_at(fault));
@@ -185,8 +221,12 @@ impl<E: Ear, K: Clock, I: HubId> AcceptLoop<E, K, I> {
     }
 
     /// Serves connections until the loop ends. One that ended by a cause of its own serves no more.
-    pub fn run<R: Wait + Sync, G: Gate>(&mut self, shared: &Shared<'_, R, I, G>)
-        ensures { Runs E.Ear E.Conn.Source E.Conn.Sink K.Clock shared.now.others self.old self.new }
+    pub fn run<R: Wait + Sync, B: Book, W: Settlers, G: Gate>(
+        &mut self,
+        shared: &Shared<'_, R, I, B, W, G>,
+    )
+        ensures { Runs E.Ear (Attends W.holds_back B.wants_words E.Conn.Source E.Conn.Sink K.Clock W.Settler.Settler)
+            shared.now.others self.old self.new }
     {
         let mut reserve = Reserve::new(shared.alloc);
         for _ in shared.rt.forever() {

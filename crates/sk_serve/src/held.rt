@@ -6,13 +6,13 @@ ghost use Rattle.sk_serve.specs.HeldSession.{IsHeldSession};
 use crate::{SessionEnd, session};
 use sk_base::{Clock, Conn, Failed};
 use sk_desk::Desk;
-use sk_held::{HeldConn, HeldId, Settler};
+use sk_held::{HeldConn, HeldId, Holdable, Settler};
 use std::alloc::Global;
 use std::marker::Brand;
 
 /// What a session over a held connection leaves.
 #[derive(Drop)]
-pub struct HeldEnd<C: Conn, W: Settler> {
+pub struct HeldEnd<C: Holdable, W: Settler> {
     pub conn: C,
     pub settler: W,
     pub end: SessionEnd,
@@ -21,7 +21,7 @@ pub struct HeldEnd<C: Conn, W: Settler> {
 }
 
 // The session, over a connection that stands as its id tells.
-fn hold<D: Desk, C: Conn, K: Clock, W: Settler, I: HeldId>(
+fn hold<D: Desk, C: Holdable, K: Clock, W: Settler, I: HeldId>(
     alloc: Global,
     desk: &mut D,
     conn: C,

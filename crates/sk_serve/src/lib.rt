@@ -2,6 +2,7 @@
 #![tactic(auto)]
 
 mod accept_loop;
+mod attend;
 mod driver;
 mod gate;
 mod held;
@@ -12,8 +13,10 @@ mod shared;
 mod sitting;
 
 pub use driver::session;
+pub use attend::Ending;
 pub use gate::{Gate, OpenGate};
 pub use held::{HeldEnd, held_session};
-pub use serve_end::{ServeEnd, Served};
-pub use server::serve;
+pub use serve_end::{ServeEnd, ServeFault, Served};
+pub use server::{serve, serve_at};
+pub use shared::Shared;
 pub use sk_talk::TalkEnd as SessionEnd;

@@ -28,12 +28,17 @@ pub enum ServeEnd {
     Memory,
 }
 
-/// Why the loops of a server ended before they were done.
+/// Why the loops of a server ended before they were done. Of several causes it is the first of these.
 #[derive(Clone, Copy)]
 pub enum ServeFault {
+    /// An ear failed: its count of faults rose.
     Failed,
+    /// A loop had used up its seats' numbers when it accepted one more connection.
     Spent,
+    /// There was no memory. Nothing says when this comes.
     Memory,
+    /// What was done before the replies of a session couldn't be stored. This comes only where replies wait for that.
+    Unsettled,
 }
 
 impl From<ServeFault> for ServeEnd {
@@ -44,6 +49,7 @@ impl From<ServeFault> for ServeEnd {
             ServeFault::Failed => ServeEnd::Failed,
             ServeFault::Spent => ServeEnd::Spent,
             ServeFault::Memory => ServeEnd::Memory,
+            ServeFault::Unsettled => ServeEnd::Failed,
         }
     }
 }

@@ -1,9 +1,12 @@
 // A server: accept loops in threads over one store, each with an ear, a clock and a pass of its own. Once they have ended their passes are joined, the
 // ears go back to the door, and the store is closed.
-ghost use Rattle.std.specs.Prelude.{◌≡◌, ◌+◌, ◌-◌, ◌*◌, ◌/◌, ◌<◌, ◌≤◌, ℕ, OnOk, Some, Err, true, false, map, reverse, vec_len, vec_capacity, All};
+ghost use Rattle.std.specs.Prelude.{◌≡◌, ◌+◌, ◌-◌, ◌*◌, ◌/◌, ◌^◌, ◌<◌, ◌≤◌, ℕ, OnOk, Some, Err, true, false, map, reverse, vec_len, vec_capacity, All};
 ghost use Rattle.std.specs.List.{AllZip, Any, sum_by};
+ghost use Rattle.sk_desk.specs.Counts.{blank_share};
+ghost use Rattle.sk_desk.specs.Pass.{pass_of};
 ghost use Rattle.sk_model.specs.World.{first};
-ghost use Rattle.sk_serve.specs.Server.{HasEnded, HaveEnded, IsFresh, IsGravest, IsSettled, IsUsed, NoneAt, Runs};
+ghost use Rattle.sk_serve.specs.Attending.{Attends, IsAtOnce};
+ghost use Rattle.sk_serve.specs.Server.{HasEnded, HaveEnded, IsFresh, IsGravest, IsSettled, IsUsed, LoopsEnded, NoneAt, Runs};
 
 use crate::accept_loop::{AcceptLoop, LoopEnd};
 use crate::gate::Gate;
@@ -11,8 +14,9 @@ use crate::serve_end::{ServeEnd, ServeFault, Served};
 use crate::shared::Shared;
 use sk_base::Clock;
 use sk_base::limits::MOST_LOOPS_SERVED;
-use sk_desk::{Hub, HubBlank, HubId, NoBook, Pass};
+use sk_desk::{Book, Hub, HubBlank, HubId, NoBook, Pass};
 use sk_edge::{Door, DoorFault, Ear};
+use sk_held::{NoSettlers, Settlers};
 use sk_model::Limits;
 use std::alloc::Global;
 use std::marker::Brand;
@@ -73,10 +77,16 @@ fn run_all<
     E: Ear + Send,
     K: Clock + Send,
     I: HubId + Send + Sync,
+    B: Book + Send,
+    W: Settlers + Sync,
     G: Gate + Sync,
->(shared: &Shared<'_, R, I, G>, threads: usize, loops: &mut [AcceptLoop<E, K, I>])
+>(shared: &Shared<'_, R, I, B, W, G>, threads: usize, loops: &mut [AcceptLoop<E, K, I>])
+where
+    B::Place: Send,
+    W::Settler: Send,
     requires { 0 < threads }
-    ensures { AllZip (Runs E.Ear E.Conn.Source E.Conn.Sink K.Clock shared.now.others) loops.old loops.new }
+    ensures { AllZip (Runs E.Ear (Attends W.holds_back B.wants_words E.Conn.Source E.Conn.Sink K.Clock W.Settler.Settler) shared.now.others)
+        loops.old loops.new }
 {
     shared.resume();
     thread::for_each_mut(
@@ -84,7 +94,8 @@ fn run_all<
         loops,
         threads,
         &|_: usize, it: &mut AcceptLoop<E, K, I>|
-            ensures { Runs E.Ear E.Conn.Source E.Conn.Sink K.Clock shared.entry.now.others it.old it.new }
+            ensures { Runs E.Ear (Attends W.holds_back B.wants_words E.Conn.Source E.Conn.Sink K.Clock W.Settler.Settler)
+                shared.entry.now.others it.old it.new }
         { it.run(shared) },
     );
 }
@@ -101,6 +112,13 @@ fn some_spent<E: Ear, K: Clock, I: HubId>(loops: &[AcceptLoop<E, K, I>]) -> bool
     ensures none { result ≡ false → NoneAt LoopEnd.Spent loops.now }
 {
     loops.iter().any(|it| it.is_spent())
+}
+
+fn some_unsettled<E: Ear, K: Clock, I: HubId>(loops: &[AcceptLoop<E, K, I>]) -> bool
+    ensures some { result ≡ true → Any (λ it. it.end ≡ LoopEnd.Unsettled) loops.now }
+    ensures none { result ≡ false → NoneAt LoopEnd.Unsettled loops.now }
+{
+    loops.iter().any(|it| it.is_at(LoopEnd::Unsettled))
 }
 
 fn some_starved<E: Ear, K: Clock, I: HubId>(loops: &[AcceptLoop<E, K, I>]) -> bool
@@ -122,6 +140,9 @@ fn fault_of<E: Ear, K: Clock, I: HubId>(loops: &[AcceptLoop<E, K, I>]) -> Option
     }
     if some_starved(loops) {
         return Some(ServeFault::Memory);
+    }
+    if some_unsettled(loops) {
+        return Some(ServeFault::Unsettled);
     }
     None
 }
@@ -154,17 +175,24 @@ fn run_on<
     E: Ear + Send,
     K: Clock + Send,
     I: HubId + Send + Sync,
+    B: Book + Send,
+    W: Settlers + Sync,
     G: Gate + Sync,
 >(
-    shared: &Shared<'_, R, I, G>,
+    shared: &Shared<'_, R, I, B, W, G>,
     threads: usize,
     loops: &mut [AcceptLoop<E, K, I>],
 ) -> Result<(), ServeFault>
+where
+    B::Place: Send,
+    W::Settler: Send,
     requires { 0 < threads }
-    ensures ran { AllZip (Runs E.Ear E.Conn.Source E.Conn.Sink K.Clock shared.now.others) loops.old loops.new }
+    ensures ran { AllZip (Runs E.Ear (Attends W.holds_back B.wants_words E.Conn.Source E.Conn.Sink K.Clock W.Settler.Settler) shared.now.others)
+        loops.old loops.new }
     ensures settled { OnOk result (IsSettled shared.now.sessions loops.new) }
     ensures failed { result ≡ Err ServeFault.Failed → Any (λ it. it.end ≡ LoopEnd.Failed) loops.new }
     ensures spent { result ≡ Err ServeFault.Spent → Any (λ it. IsUsed it) loops.new }
+    ensures unsettled { result ≡ Err ServeFault.Unsettled → Any (λ it. it.end ≡ LoopEnd.Unsettled) loops.new }
 {
     run_all(shared, threads, loops);
     for _ in shared.rt.forever() {
@@ -179,7 +207,47 @@ fn run_on<
     unreachable!()
 }
 
-// Serves over these ears, and has them back at the end. The hub is that of `I`.
+/// Serves over these ears, 1 to 64, a loop in a thread for each, and has them back at the end. Each loop serves one connection after another, on a new
+/// seat, until all end as [`serve`] says. Answers how many connections were served. The pass is a whole one, and is one again then, with what the replies
+/// of the sessions acknowledged.
+pub fn serve_at<
+    I: HubId + Send + Sync,
+    R: Threads + Wait + Sync,
+    E: Ear + Send,
+    K: Clock + Send,
+    B: Book + Send,
+    W: Settlers + Sync,
+    G: Gate + Sync,
+>(
+    shared: &Shared<'_, R, I, B, W, G>,
+    pass: &mut Pass<I>,
+    ears: &mut Vec<E>,
+    clock: &K,
+) -> Result<u64, ServeFault>
+where
+    B::Place: Send,
+    W::Settler: Send,
+    requires pass { pass.old ≡ pass_of 0 (2 ^ 32 - 1) (blank_share (2 ^ 34)) }
+    requires ears { (vec_len ears.old ≤ MOST_LOOPS_SERVED) × (shared.now.others + 1 ≡ vec_len ears.old) }
+    ensures parts { pass.new.parts ≡ pass.old.parts }
+    ensures ended { LoopsEnded E.Ear (Attends W.holds_back B.wants_words E.Conn.Source E.Conn.Sink K.Clock W.Settler.Settler)
+        shared.now.sessions (vec_len ears.old) pass.new.amount ears.old.items ears.new.items result }
+{
+    let count = ears.len();
+    let Ok(mut loops) = Vec::with_capacity(shared.alloc, count) else {
+        return Err(ServeFault::Memory);
+    };
+    let numbers = (u32::MAX - 1) / count as u32;
+    loops_for(ears, &mut loops, clock, pass, numbers);
+    let ended = run_on(shared, count, loops.as_mut_slice());
+    let served = gather(loops, ears, pass);
+    match ended {
+        Ok(()) => Ok(served),
+        Err(fault) => Err(fault),
+    }
+}
+
+// Serves over these ears from an empty store, and has them back at the end. The hub is that of `I`.
 fn serve_on<
     I: HubId + Send + Sync,
     R: Threads + Wait + Sync,
@@ -199,31 +267,30 @@ fn serve_on<
     requires blank { blank ≡ record { acks = I.acks; asks = I.asks; cuts = I.cuts } }
     requires start { first limits ≡ I.start }
     requires ears { (0 < vec_len ears.old) × (vec_len ears.old ≤ MOST_LOOPS_SERVED) }
-    ensures { HaveEnded E.Ear E.Conn.Source E.Conn.Sink K.Clock sessions (vec_len ears.old) ears.old.items ears.new.items result }
+    ensures { HaveEnded E.Ear (IsAtOnce E.Conn.Source E.Conn.Sink K.Clock) sessions (vec_len ears.old) ears.old.items ears.new.items result }
 {
-    let count = ears.len();
-    let Ok(mut loops) = Vec::with_capacity(alloc, count) else {
-        return Err(ServeFault::Memory);
-    };
-    let numbers = (u32::MAX - 1) / count as u32;
+    let others = ears.len() - 1;
     let (hub, mut pass) = Hub::<I, NoBook>::new(alloc, blank, limits, NoBook);
-    loops_for(ears, &mut loops, clock, &mut pass, numbers);
-    let ended = run_on(
-        &Shared::new(rt, alloc, &hub, gate, count - 1, sessions),
-        count,
-        loops.as_mut_slice(),
+    let ended = serve_at(
+        &Shared::new(rt, alloc, &hub, &NoSettlers, gate, others, sessions),
+        &mut pass,
+        ears,
+        clock,
     );
-    let served = gather(loops, ears, &mut pass);
-    if let Err(fault) = ended {
-        hub.abandon();
-        return Err(fault);
+    match ended {
+        Ok(served) => {
+            let (acknowledged, tally) = hub.close().finish(&mut pass);
+            Ok(Served {
+                sessions: served,
+                acknowledged,
+                tally,
+            })
+        }
+        Err(fault) => {
+            hub.abandon();
+            Err(fault)
+        }
     }
-    let (acknowledged, tally) = hub.close().finish(&mut pass);
-    Ok(Served {
-        sessions: served,
-        acknowledged,
-        tally,
-    })
 }
 
 /// Serves connections at the port, by so many accept loops, 1 to 64, each in a thread. Each serves one connection after another, on a new seat of one
@@ -244,7 +311,7 @@ where
     N::Ear: Send,
     requires { (0 < loops) × (loops ≤ MOST_LOOPS_SERVED) }
     // The door gave an ear to each loop, which gave its connections in order. Each of them took what its session calls for, and was left to its ear.
-    ensures ended { HasEnded N.Door N.Ear.Ear N.Conn.Source N.Conn.Sink K.Clock sessions loops door.old door.new result }
+    ensures ended { HasEnded N.Door N.Ear.Ear (IsAtOnce N.Conn.Source N.Conn.Sink K.Clock) sessions loops door.old door.new result }
     ensures later { N.door_faults door.old ≤ N.door_faults door.new }
 {
     let mut ears = match door.listen(port, loops) {

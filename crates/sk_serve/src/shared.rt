@@ -2,17 +2,19 @@
 ghost use Rattle.std.specs.Prelude.{◌≡◌};
 
 use crate::gate::Gate;
-use sk_desk::{Hub, HubId, NoBook};
+use sk_desk::{Book, Hub, HubId};
+use sk_held::Settlers;
 use std::alloc::Global;
 use std::sync::Wait;
 use std::sync::atomic::{AtomicBool, Ordering};
 
 /// What the accept loops share.
 #[derive(Drop)]
-pub struct Shared<'a, R: Wait + Sync, I: HubId, G: Gate> {
+pub struct Shared<'a, R: Wait + Sync, I: HubId, B: Book, W: Settlers, G: Gate> {
     pub rt: &'a R,
     pub alloc: Global,
-    pub hub: &'a Hub<I, NoBook>,
+    pub hub: &'a Hub<I, B>,
+    pub settlers: &'a W,
     pub gate: &'a G,
     /// How many other loops a loop has beside it.
     pub others: usize,
@@ -22,21 +24,24 @@ pub struct Shared<'a, R: Wait + Sync, I: HubId, G: Gate> {
     stopped: AtomicBool,
 }
 
-impl<'a, R: Wait + Sync, I: HubId, G: Gate> Shared<'a, R, I, G> {
+impl<'a, R: Wait + Sync, I: HubId, B: Book, W: Settlers, G: Gate> Shared<'a, R, I, B, W, G> {
+    /// What loops share that serve from this hub, with a settler for each session, where replies wait.
     pub fn new(
         rt: &'a R,
         alloc: Global,
-        hub: &'a Hub<I, NoBook>,
+        hub: &'a Hub<I, B>,
+        settlers: &'a W,
         gate: &'a G,
         others: usize,
         sessions: u64,
-    ) -> Shared<'a, R, I, G>
+    ) -> Shared<'a, R, I, B, W, G>
         ensures { (result.others ≡ others) × (result.sessions ≡ sessions) }
     {
         Shared {
             rt,
             alloc,
             hub,
+            settlers,
             gate,
             others,
             sessions,

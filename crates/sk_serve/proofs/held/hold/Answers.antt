@@ -17,6 +17,6 @@ returns-clause-session g c =
       kept = back.0;
       session = given_back g.D.Desk.wants_words g.D.Desk.calls g.D.Desk.acked g.K.Clock.moments left taken c.args.desk.now c.args.clock.now c.new-held.result c.session-end.result
           c.session-end.new.desk c.session-end.new.clock mid c.args.conn conn back.0 c.session-end.ensures.ends (ap (λ h. h.conn) was) (ap (λ h. h.gathered) was) left_is
-          (held_same (taken mid.conn) mid.gathered back.1.sent (taken conn) back.0 (g.met.C.Conn.steady mid.conn conn) back.1.took back.1.order);
+          (held_same (taken mid.conn) mid.gathered back.1.sent (taken conn) back.0 (g.met.C.Holdable.steady mid.conn conn) back.1.took back.1.order);
       all = back.2;
     }

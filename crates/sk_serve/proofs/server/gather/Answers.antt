@@ -1,4 +1,4 @@
-use Rattle.std.proofs.Common.{◌≡◌, ◌+◌, ◌*◌, ◌++◌, ◌∷◌, [], ap, ◌∙◌, arith, rules, refl}
+use Rattle.std.proofs.Common.{◌≡◌, ◌*◌, ◌++◌, ◌∷◌, [], ap, ◌∙◌, arith, rules, refl}
 use Rattle.std.specs.Prelude.{Some, map, reverse, vec_len}
 use Rattle.std.proofs.lemmas.List.Elements.{All-pop}
 use Rattle.sk_serve.proofs.Counting.{all_moved_by, more, moved, none_yet, popped_by, sum_none, sum_popped}

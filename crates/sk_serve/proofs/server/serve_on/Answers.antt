@@ -1,60 +1,14 @@
-use Rattle.std.proofs.Common.{◌≡◌, ◌∙◌, ◌-◌, ◌/◌, ap, arith, length, sym, Err, subst}
-use Rattle.std.specs.Prelude.{All, map, reverse, vec_len}
-use Rattle.std.specs.List.{sum_by}
-use Rattle.std.proofs.lemmas.List.{take_at}
-use Rattle.std.proofs.lemmas.List.Elements.{length_all_zip}
+use Rattle.std.proofs.Common.{ap, arith, refl, subst, Ok}
+use Rattle.std.specs.Prelude.{vec_len}
 use Rattle.sk_model.specs.World.{World}
-use Rattle.sk_desk.specs.Pass.{PassView}
-use Rattle.sk_serve.specs.Server.{IsFresh, IsServed, IsSettled}
-use Rattle.sk_serve.proofs.Accounts.{all_served, became, by_fault}
-use Rattle.sk_serve.proofs.Counting.{all_back, some_each}
-use Rattle.sk_serve.proofs.Loops.{numbers_kept}
+use Rattle.sk_serve.specs.Attending.{IsAtOnce}
+use Rattle.sk_serve.specs.Server.{LoopsEnded}
+use Rattle.sk_serve.proofs.Ends.{served_with}
 use Rattle.sk_serve.proofs.server.serve_on.Goals as goal
 
-pub loops_for-requires-clause-some : goal.loops_for-requires-clause-some
-loops_for-requires-clause-some g c κs within = some_each 4294967294 c.len-count.result (omega (arith, c.requires.ears, c.len-count.ensures)) (omega (arith, c.requires.ears, c.len-count.ensures))
-
-pub finish-acknowledged-requires : goal.finish-acknowledged-requires
-finish-acknowledged-requires g c =
-    let ran = c.run_on-ended.ensures.ran in
-    let long : length c.run_on-ended.new.loops ≡ vec_len c.loops_for.new.loops = sym (length_all_zip _ c.as_mut_slice.result.now c.run_on-ended.new.loops ran) ∙ c.as_mut_slice.ensures.len in
-    let back = take_at c.run_on-ended.new.loops _ (vec_len c.loops_for.new.loops) long in
-    let numbers = 4294967294 / c.len-count.result in
-    let fresh = subst (All (IsFresh numbers)) (sym c.as_mut_slice.ensures.value) c.loops_for.ensures.fresh in
-    let kept = numbers_kept g.E.Ear g.E.Conn.Source g.E.Conn.Sink g.K.Clock c.new.result.others numbers c.as_mut_slice.result.now c.run_on-ended.new.loops ran fresh in
-    let parts = c.gather-served.ensures.parts numbers (subst (All (λ it. it.numbers ≡ numbers)) (sym back) kept) in
-    all_back _ _ _ _ numbers _ _ parts c.loops_for.ensures.parts c.loops_for.ensures.len (ap (λ (p : PassView). p.parts) c.new-hub.ensures)
-
-pub returns : goal.returns
-returns g c =
-    let old = c.as_mut_slice.result.now in
-    let new = c.run_on-ended.new.loops in
-    let ran = c.run_on-ended.ensures.ran in
-    let long : length new ≡ vec_len c.loops_for.new.loops = sym (length_all_zip _ old new ran) ∙ c.as_mut_slice.ensures.len in
-    let back = take_at new _ (vec_len c.loops_for.new.loops) long in
-    let numbers = 4294967294 / c.len-count.result in
-    let fresh = subst (All (IsFresh numbers)) (sym c.as_mut_slice.ensures.value) c.loops_for.ensures.fresh in
-    let settled = subst (λ sessions. IsSettled sessions new) c.new.ensures.1 c.in_default-ended.ensures.settled in
-    let none = c.loops_for.ensures.amount ∙ ap (λ (p : PassView). p.amount) c.new-hub.ensures in
-    became g.E.Ear g.E.Conn.Source g.E.Conn.Sink g.K.Clock c.new.result.others numbers old new ran fresh c.args.ears.now.items c.gather-served.new.ears.items
-    (IsServed g.E.Ear c.args.sessions (vec_len c.args.ears.now) _)
-    (ap (map (λ l. l.ear)) c.as_mut_slice.ensures.value ∙ c.loops_for.ensures.ears) (c.gather-served.ensures.ears ∙ ap (λ loops. reverse (map (λ l. l.ear) loops)) back)
-    (all_served g.E.Ear g.E.Conn.Source g.E.Conn.Sink g.K.Clock c.new.result.others numbers old new ran fresh c.args.sessions (vec_len c.args.ears.now) _
-    (c.new.ensures.0 ∙ ap (λ k. k - 1) c.len-count.ensures) settled
-    (c.gather-served.ensures.sessions ∙ ap (sum_by (λ l. l.served)) back)
-    (omega (arith, c.finish-acknowledged.ensures.amount, c.gather-served.ensures.amount, none, ap (sum_by (λ l. l.pass.amount)) back))
-    (omega (arith, c.finish-acknowledged.ensures.outside, ap (λ (w : World). w.tally.outside) c.requires.start)) c.finish-acknowledged.ensures.balanced)
-
-pub returns-in-Err : goal.returns-in-Err
-returns-in-Err g c =
-    let old = c.as_mut_slice.result.now in
-    let new = c.run_on-ended.new.loops in
-    let ran = c.run_on-ended.ensures.ran in
-    let long : length new ≡ vec_len c.loops_for.new.loops = sym (length_all_zip _ old new ran) ∙ c.as_mut_slice.ensures.len in
-    let back = take_at new _ (vec_len c.loops_for.new.loops) long in
-    let numbers = 4294967294 / c.len-count.result in
-    let fresh = subst (All (IsFresh numbers)) (sym c.as_mut_slice.ensures.value) c.loops_for.ensures.fresh in
-    by_fault g.E.Ear g.E.Conn.Source g.E.Conn.Sink g.K.Clock c.new.result.others numbers old new ran fresh c.args.sessions (vec_len c.args.ears.now) c.args.ears.now.items c.gather-served.new.ears.items
-    c.in-Err.fault (ap (λ k. 4294967294 / k) c.len-count.ensures)
-    (ap (map (λ l. l.ear)) c.as_mut_slice.ensures.value ∙ c.loops_for.ensures.ears) (c.gather-served.ensures.ears ∙ ap (λ loops. reverse (map (λ l. l.ear) loops)) back)
-    (λ is. c.run_on-ended.ensures.failed (c.in-Err.is ∙ ap Err is)) (λ is. c.run_on-ended.ensures.spent (c.in-Err.is ∙ ap Err is))
+pub returns-in-Ok : goal.returns-in-Ok
+returns-in-Ok g c =
+    served_with g.E.Ear (IsAtOnce g.E.Conn.Source g.E.Conn.Sink g.K.Clock) c.args.ears.now.items c.serve_at-ended.new.ears.items c.args.sessions (vec_len c.args.ears.now) c.in-Ok.served c.serve_at-ended.new.pass.amount
+    _ refl c.finish-acknowledged.ensures.amount (omega (arith, c.finish-acknowledged.ensures.outside, ap (λ (w : World). w.tally.outside) c.requires.start)) c.finish-acknowledged.ensures.balanced
+    (subst (λ bound. LoopsEnded g.E.Ear (IsAtOnce g.E.Conn.Source g.E.Conn.Sink g.K.Clock) bound (vec_len c.args.ears.now) c.serve_at-ended.new.pass.amount c.args.ears.now.items c.serve_at-ended.new.ears.items (Ok c.in-Ok.served))
+    c.new.ensures.1 c.in-Ok.ensures.ended)

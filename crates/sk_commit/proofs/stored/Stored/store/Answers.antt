@@ -15,6 +15,7 @@ invariant_of-stored g c =
       λ events starts.
           subst (λ (bodies : List Body). IsAt bodies c.append_all.new.self (g.D.Disk.may_leave c.append_all.new.disk))
           (comes_next events c.self.inside.prefix parts.0 parts.1 parts.2 w same)
-          (c.in-Ok.ensures.ok (events ++ c.self.inside.prefix) w.waiting (c.self.invariant.0 events starts) w.is),
+          (c.in_default.ensures.ok (events ++ c.self.inside.prefix) w.waiting (c.self.invariant.0 events starts) w.is),
       holds,
+      omega (arith, c.self.invariant.2, c.append_all.ensures.later),
     )

@@ -1,0 +1,62 @@
+// A file to which nothing more is written.
+ghost use Rattle.std.specs.Prelude.{◌≡◌, ◌≤◌};
+ghost use Rattle.sk_base.specs.Outside.{Rose};
+
+use crate::LogId;
+use sk_disk::Disk;
+use std::marker::{Model, PhantomData};
+
+/// Why no more records are stored.
+#[derive(Clone, Copy)]
+pub enum Halt {
+    /// The disk failed: its count of faults rose.
+    Disk,
+    /// The file would have more than 2^50 bytes.
+    Full,
+    /// Nothing more can be logged, or what was taken isn't what comes next in the file. No clause says when this comes.
+    Astray,
+}
+
+/// The file of a log that has ended. Contracts see why it has.
+#[derive(Drop)]
+pub struct Broken<D: Disk + Drop, I: LogId> {
+    disk: D,
+    why: Halt,
+    of: PhantomData<I>,
+}
+
+impl<D: Disk + Drop, I: LogId> Model for Broken<D, I> {
+    ghost use Rattle.std.specs.Prelude.{◌≡◌};
+    ghost use Rattle.sk_base.specs.Outside.{Rose};
+    ghost use Rattle.sk_commit.specs.declared.broken.Halt.{Halt};
+    ghost use Rattle.sk_commit.specs.declared.broken.Halt.TheVariants as halt;
+
+    ghost Value = { Halt };
+
+    ghost view = { λ b. b.why };
+
+    ghost invariant = { λ b. b.why ≡ halt.Disk → Rose I.faults (D.disk_faults b.disk) };
+}
+
+impl<D: Disk + Drop, I: LogId> Broken<D, I> {
+    /// The log ends, whose file is on this disk.
+    pub(crate) fn new(disk: D, why: Halt) -> Broken<D, I>
+        requires { why ≡ Halt.Disk → Rose I.faults (D.disk_faults disk) }
+        ensures { result ≡ why }
+    {
+        Broken {
+            disk,
+            why,
+            of: PhantomData,
+        }
+    }
+
+    /// The disk, and why the log ended. Where the disk failed, its count of faults rose since it was handed over.
+    pub fn into_parts(self) -> (D, Halt)
+        ensures why { result.1 ≡ self }
+        ensures cause { result.1 ≡ Halt.Disk → Rose I.faults (D.disk_faults result.0) }
+    {
+        let Broken { disk, why, of: _ } = self;
+        (disk, why)
+    }
+}
