@@ -5,18 +5,22 @@
 
 What no row can show: pipelines, large replies, cut commands, clients that leave or never read, pages of a browser, 64 connections at a time, a port
 that is taken, processes of push, work and status beside them, one of which is killed, want of descriptors, threads and stack, silent peers, used names,
-and the summary, whose acknowledgements must be what the clients counted. Plain sockets and Python alone. Status 1 where anything differs.
+a store in a file whose server is killed again and again, and the summary, whose acknowledgements must be what the clients counted. Plain sockets and
+Python alone, but for one test, which uses what Redis brings where that is installed. Status 1 where anything differs.
 """
 import atexit
+import contextlib
 import os
 import random
 import re
 import resource
+import shutil
 import signal
 import socket
 import struct
 import subprocess
 import sys
+import tempfile
 import threading
 import time
 
@@ -73,11 +77,12 @@ def bulk(text):
 class Server:
     """A server with this many loops, or as many as it takes by itself, and what it printed at its end."""
 
-    def __init__(self, loops, *more, descriptors=None, port=None, log=subprocess.PIPE):
-        limit = (lambda: resource.setrlimit(resource.RLIMIT_NOFILE, (descriptors, descriptors))) if descriptors else None
+    def __init__(self, loops, *more, descriptors=None, port=None, log=subprocess.PIPE, limit=None, under=()):
+        if descriptors:
+            limit = lambda: resource.setrlimit(resource.RLIMIT_NOFILE, (descriptors, descriptors))
         for _ in range(3):                          # (somebody else may take the port before the server does)
             self.port = port or free_port()
-            words = [PROGRAM, 'serve', '--port', str(self.port), *(['--loops', str(loops)] if loops else []), *more]
+            words = [*under, PROGRAM, 'serve', '--port', str(self.port), *(['--loops', str(loops)] if loops else []), *more]
             self.process = subprocess.Popen(words, stdin=subprocess.DEVNULL, stdout=subprocess.PIPE, stderr=log, preexec_fn=limit)
             atexit.register(self.process.kill)      # (where a test fails before it ends its server)
             if self.listens():
@@ -957,12 +962,388 @@ def names_used_once(_):
     assert server.end()[0] == 0
 
 
+# A store that a file keeps.
+
+@contextlib.contextmanager
+def a_file():
+    """The path of a file that isn't there yet, in a folder of its own."""
+    with tempfile.TemporaryDirectory() as room:
+        yield os.path.join(room, 'jobs.log')
+
+
+def kill(server):
+    server.process.kill()
+    server.process.communicate()
+
+
+def number_at(client, key):
+    """The number at a key; 0 where there is none."""
+    line = said(client, 'GET', key)
+    return 0 if line == b'$-1\r\n' else int(client.take(int(line[1:]) + 2))
+
+
+class Keeper:
+    """A client whose commands are numbered: the odd ones count up, and the even ones put their number behind others. It writes some at a time, and keeps
+    how many it has sent, and how many were answered."""
+
+    def __init__(self, name):
+        self.count, self.rows = 'count:%s' % name, 'rows:%s' % name
+        self.sent, self.answered, self.fault = 0, 0, None
+
+    def step(self, number):
+        return command('INCRBY', self.count, 1) if number % 2 else command('RPUSH', self.rows, number)
+
+    def heed(self, client, replies):
+        """Takes these replies, or what comes of them before the connection ends, and answers whether all came."""
+        found = b''
+        while len(found) < len(replies) and (piece := client.socket.recv(1 << 16)):
+            self.answered += piece.count(b'\n')
+            found += piece
+        assert replies.startswith(found), (found[-100:], self.count)
+        return found == replies
+
+    def visit(self, port, batch, times):
+        """Connects, sends so many commands at a time, so many times, and answers whether all were answered."""
+        try:
+            with Client(port) as it:
+                for _ in range(times):
+                    numbers = range(self.sent + 1, self.sent + batch + 1)
+                    self.sent += batch
+                    it.send(b''.join(map(self.step, numbers)))
+                    if not self.heed(it, b''.join(b':%d\r\n' % ((n + 1) // 2) for n in numbers)):
+                        return False
+            return True
+        except socket.timeout:
+            raise AssertionError('no reply to ' + self.count)
+        except OSError:
+            return False
+
+    def talk(self, port, batch):
+        """Visits a server until it is gone. Between two visits others that wait have the connection."""
+        try:
+            while self.visit(port, batch, 50):
+                pass
+        except AssertionError as fault:
+            self.fault = fault
+
+    def has_all(self, port):
+        """Each command that was answered stands, once and in order, and no more than were sent. It goes on behind them."""
+        with Client(port) as it:
+            counted, rows = number_at(it, self.count), it.length(self.rows)
+            stands = counted + rows
+            assert rows in (counted - 1, counted) and self.answered <= stands <= self.sent, (self.answered, counted, rows, self.sent)
+            texts = b''.join(bulk(b'%d' % n) for n in range(2, 2 * rows + 1, 2))
+            it.ask(b'*%d\r\n' % rows + texts, 'LRANGE', self.rows, 0, -1)
+        self.sent = self.answered = stands
+
+
+class Looker:
+    """A client that reads the counters of others, and keeps the greatest numbers that it was told."""
+
+    def __init__(self, keepers):
+        self.seen, self.fault = {it.count: 0 for it in keepers}, None
+
+    def talk(self, port, _batch):
+        try:
+            with Client(port) as it:
+                while True:
+                    for key, number in self.seen.items():
+                        self.seen[key] = max(number, number_at(it, key))
+        except (OSError, ValueError):               # (where the connection ends there is no number)
+            pass
+
+    def has_all(self, port):
+        """No counter is behind what it was told."""
+        with Client(port) as it:
+            for key, number in self.seen.items():
+                assert number_at(it, key) >= number, (key, number)
+
+
+def talk_until(keepers, port, batch, over):
+    """These clients talk side by side, until the server is gone, which this call brings about, or waits for."""
+    threads = [threading.Thread(target=it.talk, args=(port, batch)) for it in keepers]
+    [it.start() for it in threads]
+    try:
+        over()
+    finally:
+        [it.join(SECONDS) for it in threads]
+    faults = [it.fault for it in keepers if it.fault]
+    assert not faults, faults
+
+
+def kill_among(server, keepers, batch, seconds):
+    """Kills the server while these talk to it, for so many seconds."""
+    def over():
+        time.sleep(seconds)
+        kill(server)
+    talk_until(keepers, server.port, batch, over)
+
+
+def many_clients_of_a_file(_):
+    """Sixty clients, each of which waits for each reply, share the syncs of one file, and those that write on are done, too."""
+    with a_file() as path:
+        server = Server(None, '--log', path)
+        pushed = many_at_once(server)
+        pipeline(server)
+        large_reply(server)
+        status, (_, acknowledged), tally = server.end()
+        assert (status, acknowledged, tally[b'live']) == (0, pushed, pushed), (status, acknowledged, tally)
+
+
+def start_and_kill(path):
+    """Starts a server on a file, and kills it while it starts, or soon after."""
+    words = [PROGRAM, 'serve', '--port', str(free_port()), '--log', path]
+    process = subprocess.Popen(words, stdin=subprocess.DEVNULL, stdout=subprocess.DEVNULL, stderr=subprocess.DEVNULL)
+    time.sleep(random.uniform(0, 0.05))
+    process.kill()
+    process.wait()
+
+
+def what_was_answered_outlives_a_kill(_):
+    """A value, a counter, jobs in their queue and one in the hands of a worker are there after a kill and a new start, as they were answered."""
+    first, second = ((JOB % ('kept-%d' % n, n)).encode() for n in range(2))
+    with a_file() as path:
+        server = Server(None, '--log', path)
+        with server.client() as it, server.client() as worker:
+            it.ask(b'+OK\r\n', 'SET', 'page', 'kept')
+            it.ask(b':7\r\n', 'INCRBY', 'count', 7)
+            it.ask(b':2\r\n', 'LPUSH', 'queue:default', first, second)
+            worker.ask(b'+OK\r\n', 'SK.BEAT', 'w1')
+            worker.ask(b'+OK\r\n', 'SK.JOIN', 'w1')
+            worker.ask(bulk(first), 'LMOVE', 'queue:default', 'sq:w1', 'RIGHT', 'LEFT')
+        kill(server)
+        server = Server(None, '--log', path)
+        with server.client() as it:
+            it.ask(bulk(b'kept'), 'GET', 'page')
+            it.ask(b':8\r\n', 'INCRBY', 'count', 1)
+            it.ask(b'*1\r\n' + bulk(second), 'LRANGE', 'queue:default', 0, -1)
+            it.ask(b'*1\r\n' + bulk(first), 'LRANGE', 'sq:w1', 0, -1)
+        assert server.end()[0] == 0
+
+
+def killed_again_and_again(_, kills=20, clients=8):
+    """Clients write 16 commands at a time while their server is killed, twenty times, and once more while it starts: what was answered stands after each
+    start, nothing stands twice, and nothing that was read is gone."""
+    keepers = [Keeper(n) for n in range(clients)]
+    talkers = [*keepers, Looker(keepers)]
+    with a_file() as path:
+        server = Server(None, '--log', path)
+        for n in range(kills):
+            kill_among(server, talkers, 16, 0.05 + 0.01 * n)
+            start_and_kill(path)
+            server = Server(None, '--log', path)
+            for it in talkers:
+                it.has_all(server.port)
+        assert server.end()[0] == 0
+    assert all(it.answered > 16 * kills for it in keepers), [it.answered for it in keepers]
+
+
+def a_shutdown_keeps_all(_, jobs=200):
+    """SHUTDOWN leaves all in the file: the next start has it, and tells how large the file is. The summary is as that of a server without one."""
+    ends, wanted = [], [JOB % ('kept-%d' % n, n) for n in range(jobs)]
+    with a_file() as path:
+        for words in ([], ['--log', path]):
+            server = Server(None, *words)
+            with server.client() as it:
+                it.ask(b':%d\r\n' % jobs, 'LPUSH', 'queue:default', *wanted)
+            ends.append(server.end())
+        (_, _, plain), (status, (_, acknowledged), tally) = ends
+        assert (status, acknowledged, tally) == (0, jobs, plain) and tally[b'live'] == jobs, ends
+        size = os.path.getsize(path)
+        with open(path + '.told', 'w+b') as told:
+            server = Server(None, '--log', path, log=told)
+            with server.client() as it:
+                it.ask(b':%d\r\n' % jobs, 'LLEN', 'queue:default')
+            assert server.end()[0] == 0
+            told.seek(0)
+            lines = told.read()
+    assert b' has %s bytes\n' % format(size, ',').encode() in lines and re.search(rb' read from it in \d+\.\d\d s; listening\n', lines), lines
+
+
+def refused_log(path, *more):
+    """The status of a server over this file that ends at once, and what it tells."""
+    done = subprocess.run([PROGRAM, 'serve', '--port', str(free_port()), '--log', path, *more], stdin=subprocess.DEVNULL, capture_output=True,
+                          timeout=SECONDS)
+    return done.returncode, done.stderr
+
+
+def a_file_that_another_server_has(_):
+    """A second server over a file ends with status 10 and says why. The first one goes on."""
+    with a_file() as path:
+        server = Server(None, '--log', path)
+        status, told = refused_log(path)
+        assert status == 10 and b' another process has it open\n' in told, (status, told)
+        with server.client() as it:
+            it.ask(b':1\r\n', 'INCRBY', 'count', 1)
+        assert server.end()[0] == 0
+
+
+def damaged(path):
+    """The bytes of a log with one of them changed, in the middle."""
+    server = Server(None, '--log', path)
+    with server.client() as it:
+        for n in range(10):
+            it.ask(b'+OK\r\n', 'SET', 'page:%d' % n, n)
+    assert server.end()[0] == 0
+    with open(path, 'rb') as it:
+        whole = it.read()
+    at = whole.index(b'SK.AS', len(whole) // 2)
+    return whole[:at] + b'X' + whole[at + 1:]
+
+
+def files_that_are_no_logs(_):
+    """A server over a file that is no log, or is damaged, ends with status 11, says so, and changes nothing. Where there can be no file its status is 10."""
+    with a_file() as path:
+        for content in (b'abc', damaged(path)):
+            with open(path, 'wb') as it:
+                it.write(content)
+            status, told = refused_log(path)
+            assert status == 11 and b' is not a log, or is damaged; nothing was written to it\n' in told, (status, told)
+            with open(path, 'rb') as it:
+                assert it.read() == content
+        status, told = refused_log(os.path.join(path, 'none'))
+        assert status == 10 and b"can't open" in told, (status, told)
+
+
+def words_that_name_no_file(_):
+    """Words that are no line of a server with a file are refused, and the one that is wrong is named."""
+    for words, named in (([''], b"--log can't be ''"), (['none', 'more'], b"'more'"), (['none', '--loops', '65'], b"--loops can't be '65'")):
+        status, told = refused_log(*words)
+        assert status == 2 and named in told, (words, status, told)
+
+
+def a_disk_that_fails(_, size=200_000):
+    """Where the file can't grow any more the server ends with status 10 and says so, idle clients are let go, and no reply came for what isn't in it."""
+    def narrow():
+        signal.signal(signal.SIGXFSZ, signal.SIG_IGN)
+        resource.setrlimit(resource.RLIMIT_FSIZE, (size, size))
+    keepers = [Keeper(n) for n in range(8)]
+    with a_file() as path:
+        server = Server(None, '--log', path, limit=narrow)
+        with server.client() as idle:
+            idle.ask(b'+PONG\r\n', 'PING')
+            talk_until(keepers, server.port, 16, lambda: server.process.wait(SECONDS))
+            assert idle.is_over()
+        out, told = server.process.communicate()
+        assert (server.process.returncode, out) == (10, b''), (server.process.returncode, out)
+        assert b" can't be read or written any more; no reply was sent for what isn't in it\n" in told, told
+        assert sum(it.answered for it in keepers) > 500, [it.answered for it in keepers]
+        server = Server(None, '--log', path)
+        for it in keepers:
+            it.has_all(server.port)
+        assert server.end()[0] == 0
+
+
+def can_trace():
+    return shutil.which('strace') and subprocess.run(['strace', '-o', os.devnull, 'true'], stderr=subprocess.DEVNULL, timeout=SECONDS).returncode == 0
+
+
+def replies_wait_for_the_device(_, commands=20):
+    """No reply is sent while something that was written to the file isn't on its device: so the server asks the system, as `strace` shows where it can."""
+    if not can_trace():
+        return print('server: replies_wait_for_the_device: passed over, since strace is not installed, or may not trace')
+    with a_file() as path:
+        server = Server(1, '--log', path, under=['strace', '-f', '-o', path + '.calls', '-e', 'trace=pwrite64,fdatasync,sendto'])
+        try:
+            with server.client() as it:
+                for n in range(1, commands + 1):
+                    it.ask(b':%d\r\n' % n, 'INCRBY', 'count', 1)
+        finally:
+            status = server.end()[0]
+        with open(path + '.calls') as it:
+            calls = re.findall(r'\b(pwrite64|fdatasync|sendto)\(', it.read())
+    behind = [before for before, call in zip(calls, calls[1:]) if call == 'sendto']
+    assert status == 0 and set(behind) == {'fdatasync'} and calls.count('pwrite64') >= commands, (status, calls[:50])
+    assert len(behind) == commands + 1, calls[:50]
+
+
+def clients_of_redis(_):
+    """What Redis brings talks to a server over a file, where it is installed."""
+    if not (shutil.which('redis-cli') and shutil.which('redis-benchmark')):
+        return print('server: clients_of_redis: passed over, since redis-cli and redis-benchmark are not installed')
+    with a_file() as path:
+        server = Server(None, '--log', path)
+        port = ['-p', str(server.port)]
+        out = subprocess.run(['redis-cli', *port, 'RPUSH', 'rows', 'one', 'two'], capture_output=True, timeout=SECONDS).stdout
+        assert out == b'2\n', out
+        done = subprocess.run(['redis-benchmark', *port, '-n', '3200', '-c', '20', '-P', '16', '-q', 'LPUSH', 'list', 'row'], capture_output=True,
+                              timeout=SECONDS)
+        assert done.returncode == 0 and b'requests per second' in done.stdout, done
+        kill(server)
+        server = Server(None, '--log', path)
+        out = subprocess.run(['redis-cli', *port[:1], str(server.port)], input=b'LRANGE rows 0 -1\nLLEN list\nSHUTDOWN\n', capture_output=True,
+                             timeout=SECONDS).stdout
+        assert out.startswith(b'one\ntwo\n3200\n') and server.process.wait(SECONDS) == 0, out
+
+
+class Pusher:
+    """A client that pushes one job after another, to whatever server is at its port, and counts the pushes that it sent and those that were answered."""
+
+    def __init__(self, port, name='pushed'):
+        self.port, self.name, self.sent, self.answered, self.ended = port, name, 0, 0, False
+        self.thread = threading.Thread(target=self.push_on)
+        self.thread.start()
+
+    def push_on(self):
+        while not self.ended:
+            try:
+                with Client(self.port) as it:
+                    while not self.ended:
+                        self.sent += 1
+                        it.send(command('LPUSH', 'queue:default', JOB % ('%s-%d' % (self.name, self.sent), self.sent)))
+                        if not it.take(1) == b':':
+                            break
+                        while it.take(1) not in (b'\n', b''):
+                            pass
+                        self.answered += 1
+            except OSError:
+                time.sleep(0.01)
+
+    def end(self):
+        self.ended = True
+        self.thread.join(SECONDS)
+
+
+def killed_beside(worker, server, path):
+    """Kills the server when some jobs more are done, and answers the one that is started then, which the worker finds."""
+    before = processed(server)
+    wait_for(lambda: processed(server) >= before + 20, lambda: page(server))
+    kill(server)
+    first_line(worker.stderr, b' is away')
+    server = Server(None, '--log', path, port=server.port)
+    first_line(worker.stderr, b' is back\n', 1)
+    return server
+
+
+def workers_outlive_kills(_, kills=5):
+    """`work --patience` beside a server that is killed five times: each job whose push was answered is done at the end, none is left, and none came
+    from nowhere. What the workers held at a kill comes back a minute later."""
+    with a_file() as path:
+        server = Server(None, '--log', path)
+        worker, pusher = patient_work(server.port, 60), Pusher(server.port)
+        try:
+            for _again in range(kills):
+                server = killed_beside(worker, server, path)
+            pusher.end()
+            wait_for(lambda: page(server)['live'] == 0, lambda: page(server), 60 + SECONDS)
+            assert worker.poll() is None, worker.returncode
+        finally:
+            pusher.end()
+            worker.kill()
+            worker.communicate()
+        status, _numbers, tally = server.end()
+    assert status == 0 and pusher.answered <= tally[b'outside'] <= pusher.sent, (status, pusher.answered, tally, pusher.sent)
+    assert tally[b'returned'] == tally[b'outside'], tally
+
+
 TESTS = [pipeline, large_reply, single_bytes, one_that_leaves, one_that_never_reads, ends, own_words_of_a_pipe, a_page_of_a_browser,
          lines_that_no_page_sends, a_handshake_of_tls, a_worker_that_dies, many_at_once, taken_port, elsewhere, ids_and_moments, processes,
          started_again, a_process_that_is_killed, defaults, a_reset_behind_the_loops, few_descriptors, too_few_descriptors, a_crowd_and_a_shutdown,
          a_shutdown_among_clients, a_shutdown_with_workers, a_server_that_comes_back, patience_that_ends, a_signal_while_it_waits,
          connections_leave_no_descriptors, memory_that_is_used_up,
-         a_stack_that_cant_grow, too_few_threads, a_silent_peer, full_log, old_texts_go, many_rows, full_store, names_used_once]
+         a_stack_that_cant_grow, too_few_threads, a_silent_peer, full_log, old_texts_go, many_rows, full_store, names_used_once,
+         many_clients_of_a_file, what_was_answered_outlives_a_kill, killed_again_and_again, a_shutdown_keeps_all, a_file_that_another_server_has,
+         files_that_are_no_logs, words_that_name_no_file, a_disk_that_fails, replies_wait_for_the_device, clients_of_redis, workers_outlive_kills]
 
 
 def main():

@@ -61,6 +61,14 @@ log 'a file that is damaged' 11 'damaged at 8' 'PING\r\n' --log "$kept/damaged"
 log 'no file behind --log' 2 '' 'PING\r\n' --log
 log 'an empty name of a file' 2 '' 'PING\r\n' --log ''
 log 'a word behind the file' 2 '' 'PING\r\n' --log "$kept/log" more
+"$program" serve --log "$kept" </dev/null 2>/dev/null
+expect 'a server over a folder in place of a file' 10 $?
+"$program" serve --log "$kept/abc" </dev/null >/dev/null 2>&1
+expect 'a server over a file that is no log' 11 $?
+"$program" serve --log "$kept/damaged" </dev/null >/dev/null 2>&1
+expect 'a server over a file that is damaged' 11 $?
+"$program" serve --log </dev/null 2>/dev/null
+expect 'a server with no file behind --log' 2 $?
 mkfifo "$kept/commands"
 "$program" pipe --log "$kept/log" <"$kept/commands" >"$kept/replies" 2>/dev/null &
 exec 3>"$kept/commands"
@@ -93,6 +101,7 @@ range() {
 range --port 70000 serve --port 70000
 range --loops 65 serve --loops 65
 range --sessions -1 serve --sessions=-1
+range --log '' serve --log ''
 range --threads 17 work --threads 17
 range --queues a,a work --queues a,a
 range --prefetch 0 work --prefetch 0

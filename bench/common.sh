@@ -1,4 +1,4 @@
-# What the benchmarks share: a folder of their own, a Redis of their own, and the time of a command.
+# What the benchmarks share: a folder of their own, a Redis of their own, the time of a command, and what redis-benchmark says.
 # Nothing is installed. Wanted: bash, python3, redis-server and redis-cli (Debian's packages redis-server and redis-tools).
 
 top=$(cd "$(dirname "${BASH_SOURCE[0]}")/.." && pwd)
@@ -26,4 +26,9 @@ subprocess.run(['bash', '-c', sys.argv[1]], check=True, stdout=subprocess.DEVNUL
 print('%.3f' % (time.perf_counter() - start))
 PY
     done | sort -n | sed -n 3p
+}
+
+# What redis-benchmark says with --csv: its commands a second, which stand before six other numbers. (The command before them may have commas.)
+each_second() {
+    tail -n 1 | awk -F, '{ gsub(/"/, "", $(NF - 6)); print $(NF - 6) }'
 }

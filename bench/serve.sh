@@ -26,7 +26,7 @@ ticks() {
 rate() {
     at=$1 process=$2 before=$(ticks "$2")
     shift 2
-    redis-benchmark -p "$at" -n "$requests" --csv "$@" 2>/dev/null | tail -n 1 | cut -d, -f2 | tr -d '"'
+    redis-benchmark -p "$at" -n "$requests" --csv "$@" 2>/dev/null | each_second
     echo "$(ticks "$process") $before $(getconf CLK_TCK) $requests" | awk '{ print ($1 - $2) / $3 * 1000000 / $4 }'
 }
 

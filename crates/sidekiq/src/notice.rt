@@ -1,8 +1,8 @@
 // What the program tells people on standard error: what it is about to do, and why it ended, where its output doesn't say so.
 use sk_launcher::{Address, WorkSettings};
 use sk_line::{
-    DrillLine, LogLine, ServeLine, help_of, read_drill, read_iterate, read_limit, read_log,
-    read_push, read_serve, read_status, read_work,
+    DrillLine, LogLine, LogServeLine, ServeLine, help_of, read_drill, read_iterate, read_limit,
+    read_log, read_log_serve, read_push, read_serve, read_status, read_work,
 };
 use sk_policy::QueueOrder;
 use std::alloc::{AllocError, Global};
@@ -28,6 +28,8 @@ pub const USAGE: &str =
 #[derive(Drop)]
 pub enum Notice {
     Serve(ServeLine),
+    /// `serve --log`.
+    LogServe(LogServeLine),
     Work(WorkSettings),
     /// `push`, `status`, `limit` or `iterate`, of this store.
     Ask(Address),
@@ -50,14 +52,39 @@ fn names(alloc: Global, order: &QueueOrder) -> Result<String, AllocError> {
     Ok(text)
 }
 
-fn serving(rt: &HostRuntime, line: &ServeLine) -> io::Result<()> {
+// What `serve --log` asks for beside its file.
+fn beside_log(line: &LogServeLine) -> ServeLine {
+    ServeLine {
+        port: line.port,
+        loops: line.loops,
+        sessions: line.sessions,
+    }
+}
+
+fn going(rt: &HostRuntime, line: &ServeLine) -> io::Result<()> {
     eprintln!(rt;
         "sidekiq: going to serve at 127.0.0.1:{}, {} connections at a time; further ones wait",
         line.port, line.loops
-    )?;
+    )
+}
+
+fn keeping(rt: &HostRuntime, file: &str) -> io::Result<()> {
+    eprintln!(rt;
+        "sidekiq: the store is kept in {file}; each reply is sent after what it tells is on the disk"
+    )
+}
+
+fn serving(rt: &HostRuntime, line: &ServeLine) -> io::Result<()> {
+    going(rt, line)?;
     eprintln!(rt;
         "sidekiq: all is kept in memory, and nothing outlives this process; the command SHUTDOWN ends it"
     )
+}
+
+fn serving_log(rt: &HostRuntime, line: &LogServeLine) -> io::Result<()> {
+    going(rt, &beside_log(line))?;
+    keeping(rt, line.path.text())?;
+    eprintln!(rt; "sidekiq: the command SHUTDOWN ends it")
 }
 
 fn working(rt: &HostRuntime, settings: &WorkSettings) -> io::Result<()> {
@@ -100,14 +127,15 @@ fn unserved(rt: &HostRuntime, line: &ServeLine, cause: Option<&io::Error>) -> io
 }
 
 // Why the file couldn't be opened, or what was of it afterwards.
-fn unkept(rt: &HostRuntime, line: &LogLine, cause: Option<&io::Error>) -> io::Result<()> {
-    let file = line.path.text();
+fn unkept(rt: &HostRuntime, file: &str, cause: Option<&io::Error>) -> io::Result<()> {
     match cause {
         Some(error) if error.kind() == ErrorKind::WouldBlock => {
             eprintln!(rt; "sidekiq: can't open {file}: another process has it open")
         }
         Some(error) => eprintln!(rt; "sidekiq: can't open {file}: {error}"),
-        None => eprintln!(rt; "sidekiq: {file} can't be read or written any more"),
+        None => eprintln!(rt;
+            "sidekiq: {file} can't be read or written any more; no reply was sent for what isn't in it"
+        ),
     }
 }
 
@@ -142,22 +170,27 @@ fn asked(rt: &HostRuntime, address: &Address, status: u8) -> io::Result<()> {
     }
 }
 
-// Why a pipe with a file ended so.
-fn logged(
-    rt: &HostRuntime,
-    line: &LogLine,
-    status: u8,
-    cause: Option<&io::Error>,
-) -> io::Result<()> {
-    let file = line.path.text();
+// Why a pipe or a server with a file ended so, where that is of its file.
+fn logged(rt: &HostRuntime, file: &str, status: u8, cause: Option<&io::Error>) -> io::Result<()> {
     match status {
-        10 => unkept(rt, line, cause),
+        10 => unkept(rt, file, cause),
         11 => eprintln!(rt;
             "sidekiq: {file} is not a log, or is damaged; nothing was written to it"
         ),
         12 => eprintln!(rt; "sidekiq: {file} is full (2^50 bytes)"),
         _ => Ok(()),
     }
+}
+
+// Why a server with a file ended so.
+fn served_log(
+    rt: &HostRuntime,
+    line: &LogServeLine,
+    status: u8,
+    cause: Option<&io::Error>,
+) -> io::Result<()> {
+    served(rt, &beside_log(line), status, cause)?;
+    logged(rt, line.path.text(), status, cause)
 }
 
 // Tells of words that begin with no program's name, or with one that takes no others.
@@ -186,6 +219,13 @@ pub fn unreadable_word(rt: &HostRuntime) -> io::Result<()> {
 fn serve(alloc: Global, words: &[String]) -> Notice {
     match read_serve(alloc, words) {
         Ok(line) => Notice::Serve(line),
+        Err(_) => log_serve(alloc, words),
+    }
+}
+
+fn log_serve(alloc: Global, words: &[String]) -> Notice {
+    match read_log_serve(alloc, words) {
+        Ok(line) => Notice::LogServe(line),
         Err(_) => Notice::Other,
     }
 }
@@ -239,6 +279,11 @@ fn pipe(alloc: Global, words: &[String]) -> Notice {
     }
 }
 
+// So many without one of them.
+fn beside_one(loops: u32) -> usize {
+    (loops as usize).saturating_sub(1)
+}
+
 impl Notice {
     /// What the words ask for, where `work` has so many teams.
     pub fn of(alloc: Global, words: &[String], teams: u32) -> Notice {
@@ -262,7 +307,8 @@ impl Notice {
     pub fn threads(&self) -> Option<usize> {
         match self {
             // a loop each
-            Notice::Serve(line) => Some((line.loops as usize).saturating_sub(1)),
+            Notice::Serve(line) => Some(beside_one(line.loops)),
+            Notice::LogServe(line) => Some(beside_one(line.loops)),
             // the poller, and a worker each
             Notice::Work(settings) => Some(settings.threads as usize),
             // who pushes, the poller, and a worker each
@@ -279,6 +325,14 @@ impl Notice {
         }
     }
 
+    /// Whether a store is read from a file before connections are served.
+    pub fn reads_store(&self) -> bool {
+        match self {
+            Notice::LogServe(_) => true,
+            _ => false,
+        }
+    }
+
     /// Tells that the system doesn't give the program so many threads.
     pub fn crowded(&self, rt: &HostRuntime, threads: usize) -> io::Result<()> {
         eprintln!(rt;
@@ -286,15 +340,13 @@ impl Notice {
         )
     }
 
-    /// Tells what a server or workers are about to do, and what a pipe with a file does.
+    /// Tells what a server or workers are about to do, and where a file keeps the store.
     pub fn before(&self, rt: &HostRuntime) -> io::Result<()> {
         match self {
             Notice::Serve(line) => serving(rt, line),
+            Notice::LogServe(line) => serving_log(rt, line),
             Notice::Work(settings) => working(rt, settings),
-            Notice::Log(line) => eprintln!(rt;
-                "sidekiq: the store is kept in {}; each reply is written after what it tells is on the disk",
-                line.path.text()
-            ),
+            Notice::Log(line) => keeping(rt, line.path.text()),
             Notice::Ask(_) | Notice::Drill(_) | Notice::Other => Ok(()),
         }
     }
@@ -318,9 +370,10 @@ impl Notice {
     fn ended(&self, rt: &HostRuntime, status: u8, cause: Option<&io::Error>) -> io::Result<()> {
         match self {
             Notice::Serve(line) => served(rt, line, status, cause),
+            Notice::LogServe(line) => served_log(rt, line, status, cause),
             Notice::Work(settings) => worked(rt, settings, status),
             Notice::Ask(address) => asked(rt, address, status),
-            Notice::Log(line) => logged(rt, line, status, cause),
+            Notice::Log(line) => logged(rt, line.path.text(), status, cause),
             Notice::Drill(_) | Notice::Other => Ok(()),
         }
     }

@@ -17,5 +17,5 @@ pub use entry::{cut_record, draft_record, make_record};
 pub use laws::a_body_has_one_event;
 pub use log_end::LogEnd;
 pub use opening::open;
-pub use piping::log_pipe;
+pub use piping::{log_pipe, ready};
 pub use talking::talk;

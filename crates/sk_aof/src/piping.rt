@@ -36,8 +36,8 @@ fn reopen<D: Disk>(alloc: Global, disk: &mut D, limits: Limits) -> Result<(Log, 
     }
 }
 
-// The store of a log, which is made where the file is empty.
-fn ready<D: Disk>(alloc: Global, disk: &mut D, limits: Limits) -> Result<(Log, Core), LogFault>
+/// The store of a log, whose seats are cut off, since nobody is connected to it any more. Where the file is empty the log is made.
+pub fn ready<D: Disk>(alloc: Global, disk: &mut D, limits: Limits) -> Result<(Log, Core), LogFault>
     ensures ready { IfOk result (λ r. IsReady D.reads D.may_leave D.moment D.left_since limits disk.old r disk.new) }
     ensures stops { IfErr result (StopsBefore D.reads D.may_leave D.moment D.left_since limits disk.old disk.new) }
     ensures not_a_log { result ≡ Err NotALog → (c : List ℕ) → D.reads disk.old c → IsNoLog c }

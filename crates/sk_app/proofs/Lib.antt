@@ -13,3 +13,5 @@ pub mod LimitRuns
 pub mod LogStatuses
 pub mod LogRuns
 pub mod LogDone
+pub mod LogServeStatuses
+pub mod LogServeRuns

@@ -61,7 +61,7 @@ few_by wanted status few (inr (inr five)) = omega (arith, five)
 pub status_few : (outcome : LogOutcome) (status : ℕ) (before after : Option Bytes) → Reports (line_of outcome) (status_of outcome) status before after → status ≤ 12
 status_few outcome status before after told = few_by (status_of outcome) status (outcome_few outcome) (reported (line_of outcome) _ status before after told)
 
-fault_not_two : (f : LogFault) → fault_status_of f ≡ 2 → ⊥
+pub fault_not_two : (f : LogFault) → fault_status_of f ≡ 2 → ⊥
 fault_not_two fault.Disk e = omega (arith, e)
 fault_not_two fault.NotALog e = omega (arith, e)
 fault_not_two (fault.Damaged at) e = omega (arith, e)

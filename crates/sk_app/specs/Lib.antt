@@ -20,4 +20,6 @@ pub mod LogOutcomes
 pub mod Logging
 pub mod Working
 pub mod Completing
+pub mod LogServeOutcomes
+pub mod LogServing
 pub mod Promises

@@ -35,6 +35,7 @@ use Rattle.sk_payload.specs.declared.draft.JobDraft.{JobDraft}
 use Rattle.sk_pipe.specs.Run.{Completes, IsPiped, shipped, status_of}
 use Rattle.sk_pipe.specs.declared.pipe_end.PipeEnd.{PipeEnd}
 use Rattle.sk_policy.specs.declared.delay.DelayRule.{DelayRule}
+use Rattle.sk_serve.specs.Attending.{IsAtOnce}
 use Rattle.sk_serve.specs.Server.{HasEnded}
 use Rattle.sk_serve.specs.declared.serve_end.ServeEnd.{ServeEnd}
 use Rattle.sk_worker.specs.Run.{Run}
@@ -46,6 +47,7 @@ use Rattle.sk_app.specs.Jobs.{Draws, IsJob}
 use Rattle.sk_app.specs.Hindering.{FailsOver}
 use Rattle.sk_app.specs.Iterating.{Runs}
 use Rattle.sk_app.specs.Limiting.{LimitRun, Limits}
+use Rattle.sk_app.specs.LogServing.{LogServeEnds}
 use Rattle.sk_app.specs.Logging.{LogCauses, LogDone, LogEnds}
 use Rattle.sk_app.specs.Paging.{Asks}
 use Rattle.sk_app.specs.Programs.{program_of}
@@ -57,7 +59,7 @@ use Rattle.sk_app.specs.declared.failure.Failure.{Failure}
 use Rattle.sk_app.specs.declared.job.PushJob.{PushJob}
 use Rattle.sk_app.specs.declared.limit.Asked.{Asked}
 use Rattle.sk_app.specs.declared.program.Program.{Program}
-use Rattle.sk_app.specs.declared.program.Program.TheVariants.{Limit, LogPipe}
+use Rattle.sk_app.specs.declared.program.Program.TheVariants.{Limit, LogPipe, LogServe, Serve, Work}
 
 -- ## The words of a command line
 
@@ -102,7 +104,7 @@ module _ {N Conn Ear C : Type 0} (Door : a_door.Ghosts N Conn Ear) (OfEar : an_e
     (Clock : a_clock.Ghosts C) where
   -- A server by the line ended so.
   abbrev pub ServerEnds : N → N → ServeLine → ServeEnd → Type 0
-  ServerEnds net net_after line how = HasEnded Door OfEar Source Sink Clock line.sessions line.loops net net_after how
+  ServerEnds net net_after line how = HasEnded Door OfEar (IsAtOnce Source Sink Clock) line.sessions line.loops net net_after how
 
   -- What `serve` did for these words, and came to.
   abbrev pub DoServe : {A : Type 0} → List (String A) → N → N → Result Bytes Failure → Type 0
@@ -112,6 +114,21 @@ module _ {N Conn Ear C : Type 0} (Door : a_door.Ghosts N Conn Ear) (OfEar : an_e
   abbrev pub ServeDone : {A : Type 0} → List (String A) → N → N → ℕ → Type 0
   ServeDone words net net_after status = (line : ServeLine) → IsServe (texts words) line → status ≢ 4 →
       DoneOr (ServeHindered (texts words) (ServerEnds net net_after)) status
+
+-- Where the words name `serve`, it did that, and so the program ended.
+abbrev pub Served : {K N Conn Ear C A : Type 0} → a_sink.Ghosts K → a_door.Ghosts N Conn Ear → an_ear.Ghosts Ear Conn → a_source.Ghosts Conn →
+    a_sink.Ghosts Conn → a_clock.Ghosts C → List (String A) → K → N → K → N → ℕ → Type 0
+Served OfSink Door OfEar Source Sink Clock words sink net sink_after net_after status =
+    Names words Serve → Ends OfSink sink sink_after status (DoServe Door OfEar Source Sink Clock words net net_after)
+
+-- ## serve --log
+
+module _ {N Conn Ear C D H A : Type 0} (Door : a_door.Ghosts N Conn Ear) (OfEar : an_ear.Ghosts Ear Conn) (Source : a_source.Ghosts Conn)
+    (OfConn : a_sink.Ghosts Conn) (Clock : a_clock.Ghosts C) (Disk : a_disk.Ghosts D) (Shelf : a_shelf.Ghosts H D) where
+  -- Where the words name it, a server over the file of its line ended so.
+  abbrev pub LogServes : {K : Type 0} → a_sink.Ghosts K → List (String A) → K → N → H → K → N → H → ℕ → Type 0
+  LogServes Sink words sink net shelf sink_after net_after shelf_after status = Names words LogServe →
+      LogServeEnds Door OfEar Source OfConn Clock Disk Shelf Sink words sink net shelf sink_after net_after shelf_after status
 
 -- ## work
 
@@ -138,6 +155,13 @@ module _ {Rule Job : Type 0} {OfRule : Rule → Type 0} {OfJob : Job → Type 0}
       K → N → Vec (Registry Job Rule OfJob OfRule Delays) Global → K → N → Vec (Registry Job Rule OfJob OfRule Delays) Global → ℕ → Type 0
   WorkEnds OfSink Door Source Sink runs words rules sink net teams sink_after net_after teams_after status =
       Ends OfSink sink sink_after status (DoWork Door Source Sink runs words rules net teams net_after teams_after)
+
+  -- Where the words name `work`, it ended so.
+  abbrev pub Worked : {N Conn Ear K A : Type 0} → a_sink.Ghosts K → a_door.Ghosts N Conn Ear → a_source.Ghosts Conn → a_sink.Ghosts Conn →
+      ((job : Job) × OfJob job → Option (List Run)) → List (String A) → Vec (DelayRule Rule OfRule Delays) Global →
+      K → N → Vec (Registry Job Rule OfJob OfRule Delays) Global → K → N → Vec (Registry Job Rule OfJob OfRule Delays) Global → ℕ → Type 0
+  Worked OfSink Door Source Sink runs words rules sink net teams sink_after net_after teams_after status =
+      Names words Work → WorkEnds OfSink Door Source Sink runs words rules sink net teams sink_after net_after teams_after status
 
   -- A line of `work` is done, unless a fault ends its turns, where the sink takes the counts.
   abbrev pub WorkDone : {N Conn Ear A : Type 0} → a_door.Ghosts N Conn Ear → a_source.Ghosts Conn → a_sink.Ghosts Conn →

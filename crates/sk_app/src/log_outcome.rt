@@ -59,8 +59,8 @@ fn pipe_status(end: PipeEnd) -> u8
     }
 }
 
-// The status of a log that can't go on.
-fn fault_status(fault: LogFault) -> u8
+/// The status of a log that can't be opened, or go on.
+pub fn fault_status(fault: LogFault) -> u8
     ensures { result ≡ fault_status_of fault }
 {
     match fault {
@@ -82,8 +82,8 @@ fn unopened_status(why: Unopened) -> u8
     }
 }
 
-// What a fault tells, with LF; none where it tells nothing.
-fn fault_text(alloc: Global, fault: LogFault) -> Result<Option<Word>, AllocError>
+/// What a fault tells, with LF; none where it tells nothing.
+pub fn fault_text(alloc: Global, fault: LogFault) -> Result<Option<Word>, AllocError>
     ensures ok { IfOk result (λ text. text ≡ option_map ended (fault_line_of fault)) }
     ensures err { OnErr result (IsSome (fault_line_of fault)) }
 {

@@ -31,7 +31,7 @@ fn first_line(alloc: Global, served: &Served) -> Result<String, AllocError>
 }
 
 // That, and the tally below it.
-fn summary(alloc: Global, served: &Served) -> Result<Word, AllocError>
+pub fn summary(alloc: Global, served: &Served) -> Result<Word, AllocError>
     ensures { IfOk result (λ text. text ≡ summary_text served.now) }
 {
     let mut text = Vec::new(alloc);

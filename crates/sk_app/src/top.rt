@@ -11,13 +11,13 @@ ghost use Rattle.sk_app.specs.Drilling.{RunsDrill};
 ghost use Rattle.sk_app.specs.Ending.{Ends};
 ghost use Rattle.sk_app.specs.Programs.{program_of};
 ghost use Rattle.sk_app.specs.Soaking.{SoakRun};
-ghost use Rattle.sk_app.specs.declared.program.Program.TheVariants.{Drill, Iterate, Limit, LogPipe, Push, Serve, Soak, Status, Work};
-ghost use Rattle.sk_app.specs.Promises.{DoIterate, DoPush, DoServe, DoStatus, DrillDone, IterateDone, LimitDone, Limited, Logs, LogsCaused, LogsDone, Names, PipeDone, Pipes, PushDone, ServeDone, StatusDone, WorkDone, WorkEnds, texts};
+ghost use Rattle.sk_app.specs.declared.program.Program.TheVariants.{Drill, Iterate, Limit, LogPipe, LogServe, Push, Serve, Soak, Status, Work};
+ghost use Rattle.sk_app.specs.Promises.{DoIterate, DoPush, DoStatus, DrillDone, IterateDone, LimitDone, Limited, LogServes, Logs, LogsCaused, LogsDone, Names, PipeDone, Pipes, PushDone, ServeDone, Served, StatusDone, WorkDone, Worked, texts};
 
 use crate::program::{Program, program_of};
 use crate::{
-    run_drill, run_limit, run_log_pipe, run_push, run_question, run_serve, run_soak, run_status,
-    run_work,
+    run_drill, run_limit, run_log_pipe, run_log_serve, run_push, run_question, run_serve, run_soak,
+    run_status, run_work,
 };
 use sk_base::{Clock, Dice, Sink, Source};
 use sk_disk::Shelf;
@@ -37,6 +37,7 @@ use std::thread::Threads;
 /// - `pipe`, alone: commands from the source, and their replies to the sink ([`sk_pipe::run`]).
 /// - `pipe --log FILE`: the same over a store that a file of the shelf keeps ([`run_log_pipe`]).
 /// - `serve ..`: a server ([`run_serve`]).
+/// - `serve --log FILE ..`: a server over a store that a file of the shelf keeps ([`run_log_serve`]).
 /// - `work ..`: workers and a poller for a server ([`run_work`]), which have these teams and rules.
 /// - `push ..`: one job is pushed to a server ([`run_push`]), as this chain makes it, which may stop it.
 /// - `status ..`: the page of a server ([`run_status`]).
@@ -48,8 +49,8 @@ use std::thread::Threads;
 /// Status 0: all was done. 1: the input of `pipe` has a fault or ends inside a command. 2: the words are no command line; nothing was read, written
 /// or opened. 3, 4: the source, the sink failed. 5: there was no memory. 6: a connection failed or was unreadable, or seats were used up. 7: the
 /// store answered an error, a cursor is no number of an item, or a worker held a job whose count of failures can't rise. 8: what a drill's threads
-/// tell differs from its journal. 9: 2^40 bytes were read. Of `pipe --log` alone, 10: the shelf gave no file, or the file failed. 11: the file is no
-/// log, or is damaged, which is told. 12: the file is full.
+/// tell differs from its journal. 9: 2^40 bytes were read. Of `pipe --log` and `serve --log` alone, 10: the shelf gave no file, the file failed, or
+/// nothing more could be logged. 11: the file is no log, or is damaged, which is told. 12: the file is full.
 pub fn run<
     R: Threads + Wait + Sync,
     S: Source,
@@ -74,6 +75,7 @@ pub fn run<
 ) -> u8
 where
     N::Ear: Send,
+    H::Disk: Send,
     // There is a plain rule for each team.
     requires rules { vec_len rules ≡ vec_len teams.old }
     requires few { vec_len teams.old ≤ MOST_WORKERS }
@@ -85,10 +87,10 @@ where
     ensures completes { IsPipeLine (texts words.now) → PipeDone S.Source K.Sink source.old sink.old source.new sink.new result }
 
     // A server.
-    ensures served { Names words.now Serve → Ends K.Sink sink.old sink.new result (DoServe N.Door N.Ear.Ear N.Conn.Source N.Conn.Sink C.Clock words.now net.old net.new) }
+    ensures served { Served K.Sink N.Door N.Ear.Ear N.Conn.Source N.Conn.Sink C.Clock words.now sink.old net.old sink.new net.new result }
 
     // Workers: the i-th has the i-th of the teams, with their rules, and the i-th of the plain rules.
-    ensures worked { Names words.now Work → WorkEnds K.Sink N.Door N.Conn.Source N.Conn.Sink runs words.now rules
+    ensures worked { Worked K.Sink N.Door N.Conn.Source N.Conn.Sink runs words.now rules
         sink.old net.old teams.old sink.new net.new teams.new result }
 
     // A push.
@@ -122,8 +124,12 @@ where
     ensures log_causes { LogsCaused S.Source K.Sink H.Shelf H.Disk.Disk words.now
         source.old sink.old shelf.old source.new sink.new shelf.new result }
 
+    // A server over the store that the line's file keeps.
+    ensures log_served { LogServes N.Door N.Ear.Ear N.Conn.Source N.Conn.Sink C.Clock H.Disk.Disk H.Shelf K.Sink words.now
+        sink.old net.old shelf.old sink.new net.new shelf.new result }
+
     // No other program has to do with the shelf, or ends so.
-    ensures unlogged { (Names words.now LogPipe → ⊥) → (shelf.new ≡ shelf.old) × (result ≤ 9) }
+    ensures unlogged { (Names words.now LogPipe → ⊥) → (Names words.now LogServe → ⊥) → (shelf.new ≡ shelf.old) × (result ≤ 9) }
 
     // A line of a program is done, where the sink takes what is told and nothing hinders it. Where something does, it is this.
     ensures serve_completes { Names words.now Serve → ServeDone N.Door N.Ear.Ear N.Conn.Source N.Conn.Sink C.Clock words.now net.old net.new result }
@@ -164,7 +170,7 @@ where
         Some(Program::Iterate) => run_question::<K, N, IterateLine>(alloc, words, sink, net),
         Some(Program::Drill) => run_drill(rt, alloc, words, teams, rules, sink),
         Some(Program::LogPipe) => run_log_pipe(alloc, words, source, sink, shelf),
-        Some(Program::LogServe) => 2,
+        Some(Program::LogServe) => run_log_serve(rt, alloc, words, sink, net, shelf, clock),
         None => run_pipe(alloc, words, source, sink),
     }
 }

@@ -1,1 +1,3 @@
 pub mod Taking
+pub mod Crossing
+pub mod Ends

@@ -6,7 +6,11 @@
 mod hub_backlog;
 mod log_book;
 mod log_settler;
+mod log_settlers;
+mod server;
 
 pub use hub_backlog::HubBacklog;
 pub use log_book::LogBook;
 pub use log_settler::LogSettler;
+pub use log_settlers::LogSettlers;
+pub use server::{KeptEnd, KeptFault, KeptStore, serve_kept};

@@ -82,4 +82,8 @@ impl<'a, R: Wait, D: Disk + Drop, I: HubId, J: LogId> Settler for LogSettler<'a,
         self.settled = self.settled.saturating_add(1);
         Ok(())
     }
+
+    fn faults(&self) -> u64 {
+        self.faults
+    }
 }

@@ -1,7 +1,11 @@
 -- What the accept loops of a server did, and what came of all its connections.
-use Rattle.std.specs.Prelude.{◌≡◌, ◌≢◌, ◌⊎◌, ℕ, ◌+◌, ◌-◌, ◌*◌, ◌/◌, ◌^◌, ◌<◌, ◌≤◌, All, List, [], length, map, Option, Some, None, Result, Ok, Err, Bool, true, false}
-use Rattle.std.specs.List.{Any, sum_by}
+use Rattle.std.specs.Prelude.{◌≡◌, ◌≢◌, ◌⊎◌, ℕ, ◌+◌, ◌-◌, ◌*◌, ◌/◌, ◌^◌, ◌<◌, ◌≤◌, All, List, [], length, map, Option, Some, None, Result, Ok, Err, IfOk, Bool, true, false}
+use Rattle.std.specs.List.{AllZip, Any, sum_by}
 use Rattle.sk_base.specs.Outside.{Rose}
+use Rattle.sk_base.specs.declared.clock.Clock as a_clock
+use Rattle.sk_base.specs.declared.sink.Sink as a_sink
+use Rattle.sk_base.specs.declared.source.Source as a_source
+use Rattle.sk_held.specs.declared.settler.Settler as a_settler
 use Rattle.sk_desk.specs.declared.hub.HubFault.{HubFault}
 use Rattle.sk_desk.specs.declared.hub.HubFault.TheVariants as hub_fault
 use Rattle.sk_desk.specs.Pass.{PassView}
@@ -12,7 +16,7 @@ use Rattle.sk_edge.specs.declared.door.Door as a_door
 use Rattle.sk_edge.specs.declared.door.Ear as an_ear
 use Rattle.sk_serve.specs.Visits.{Among, AreVisits, EndsUnserved, HasShutdown, HasUnsettled, Standing, Visit, acknowledged_in, served_in, standing}
 use Rattle.sk_serve.specs.declared.attend.Ending.{Ending}
-use Rattle.sk_serve.specs.Attending.{Attending}
+use Rattle.sk_serve.specs.Attending.{Attending, Attends}
 use Rattle.sk_serve.specs.declared.accept_loop.LoopEnd.{LoopEnd}
 use Rattle.sk_serve.specs.declared.accept_loop.LoopEnd.TheVariants as loop_end
 use Rattle.sk_serve.specs.declared.serve_end.ServeEnd.{ServeEnd}
@@ -106,6 +110,17 @@ IsGravest loops (Some fault.Memory) = NoneAt loop_end.Failed loops × (NoneAt lo
 IsGravest loops (Some fault.Unsettled) =
     NoneAt loop_end.Failed loops × (NoneAt loop_end.Spent loops × (NoneAt loop_end.Memory loops × Any (λ l. l.end ≡ loop_end.Unsettled) loops))
 IsGravest loops None = NoneAt loop_end.Failed loops × (NoneAt loop_end.Spent loops × (NoneAt loop_end.Memory loops × NoneAt loop_end.Unsettled loops))
+
+-- ## What is said of a loop's calls
+
+-- A connection had its session, with this desk's pass and clock; or there was no seat for it.
+abbrev pub ServedBy : {C K W : Type 0} → Bool → Bool → a_source.Ghosts C → a_sink.Ghosts C → a_clock.Ghosts K → a_settler.Ghosts W → PassView → K → C → PassView → K → C × Result Ending HubFault → Type 0
+ServedBy holds_back wants_words Source Sink Clock Settler pass clock conn pass' clock' result =
+    IfOk result.1 (λ how. ServesOne (Attends holds_back wants_words Source Sink Clock Settler) pass clock conn how pass' clock' result.0)
+
+-- The loops ran.
+abbrev pub LoopsRun : {E C K W : Type 0} → Bool → Bool → an_ear.Ghosts E C → a_source.Ghosts C → a_sink.Ghosts C → a_clock.Ghosts K → a_settler.Ghosts W → ℕ → List (LoopView E K) → List (LoopView E K) → Type 0
+LoopsRun holds_back wants_words Ear Source Sink Clock Settler others old new = AllZip (Runs Ear (Attends holds_back wants_words Source Sink Clock Settler) others) old new
 
 -- ## Ears
 

@@ -1,6 +1,9 @@
 -- What a session is seen to do with its desk, its clock and its connection, one command after another.
 use Rattle.std.specs.Prelude.{◌≡◌, ◌⊎◌, ℕ, List, Option, Some, None, Ok, Err, Bool, true, cond}
 use Rattle.sk_base.specs.Yields.{Yields}
+use Rattle.sk_base.specs.declared.clock.Clock as a_clock
+use Rattle.sk_base.specs.declared.sink.Sink as a_sink
+use Rattle.sk_base.specs.declared.source.Source as a_source
 use Rattle.sk_resp.specs.Spelling.{Bytes}
 use Rattle.sk_resp.specs.Request.{Command as Words}
 use Rattle.sk_resp.specs.declared.reply.Reply.{Reply}
@@ -16,6 +19,7 @@ use Rattle.sk_model.specs.Acked.{Acknowledges}
 use Rattle.sk_model.specs.Run.{is_ok}
 use Rattle.sk_desk.specs.Calls.{AddsCall, call_of}
 use Rattle.sk_desk.specs.declared.call.Call.{Call}
+use Rattle.sk_desk.specs.declared.desk.Desk as a_desk
 use Rattle.sk_talk.specs.Talk.{DoesAll, Ends, Moves}
 use Rattle.sk_talk.specs.declared.talk_end.Stop.{Stop}
 use Rattle.sk_talk.specs.declared.talk_end.Stop.TheVariants as stop
@@ -80,3 +84,8 @@ pub record IsSession {D K C : Type 0} (wants_words : Bool) (calls : D → Option
   pub written : Bytes
   pub moves : Moves (left conn) (left conn') (taken conn) (taken conn') bytes written
   pub ends : Ends (DoesAll (Does wants_words)) (seen calls acked moments desk clock) end bytes (left conn') (seen calls acked moments desk' clock') written
+
+-- The same, by all that is told of the desk, the connection and the clock.
+abbrev pub IsTalk : {D K C : Type 0} → a_desk.Ghosts D → a_source.Ghosts C → a_sink.Ghosts C → a_clock.Ghosts K → D → K → C → TalkEnd → D → K → C → Type 0
+IsTalk Desk Source Sink Clock desk clock conn end desk' clock' conn' =
+    IsSession Desk.wants_words Desk.calls Desk.acked Clock.moments Source.left Sink.taken desk clock conn end desk' clock' conn'

@@ -2,15 +2,15 @@
 ghost use Rattle.std.specs.Prelude.{◌≡◌, ◌≢◌, ◌⊎◌, ◌≤◌, ◌*◌, ◌↔◌, IfOk, IfErr, IfSome, IsTrue, Err, true, false};
 ghost use Rattle.sk_base.specs.Outside.{Rose};
 ghost use Rattle.sk_edge.specs.Doors.{IsNudged};
-ghost use Rattle.sk_serve.specs.Server.{Runs, ServesOne, end_of, stands};
+ghost use Rattle.sk_serve.specs.Server.{Runs, ServedBy, end_of, stands};
 ghost use Rattle.sk_serve.specs.Attending.{Attends};
 ghost use Rattle.sk_desk.specs.declared.hub.HubFault.TheVariants as hub_fault;
 
+use crate::SessionEnd;
+use crate::attend::{Ending, attend};
 use crate::gate::{Gate, GatedDesk};
 use crate::reserve::Reserve;
 use crate::shared::Shared;
-use crate::SessionEnd;
-use crate::attend::{Ending, attend};
 use sk_base::{Clock, Conn, Failed};
 use sk_desk::{Book, HubFault, HubId, Pass};
 use sk_edge::Ear;
@@ -67,8 +67,8 @@ fn serve_one<R: Wait + Sync, C: Conn, K: Clock, I: HubId, B: Book, W: Settlers, 
     reserve: &mut Reserve,
 ) -> (C, Result<Ending, HubFault>)
     ensures parts { pass.new.parts ≡ pass.old.parts }
-    ensures served { IfOk result.1 (λ how. ServesOne (Attends W.holds_back B.wants_words C.Source C.Sink K.Clock W.Settler.Settler)
-        pass.old clock.old conn how pass.new clock.new result.0) }
+    ensures served { ServedBy W.holds_back B.wants_words C.Source C.Sink K.Clock W.Settler.Settler
+        pass.old clock.old conn pass.new clock.new result }
     ensures fault { IfErr result.1 (λ fault. (pass.new ≡ pass.old) × (clock.new ≡ clock.old) × (result.0 ≡ conn)) }
     ensures spent { result.1 ≡ Err hub_fault.Spent → pass.old.count ≡ 0 }
 {

@@ -1,7 +1,7 @@
 // One connection: each command is handed to the desk, and its reply written before the next is looked at.
 ghost use Rattle.std.specs.Prelude.{◌≡◌, ◌≤◌};
 ghost use Rattle.sk_base.specs.Outside.{Rose};
-ghost use Rattle.sk_serve.specs.Session.{IsSession};
+ghost use Rattle.sk_serve.specs.Session.{IsSession, IsTalk};
 
 use crate::SessionEnd;
 use crate::sitting::Sitting;
@@ -18,7 +18,7 @@ fn talk<'a, D: Desk, C: Duplex, K: Clock>(
 ) -> SessionEnd
     ensures desk { sitting.new.desk.ghost_name ≡ sitting.old.desk.ghost_name }
     ensures clock { sitting.new.clock.ghost_name ≡ sitting.old.clock.ghost_name }
-    ensures ends { IsSession D.wants_words D.calls D.acked K.moments C.left C.taken sitting.old.desk.now sitting.old.clock.now conn.old result
+    ensures ends { IsTalk D.Desk C.Source C.Sink K.Clock sitting.old.desk.now sitting.old.clock.now conn.old result
         sitting.new.desk.now sitting.new.clock.now conn.new }
     ensures read_fault { result ≡ SessionEnd.ReadFault → Rose (C.read_faults conn.old) (C.read_faults conn.new) }
     ensures write_fault { result ≡ SessionEnd.WriteFault → Rose (C.write_faults conn.old) (C.write_faults conn.new) }

@@ -12,8 +12,8 @@ mod server;
 mod shared;
 mod sitting;
 
-pub use driver::session;
 pub use attend::Ending;
+pub use driver::session;
 pub use gate::{Gate, OpenGate};
 pub use held::{HeldEnd, held_session};
 pub use serve_end::{ServeEnd, ServeFault, Served};

@@ -1,12 +1,12 @@
 // A server: accept loops in threads over one store, each with an ear, a clock and a pass of its own. Once they have ended their passes are joined, the
 // ears go back to the door, and the store is closed.
 ghost use Rattle.std.specs.Prelude.{◌≡◌, ◌+◌, ◌-◌, ◌*◌, ◌/◌, ◌^◌, ◌<◌, ◌≤◌, ℕ, OnOk, Some, Err, true, false, map, reverse, vec_len, vec_capacity, All};
-ghost use Rattle.std.specs.List.{AllZip, Any, sum_by};
+ghost use Rattle.std.specs.List.{Any, sum_by};
 ghost use Rattle.sk_desk.specs.Counts.{blank_share};
 ghost use Rattle.sk_desk.specs.Pass.{pass_of};
 ghost use Rattle.sk_model.specs.World.{first};
 ghost use Rattle.sk_serve.specs.Attending.{Attends, IsAtOnce};
-ghost use Rattle.sk_serve.specs.Server.{HasEnded, HaveEnded, IsFresh, IsGravest, IsSettled, IsUsed, LoopsEnded, NoneAt, Runs};
+ghost use Rattle.sk_serve.specs.Server.{HasEnded, HaveEnded, IsFresh, IsGravest, IsSettled, IsUsed, LoopsEnded, LoopsRun, NoneAt, Runs};
 
 use crate::accept_loop::{AcceptLoop, LoopEnd};
 use crate::gate::Gate;
@@ -85,8 +85,8 @@ where
     B::Place: Send,
     W::Settler: Send,
     requires { 0 < threads }
-    ensures { AllZip (Runs E.Ear (Attends W.holds_back B.wants_words E.Conn.Source E.Conn.Sink K.Clock W.Settler.Settler) shared.now.others)
-        loops.old loops.new }
+    ensures { LoopsRun W.holds_back B.wants_words E.Ear E.Conn.Source E.Conn.Sink K.Clock W.Settler.Settler
+        shared.now.others loops.old loops.new }
 {
     shared.resume();
     thread::for_each_mut(
@@ -187,8 +187,8 @@ where
     B::Place: Send,
     W::Settler: Send,
     requires { 0 < threads }
-    ensures ran { AllZip (Runs E.Ear (Attends W.holds_back B.wants_words E.Conn.Source E.Conn.Sink K.Clock W.Settler.Settler) shared.now.others)
-        loops.old loops.new }
+    ensures ran { LoopsRun W.holds_back B.wants_words E.Ear E.Conn.Source E.Conn.Sink K.Clock W.Settler.Settler
+        shared.now.others loops.old loops.new }
     ensures settled { OnOk result (IsSettled shared.now.sessions loops.new) }
     ensures failed { result ≡ Err ServeFault.Failed → Any (λ it. it.end ≡ LoopEnd.Failed) loops.new }
     ensures spent { result ≡ Err ServeFault.Spent → Any (λ it. IsUsed it) loops.new }

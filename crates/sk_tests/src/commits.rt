@@ -62,6 +62,7 @@ fn log_two<I: LogId + Send + Sync, D: Disk + Drop + Send, R: Threads + Wait + Sy
 ) -> Result<Option<D>, LogFault>
     requires id { new ≡ I.book }
     requires start { IsStart I.starts file.1 (D.may_leave file.0) }
+    requires count { D.disk_faults file.0 ≡ I.faults }
     requires any { (history : List Body) → I.holds history }
 {
     let (disk, log) = file;
@@ -78,7 +79,7 @@ fn log_two<I: LogId + Send + Sync, D: Disk + Drop + Send, R: Threads + Wait + Sy
     if !(one? && two?) {
         return Ok(None);
     }
-    Ok(committer.close().map(|stored| stored.into_parts().0))
+    Ok(committer.close().ok().map(|stored| stored.into_parts().0))
 }
 
 // A log of no records, in a file whose first calls pass.

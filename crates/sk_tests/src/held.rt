@@ -30,6 +30,10 @@ impl Settler for Passes {
         self.settled = self.settled.saturating_add(1);
         Ok(())
     }
+
+    fn faults(&self) -> u64 {
+        self.faults
+    }
 }
 
 // A connection that gives one byte at a read, whose writes with these numbers fail.

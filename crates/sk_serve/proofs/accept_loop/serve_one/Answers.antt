@@ -14,7 +14,7 @@ returns-clause-served g c =
       (
         c.attend-conn.new.desk.desk.amount,
         summary_of g.B.Book.wants_words (λ d. d.desk.amount) g.C.Source g.C.Sink g.K.Clock g.W.Settler.Settler c.new-gated.result c.attend-conn.new.desk c.args.clock.now c.attend-conn.new.clock c.args.conn
-        c.attend-conn.result.0 c.attend-conn.result.1 new g.W.Settlers.holds_back c.attend-conn.ensures,
+            c.attend-conn.result.0 c.attend-conn.result.1 new g.W.Settlers.holds_back c.attend-conn.ensures,
         omega (arith, ap (λ (p : PassView). p.amount) ended, ap (λ (p : PassView). p.amount) c.in-Ok.ensures.pass, ap (λ (d : DeskView). d.amount) c.into_parts-desk.ensures),
       ),
     )

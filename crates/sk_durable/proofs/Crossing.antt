@@ -1,0 +1,44 @@
+-- What a server's threads share of a kept store may be shared by them.
+use denote.RattleType.{RattleType}
+use denote.Param.Send.{IsSend, IsSync, sendable}
+use Rattle.std.proofs.Crossing.{crosses}
+use Rattle.logbook.proofs.tokens.Seen.TheSendSync.{the_send as seen_send}
+use Rattle.logbook.proofs.word.Word.TheSendSync.{the_send as word_send}
+use Rattle.sk_serve.proofs.Crossing.{hub_sync}
+use Rattle.sk_commit.specs.contracts.committer.Committer as Committer
+use Rattle.sk_commit.specs.contracts.pending.Pending as Pending
+use Rattle.sk_commit.specs.contracts.stored.Durable as Durable
+use Rattle.sk_durable.specs.contracts.log_book.LogBook as LogBook
+use Rattle.sk_durable.specs.contracts.hub_backlog.HubBacklog as HubBacklog
+use Rattle.sk_durable.specs.contracts.log_settler.LogSettler as LogSettler
+use Rattle.sk_durable.specs.contracts.log_settlers.LogSettlers as LogSettlers
+
+pending_send : (J : RattleType) (j : _) → IsSend J → IsSync J → IsSend (Pending.the_field J j).row
+pending_send J j send sync = search (sendable, crosses, seen_send, word_send) depth 60 fits 5000
+
+book_send : (J : RattleType) (j : _) → IsSend J → IsSync J → IsSend (LogBook.the_field J j).row
+book_send J j send sync = search (sendable, crosses, pending_send) depth 60 fits 5000
+
+book_send_row : (J : RattleType) (j : _) → IsSend J → IsSync J → IsSend (LogBook.the_row J j)
+book_send_row J j send sync = search (sendable, crosses, book_send) depth 60 fits 5000
+
+backlog_sync : (a : _) (L J : RattleType) (l : _) (j : _) → IsSend J → IsSync J → IsSync (HubBacklog.the_field a L J l j).row
+backlog_sync a L J l j send sync = search (sendable, crosses, hub_sync, book_send_row) depth 60 fits 5000
+
+committer_sync : (D J : RattleType) (d : _) (j : _) → IsSend D → IsSend J → IsSync J → IsSync (Committer.the_field D J d j).row
+committer_sync D J d j disk send sync = search (sendable, crosses, seen_send) depth 100 fits 10000
+
+durable_send : (J : RattleType) (j : _) → IsSend J → IsSync J → IsSend (Durable.the_field J j).row
+durable_send J j send sync = search (sendable, crosses, seen_send) depth 60 fits 5000
+
+settler_send : (a : _) (R D L J : RattleType) (d : _) (l : _) (j : _) → IsSync R → IsSend D → IsSend J → IsSync J → IsSend (LogSettler.the_field a R D L J d l j).row
+settler_send a R D L J d l j r disk send sync = search (sendable, crosses, backlog_sync, committer_sync, durable_send) depth 60 fits 5000
+
+pub settler_send_row : (a : _) (R D L J : RattleType) (d : _) (l : _) (j : _) → IsSync R → IsSend D → IsSend J → IsSync J → IsSend (LogSettler.the_row a R D L J d l j)
+settler_send_row a R D L J d l j r disk send sync = search (sendable, crosses, settler_send) depth 60 fits 5000
+
+settlers_sync : (a : _) (R D L J : RattleType) (d : _) (l : _) (j : _) → IsSync R → IsSend D → IsSend J → IsSync J → IsSync (LogSettlers.the_field a R D L J d l j).row
+settlers_sync a R D L J d l j r disk send sync = search (sendable, crosses, backlog_sync, committer_sync) depth 60 fits 5000
+
+pub settlers_sync_row : (a : _) (R D L J : RattleType) (d : _) (l : _) (j : _) → IsSync R → IsSend D → IsSend J → IsSync J → IsSync (LogSettlers.the_row a R D L J d l j)
+settlers_sync_row a R D L J d l j r disk send sync = search (sendable, crosses, settlers_sync) depth 60 fits 5000

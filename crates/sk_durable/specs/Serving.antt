@@ -1,0 +1,131 @@
+-- How a server over a store that a file keeps ends.
+use Rattle.std.specs.Prelude.{◌≡◌, ◌-◌, ◌/◌, ◌^◌, ◌+◌, ℕ, List, Option, Some, Result, Ok, Err, IfSome, true}
+use Rattle.sk_base.specs.Outside.{Rose}
+use Rattle.sk_base.specs.declared.clock.Clock as a_clock
+use Rattle.sk_base.specs.declared.sink.Sink as a_sink
+use Rattle.sk_base.specs.declared.source.Source as a_source
+use Rattle.sk_commit.specs.Shared.{HasBehind}
+use Rattle.sk_commit.specs.declared.log_id.LogId as a_log_id
+use Rattle.sk_desk.specs.State.{IsBalanced, pushed_in}
+use Rattle.sk_desk.specs.Writing.{IsWritten}
+use Rattle.sk_disk.specs.Images.{Images}
+use Rattle.sk_disk.specs.declared.disk.Disk as a_disk
+use Rattle.sk_edge.specs.declared.door.Door as a_door
+use Rattle.sk_edge.specs.declared.door.Ear as an_ear
+use Rattle.sk_edge.specs.declared.door.DoorFault.{DoorFault}
+use Rattle.sk_edge.specs.declared.door.DoorFault.TheVariants as door_fault
+use Rattle.sk_held.specs.declared.settler.Settler as a_settler
+use Rattle.sk_jobs.specs.Counting.{tally_of}
+use Rattle.sk_log.specs.File.{Body, IsAt}
+use Rattle.sk_model.specs.World.{World}
+use Rattle.sk_serve.specs.Attending.{Attending, Attends}
+use Rattle.sk_serve.specs.Server.{Account, Became, EndedAt, HasFailed, HasSpent, HaveRun, LoopsEnded, Serves}
+use Rattle.sk_serve.specs.declared.serve_end.ServeFault.{ServeFault}
+use Rattle.sk_serve.specs.declared.serve_end.ServeFault.TheVariants as serve_fault
+use Rattle.sk_serve.specs.declared.serve_end.Served.{Served}
+use Rattle.sk_status.specs.declared.tally.Tally.{Tally}
+use Rattle.sk_durable.specs.Writes.{SettlerView, SpellsBody}
+use Rattle.sk_durable.specs.declared.server.KeptEnd.{KeptEnd}
+use Rattle.sk_durable.specs.declared.server.KeptFault.{KeptFault}
+use Rattle.sk_durable.specs.declared.server.KeptFault.TheVariants as fault
+use Rattle.sk_durable.specs.declared.server.KeptStore.{KeptStore}
+
+-- what the counts of a settler are
+abbrev pub settling : a_settler.Ghosts SettlerView
+settling = record { settled = λ s. s.settled; settle_faults = λ s. s.faults }
+
+-- The session's replies waited for a settler.
+abbrev pub Waited : {C K : Type 0} → a_source.Ghosts C → a_sink.Ghosts C → a_clock.Ghosts K → Attending C K
+Waited Source Sink Clock = Attends true true Source Sink Clock settling
+
+-- what a fault of the loops is, where the file has all that was logged
+abbrev pub kept_fault : ServeFault → KeptFault
+kept_fault serve_fault.Failed = fault.Failed
+kept_fault serve_fault.Spent = fault.Spent
+kept_fault serve_fault.Memory = fault.Memory
+kept_fault serve_fault.Unsettled = fault.Astray
+
+-- how a server ends whose file has all that was logged: as its loops did, with the rows that were acknowledged, and the tally
+abbrev pub EndsSo : Result ℕ ServeFault → ℕ → Tally → Result Served KeptFault → Type 0
+EndsSo (Ok sessions) acknowledged tally end = end ≡ Ok (record { sessions = sessions; acknowledged = acknowledged; tally = tally })
+EndsSo (Err f) acknowledged tally end = end ≡ Err (kept_fault f)
+
+-- ## The file
+
+module _ {D : Type 0} (may_leave : D → Images) (starts : List Body → Type 0) (start : World) where
+  -- Whatever a crash leaves is a log of what the file was before and, behind that, of all that a log keeps of a run from the start to this world.
+  pub record HasAll (w : World) (disk : D) : Type 0 where
+    pub bodies : List Body
+    pub written : IsWritten SpellsBody start w bodies
+    pub gate : ℕ
+    pub behind : HasBehind starts bodies gate (may_leave disk)
+
+  -- So it is of the disk that is given back, and of a world with this tally.
+  pub record KeepsAll (s : Served) (given : Option D) : Type 0 where
+    pub disk : D
+    pub is : given ≡ Some disk
+    pub world : World
+    pub tally_is : s.tally ≡ tally_of world
+    pub all : HasAll world disk
+
+-- one of the faults of a log
+abbrev pub IsOfLog : KeptFault → Type 0
+IsOfLog fault.Disk = Unit {0}
+IsOfLog fault.Full = Unit {0}
+IsOfLog fault.Astray = Unit {0}
+IsOfLog other = ⊥
+
+-- Where the disk's failure ended the log, its count rose above the first, if the disk is given back.
+pub record IsHalted {D : Type 0} (faults : D → ℕ) (first : ℕ) (e : KeptEnd D) : Type 0 where
+  pub why : KeptFault
+  pub is : e.end ≡ Err why
+  pub of_log : IsOfLog why
+  pub disk : why ≡ fault.Disk → IfSome e.disk (λ disk. Rose first (faults disk))
+
+-- what a fault of the door is, where it gave no ears
+abbrev pub unheard_fault : DoorFault → KeptFault
+unheard_fault door_fault.Failed = fault.Failed
+unheard_fault door_fault.Memory = fault.Memory
+
+-- ## The server
+
+-- Its loops ran, and what its sessions acknowledged is what the store counts from outside since the start.
+pub record IsServedOn {E C K : Type 0} (Ear : an_ear.Ghosts E C) (start : World) (bound loops : ℕ) (s : Served) (accounts : List (Account E C K)) : Type 0 where
+  pub ran : HaveRun Ear bound loops s.sessions s.acknowledged accounts
+  pub outside : s.acknowledged + pushed_in start ≡ s.tally.outside
+  pub balanced : IsBalanced s.tally
+
+module _ {D E C K : Type 0} (may_leave : D → Images) (faults : D → ℕ) (Ear : an_ear.Ghosts E C) (Attended : Attending C K) (starts : List Body → Type 0) (start : World) (first : ℕ) where
+  -- The loops over these ears ended so, and then the log. Nothing says when there is no memory, or when nothing more can be logged.
+  abbrev pub KeptEnds : (bound loops : ℕ) → List E → List E → Result Served KeptFault → Option D → Type 0
+  KeptEnds bound loops ears ears' (Ok s) given = Became Ear Attended ears ears' (IsServedOn Ear start bound loops s) × KeepsAll may_leave starts start s given
+  KeptEnds bound loops ears ears' (Err fault.Failed) given = EndedAt Ear Attended loops ears ears' serve_fault.Failed
+  KeptEnds bound loops ears ears' (Err fault.Spent) given = EndedAt Ear Attended loops ears ears' serve_fault.Spent
+  KeptEnds bound loops ears ears' (Err fault.Disk) given = IfSome given (λ disk. Rose first (faults disk))
+  KeptEnds bound loops ears ears' (Err other) given = Unit {0}
+
+  module _ {N : Type 0} (Door : a_door.Ghosts N C E) where
+    -- So did a server whose door gave the ears.
+    abbrev pub KeptServerEnds : (bound loops : ℕ) → N → N → Result Served KeptFault → Option D → Type 0
+    KeptServerEnds bound loops old new (Ok s) given = Serves Door Ear Attended loops old new (IsServedOn Ear start bound loops s) × KeepsAll may_leave starts start s given
+    KeptServerEnds bound loops old new (Err fault.Failed) given = HasFailed Door Ear Attended loops old new
+    KeptServerEnds bound loops old new (Err fault.Spent) given = HasSpent Door Ear Attended ((2 ^ 32 - 2) / loops) loops old new
+    KeptServerEnds bound loops old new (Err fault.Disk) given = IfSome given (λ disk. Rose first (faults disk))
+    KeptServerEnds bound loops old new (Err other) given = Unit {0}
+
+-- ## What is said of the calls
+
+-- The loops of a server ended so, whose sessions' replies waited.
+abbrev pub WaitedEnded : {E C K : Type 0} → an_ear.Ghosts E C → a_source.Ghosts C → a_sink.Ghosts C → a_clock.Ghosts K → (bound loops rows : ℕ) → List E → List E → Result ℕ ServeFault → Type 0
+WaitedEnded Ear Source Sink Clock bound loops rows ears ears' result = LoopsEnded Ear (Waited Source Sink Clock) bound loops rows ears ears' result
+
+-- So did a server over a log that is named, from this world on.
+abbrev pub NamedEnds : {D E C J K : Type 0} → a_disk.Ghosts D → an_ear.Ghosts E C → a_source.Ghosts C → a_sink.Ghosts C → a_clock.Ghosts K → a_log_id.Ghosts J → World → (bound loops : ℕ) → List E → List E → KeptEnd D → Type 0
+NamedEnds Disk Ear Source Sink Clock Log start bound loops ears ears' e =
+    KeptEnds Disk.may_leave Disk.disk_faults Ear (Waited Source Sink Clock) Log.starts start Log.faults bound loops ears ears' e.end e.disk
+
+-- So did a server over this store, whose door gave the ears.
+abbrev pub KeptServed : {D N E C K : Type 0} → a_disk.Ghosts D → an_ear.Ghosts E C → Attending C K → a_door.Ghosts N C E → KeptStore D → (bound loops : ℕ) → N → N → KeptEnd D → Type 0
+KeptServed Disk Ear Attended Door store bound loops old new e =
+    KeptServerEnds Disk.may_leave Disk.disk_faults Ear Attended (λ events. IsAt events store.log (Disk.may_leave store.disk)) store.core (Disk.disk_faults store.disk) Door
+    bound loops old new e.end e.disk
