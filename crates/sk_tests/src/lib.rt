@@ -6,8 +6,6 @@ mod clocks;
 #[cfg(test)]
 mod commits;
 #[cfg(test)]
-mod durable;
-#[cfg(test)]
 mod files;
 #[cfg(test)]
 mod gates;
