@@ -10,7 +10,7 @@ use Rattle.sk_serve.specs.declared.accept_loop.LoopEnd.{LoopEnd}
 use Rattle.sk_serve.specs.declared.accept_loop.LoopEnd.TheVariants as loop_end
 use Rattle.sk_serve.specs.declared.serve_end.ServeFault.{ServeFault}
 use Rattle.sk_serve.specs.declared.serve_end.ServeFault.TheVariants as fault
-use Rattle.sk_serve.specs.Server.{Account, Became, EarFailed, EndedAt, EndsUnsettled, HaveRun, IsAccount, IsFresh, IsFull, IsSettled, IsShut, IsUsed, IsUsedUp, LoopView, Runs, nudges_at}
+use Rattle.sk_serve.specs.Server.{Account, Became, EarFailed, EndedAt, EndsUnsettled, HaveRun, IsAccount, IsFresh, IsFull, IsSettled, IsShut, IsUsed, IsUsedUp, LoopView, NoneAt, Runs, nudges_at}
 use Rattle.sk_serve.specs.Attending.{Attending}
 use Rattle.sk_serve.specs.Visits.{Among, EndsUnserved, HasShutdown, HasUnsettled, acknowledged_in, served_in}
 use Rattle.sk_serve.proofs.Lists.{all_turned, among_back, map_turned, sum_turned, sums_same}
@@ -119,6 +119,20 @@ module _ {E C K : Type 0} (Ear : an_ear.Ghosts E C) (Attended : Attending C K) (
     by_cause (inl was) = absurd (cc (sym fresh.end_is ∙ was))
     by_cause (inr some) = some
 
+  settled_one : (a b : LoopView E K) (r : Ran a b) → b.end ≢ loop_end.Failed → b.end ≢ loop_end.Unsettled → EndsUnsettled (account a b r) → ⊥
+  settled_one a b r unfailed settled some = by_end (r.ends some) where
+    by_end : (b.end ≡ loop_end.Unsettled) ⊎ (b.end ≡ loop_end.Failed) → ⊥
+    by_end (inl is) = settled is
+    by_end (inr is) = unfailed is
+
+  all_settled : (old new : List (LoopView E K)) (ran : AllZip Ran old new) → NoneAt loop_end.Failed new → NoneAt loop_end.Unsettled new → Among EndsUnsettled (accounts old new ran) → ⊥
+  all_settled [] [] ran unfailed settled some = some
+  all_settled (a ∷ old) (b ∷ new) ran unfailed settled (inl one) = settled_one a b ran.0 (unfailed 0 b (omega arith)) (settled 0 b (omega arith)) one
+  all_settled (a ∷ old) (b ∷ new) ran unfailed settled (inr more) =
+      all_settled old new ran.1 (λ i d below. unfailed (suc i) d (omega (arith, below))) (λ i d below. settled (suc i) d (omega (arith, below))) more
+  all_settled [] (b ∷ new) ran unfailed settled some = absurd ran
+  all_settled (a ∷ old) [] ran unfailed settled some = absurd ran
+
   shut_one : (count : ℕ) → others ≡ count → (a b : LoopView E K) (r : Ran a b) → IsFresh n a → b.shut ≡ true → IsShut Ear count (account a b r)
   shut_one count same a b r fresh shut = by_cause (r.quit shut) where
     by_cause : (a.shut ≡ true) ⊎ (HasShutdown r.visits × (b.end ≢ loop_end.Done)) → IsShut Ear count (account a b r)
@@ -148,17 +162,22 @@ module _ {E C K : Type 0} (Ear : an_ear.Ghosts E C) (Attended : Attending C K) (
     pub some_unsettled : Any (λ it. it.end ≡ loop_end.Unsettled) new → Among EndsUnsettled (reverse (accounts old new ran))
     some_unsettled some = among_back EndsUnsettled (accounts old new ran) (among_all (λ l. l.end ≡ loop_end.Unsettled) EndsUnsettled unsettled_one old new ran fresh some)
 
+    none_unsettled : NoneAt loop_end.Failed new × NoneAt loop_end.Unsettled new → Among EndsUnsettled (reverse (accounts old new ran)) → ⊥
+    none_unsettled whole some =
+        all_settled old new ran whole.0 whole.1 (subst (Among EndsUnsettled) (reverse-reverse (accounts old new ran)) (among_back EndsUnsettled (reverse (accounts old new ran)) some))
+
     done_by : (bound count : ℕ) → others ≡ count → IsSettled bound new → IsFull bound (reverse (accounts old new ran)) ⊎ Among (IsShut Ear count) (reverse (accounts old new ran))
     done_by bound count same (inl (some, all)) = inl (some, all_turned (λ a. served_in a.visits ≡ bound) (accounts old new ran) (full_all bound old new ran fresh all))
     done_by bound count same (inr shut) =
         inr (among_back (IsShut Ear count) (accounts old new ran) (among_all (λ l. l.shut ≡ true) (IsShut Ear count) (shut_one count same) old new ran fresh shut))
 
-    pub all_run : (bound loops sessions rows : ℕ) → others ≡ loops - 1 → IsSettled bound new → sessions ≡ sum_by (λ l. l.served) new → rows ≡ sum_by (λ l. l.pass.amount) new
-        → HaveRun Ear bound loops sessions rows (reverse (accounts old new ran))
-    all_run bound loops sessions rows same settled sessions_are rows_are = record {
+    pub all_run : (bound loops sessions rows : ℕ) → others ≡ loops - 1 → IsSettled bound new → NoneAt loop_end.Failed new × NoneAt loop_end.Unsettled new
+        → sessions ≡ sum_by (λ l. l.served) new → rows ≡ sum_by (λ l. l.pass.amount) new → HaveRun Ear bound loops sessions rows (reverse (accounts old new ran))
+    all_run bound loops sessions rows same settled whole sessions_are rows_are = record {
       sessions_are = sessions_are ∙ sym (sum_turned (λ a. served_in a.visits) (accounts old new ran) ∙ served_all old new ran fresh);
       rows_are = rows_are ∙ sym (sum_turned (λ a. acknowledged_in a.visits) (accounts old new ran) ∙ acknowledged_all old new ran fresh);
       done = done_by bound (loops - 1) same settled;
+      settled = none_unsettled whole;
     }
 
     pub by_fault : (loops : ℕ) (ears ears' : List E) (f : ServeFault) → n ≡ (2 ^ 32 - 2) / loops → map (λ l. l.ear) old ≡ reverse ears → ears' ≡ reverse (map (λ l. l.ear) new)

@@ -48,4 +48,5 @@ module _ {D K C W : Type 0} (wants_words : Bool) (acked : D → ℕ) (Source : a
     settler' = s.settler';
     since = s.since;
     failed = s.failed;
+    passed = s.passed;
   }

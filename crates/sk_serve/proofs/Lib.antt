@@ -3,6 +3,7 @@ pub mod Attended
 pub mod Counting
 pub mod Lists
 pub mod Loops
+pub mod Parts
 pub mod Accounts
 pub mod Ends
 pub mod Crossing

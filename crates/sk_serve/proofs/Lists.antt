@@ -1,5 +1,5 @@
 -- Lists that are turned round, and connections that come one after another.
-use Rattle.std.proofs.Common.{◌≡◌, ℕ, ◌+◌, List, [], ◌∷◌, ◌++◌, refl, sym, ap, ◌∙◌, subst, arith, inl, inr, ◌<◌, length, slice_index_or, zero, suc, Bool, true, false}
+use Rattle.std.proofs.Common.{◌≡◌, ℕ, ◌+◌, List, [], ◌∷◌, ◌++◌, refl, sym, ap, ◌∙◌, ◌⊎◌, subst, arith, inl, inr, ◌<◌, length, slice_index_or, zero, suc, Bool, true, false}
 use Rattle.std.specs.Prelude.{All, map, reverse}
 use Rattle.std.specs.List.{AllByRecursion, AllWithin, Any, FoldsTo, HoldsAt, sum_by}
 use Rattle.std.specs.Bool.{MatchBool}
@@ -18,6 +18,18 @@ among_first P [] ys none = absurd none
 pub among_later : {T : Type 0} (P : T → Type 0) (xs ys : List T) → Among P ys → Among P (xs ++ ys)
 among_later P [] ys some = some
 among_later P (x ∷ xs) ys some = inr (among_later P xs ys some)
+
+pub among_either : {T : Type 0} (P : T → Type 0) (xs ys : List T) → Among P (xs ++ ys) → Among P xs ⊎ Among P ys
+among_either P [] ys some = inr some
+among_either P (x ∷ xs) ys (inl one) = inl (inl one)
+among_either P (x ∷ xs) ys (inr more) = by_rest (among_either P xs ys more) where
+  by_rest : Among P xs ⊎ Among P ys → Among P (x ∷ xs) ⊎ Among P ys
+  by_rest (inl first) = inl (inr first)
+  by_rest (inr later) = inr later
+
+pub among_one : {T : Type 0} (P : T → Type 0) (x : T) → Among P (x ∷ []) → P x
+among_one P x (inl one) = one
+among_one P x (inr none) = absurd none
 
 two_defaults : {T : Type 0} (xs : List T) (k : ℕ) (d e : T) → k < length xs → slice_index_or xs k d ≡ slice_index_or xs k e
 two_defaults [] k d e less = absurd (omega (arith, less))

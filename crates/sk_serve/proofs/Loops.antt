@@ -14,7 +14,7 @@ use Rattle.sk_serve.specs.declared.accept_loop.LoopEnd.TheVariants as loop_end
 use Rattle.sk_serve.specs.Server.{IsFresh, IsLoop, LoopView, Runs, nudges_at, stands}
 use Rattle.sk_serve.specs.Attending.{Attending}
 use Rattle.sk_serve.specs.Visits.{AreVisits, EndsUnserved, HasShutdown, HasUnsettled, IsShutdown, IsUnsettled, IsVisit, Standing, Visit, count_of, rows_of, standing}
-use Rattle.sk_serve.proofs.Lists.{among_first, among_later, folds_on, plus_none, plus_on, unserved_first, unserved_later}
+use Rattle.sk_serve.proofs.Lists.{among_either, among_first, among_later, among_one, folds_on, plus_none, plus_on, unserved_first, unserved_later}
 use Rattle.sk_serve.proofs.Nudging.{nudged_more, nudged_none}
 
 pub from_ok : {T E : Type 0} (r : Result T E) (x : T) (F : T → Type 0) → r ≡ Ok x → IfOk r F → F x
@@ -54,6 +54,10 @@ done_or loop_end.Unsettled = inr (λ is. cc is)
 
 -- ## A loop that stops
 
+-- It ended for an unsettled session, or because it couldn't wake the others.
+abbrev IsHalted : LoopEnd → Type 0
+IsHalted end = (end ≡ loop_end.Unsettled) ⊎ (end ≡ loop_end.Failed)
+
 -- It ended by this cause, or because it couldn't wake the others.
 module _ (end end' : LoopEnd) (cause : end ≢ loop_end.Done) (ended : (end' ≡ end) ⊎ (end' ≡ loop_end.Failed)) where
   pub ended_by : end' ≢ loop_end.Done
@@ -79,6 +83,12 @@ module _ (end end' : LoopEnd) (cause : end ≢ loop_end.Done) (ended : (end' ≡
     by_cause : (end' ≡ end) ⊎ (end' ≡ loop_end.Failed) → ⊥
     by_cause (inl is) = other (sym is ∙ unsettled)
     by_cause (inr is) = cc (sym is ∙ unsettled)
+
+  pub ends_by : end ≡ loop_end.Unsettled → IsHalted end'
+  ends_by unsettled = by_cause ended where
+    by_cause : (end' ≡ end) ⊎ (end' ≡ loop_end.Failed) → IsHalted end'
+    by_cause (inl is) = inl (is ∙ unsettled)
+    by_cause (inr is) = inr is
 
 -- A session ended by SHUTDOWN before, or this one did.
 pub shut_by : (was : Bool) (end' end : LoopEnd) (Shut : Type 0) → end' ≢ loop_end.Done → (was ≡ true) ⊎ (end ≡ loop_end.Shutdown) → (end ≡ loop_end.Shutdown → Shut)
@@ -125,6 +135,8 @@ module _ {E C K : Type 0} (Ear : an_ear.Ghosts E C) (Attended : Attending C K) w
     failed = λ is. inl is;
     spent = λ is. inl is;
     unsettled = λ is. inl is;
+    ends = λ some. absurd some;
+    ends_shut = λ some. absurd some;
     woke = λ done. subst (λ end. IsNudged (Ear.nudged l.ear) (nudges_at end others) (Ear.nudged l.ear)) (sym done) (nudged_none (Ear.nudged l.ear));
     over = λ ended. (refl, refl);
     quit = λ shut. inl shut;
@@ -165,6 +177,23 @@ module _ {E C K : Type 0} (Ear : an_ear.Ghosts E C) (Attended : Attending C K) w
       by_first (inl was) = inl was
       by_first (inr some) = inr (among_first (λ v. IsUnsettled v.session) first.visits then_.visits some)
 
+    -- Of a loop that ended for an unsettled session the end stays as it is.
+    stays : IsHalted mid.end → IsHalted new.end
+    stays (inl is) = inl (ap (λ (l : LoopView E K). l.end) (then_.over (λ done. cc (sym is ∙ done))).0 ∙ is)
+    stays (inr is) = inr (ap (λ (l : LoopView E K). l.end) (then_.over (λ done. cc (sym is ∙ done))).0 ∙ is)
+
+    ends_on : HasUnsettled (first.visits ++ then_.visits) → IsHalted new.end
+    ends_on some = by_run (among_either (λ v. IsUnsettled v.session) first.visits then_.visits some) where
+      by_run : HasUnsettled first.visits ⊎ HasUnsettled then_.visits → IsHalted new.end
+      by_run (inl before) = stays (first.ends before)
+      by_run (inr now) = then_.ends now
+
+    ends_shut_on : HasShutdown (first.visits ++ then_.visits) → new.end ≢ loop_end.Done
+    ends_shut_on some = by_run (among_either (λ v. IsShutdown v.session) first.visits then_.visits some) where
+      by_run : HasShutdown first.visits ⊎ HasShutdown then_.visits → new.end ≢ loop_end.Done
+      by_run (inl before) = ended_on (first.ends_shut before)
+      by_run (inr now) = then_.ends_shut now
+
     failed_on : (mid.end ≡ loop_end.Failed) ⊎ Rose (Ear.ear_faults mid.ear) (Ear.ear_faults new.ear) → (old.end ≡ loop_end.Failed) ⊎ Rose (Ear.ear_faults old.ear) (Ear.ear_faults new.ear)
     failed_on (inr rose) = inr (rose_from (Ear.ear_faults old.ear) (Ear.ear_faults mid.ear) (Ear.ear_faults new.ear) first.later rose)
     failed_on (inl failed) = by_first (first.failed failed) where
@@ -189,6 +218,8 @@ module _ {E C K : Type 0} (Ear : an_ear.Ghosts E C) (Attended : Attending C K) w
       failed = λ is. failed_on (then_.failed is);
       spent = λ is. spent_on (then_.spent is);
       unsettled = λ is. unsettled_on (then_.unsettled is);
+      ends = ends_on;
+      ends_shut = ends_shut_on;
       woke = λ done. woke_on (first.woke done);
       over = over_on;
       quit = λ shut. quit_on (then_.quit shut);
@@ -220,6 +251,8 @@ module _ {E C K : Type 0} (Ear : an_ear.Ghosts E C) (Attended : Attending C K) w
       failed = λ is. inr (failed is);
       spent = λ is. absurd (unspent is);
       unsettled = λ is. absurd (settled is);
+      ends = λ some. absurd some;
+      ends_shut = λ some. absurd some;
       woke = λ done. woke;
       over = λ ended. absurd (ended waits);
       quit = λ is. inl (sym shut ∙ is);
@@ -228,8 +261,9 @@ module _ {E C K : Type 0} (Ear : an_ear.Ghosts E C) (Attended : Attending C K) w
     -- one did
     pub runs_one : (v : Visit C) → IsVisit Attended (stands Ear old) v (stands Ear new) → new.served ≡ old.served + count_of v.session
         → new.pass.amount ≡ old.pass.amount + rows_of v.session → (new.end ≡ loop_end.Spent → v.session ≡ None) → (new.end ≡ loop_end.Unsettled → IsUnsettled v.session)
+        → (IsUnsettled v.session → IsHalted new.end) → (IsShutdown v.session → new.end ≢ loop_end.Done)
         → (new.shut ≡ true → (old.shut ≡ true) ⊎ (IsShutdown v.session × (new.end ≢ loop_end.Done))) → Ran others old new
-    runs_one v visit served amount spent unsettled quit = record {
+    runs_one v visit served amount spent unsettled ends ends_shut quit = record {
       visits = v ∷ [];
       came = one_visit (stands Ear old) (stands Ear new) v visit;
       served = served ∙ ap (λ n. old.served + n) (sym (sum_one (λ u. count_of u.session) v));
@@ -239,6 +273,8 @@ module _ {E C K : Type 0} (Ear : an_ear.Ghosts E C) (Attended : Attending C K) w
       failed = λ is. inr (failed is);
       spent = λ is. inr ([], v, refl, spent is);
       unsettled = λ is. inr (inl (unsettled is));
+      ends = λ some. ends (among_one (λ u. IsUnsettled u.session) v some);
+      ends_shut = λ some. ends_shut (among_one (λ u. IsShutdown u.session) v some);
       woke = λ done. woke;
       over = λ ended. absurd (ended waits);
       quit = λ is. by_cause (quit is);

@@ -21,7 +21,7 @@ module _ {D K C : Type 0} (Desk : a_desk.Ghosts D) (Source : a_source.Ghosts C) 
     pub write_fault : how.end ≡ end.WriteFault → Rose (Sink.write_faults conn) (Sink.write_faults conn')
     pub settled : how.unsettled ≡ false
 
-  -- They waited for a settler. The connection took something only where that settled; and it is unsettled only where the settler failed.
+  -- They waited for a settler. The connection took something only where that settled; and it is unsettled where the settler failed, and only there.
   pub record IsHeld {W : Type 0} (Settler : a_settler.Ghosts W) (desk : D) (clock : K) (conn : C) (how : Ending) (desk' : D) (clock' : K) (conn' : C) : Type 0 where
     pub handed : Result (Unit {0}) Failed
     pub session : IsHeldSession Desk Source Sink Clock desk clock conn how.end desk' clock' conn' handed
@@ -29,6 +29,7 @@ module _ {D K C : Type 0} (Desk : a_desk.Ghosts D) (Source : a_source.Ghosts C) 
     pub settler' : W
     pub since : IsSince (Sink.taken conn) (Settler.settled settler) (Sink.taken conn') (Settler.settled settler')
     pub failed : how.unsettled ≡ true → Rose (Settler.settle_faults settler) (Settler.settle_faults settler')
+    pub passed : how.unsettled ≡ false → Settler.settle_faults settler' ≡ Settler.settle_faults settler
 
 -- As replies wait or don't, it is the one or the other.
 abbrev pub IsAttended : {D K C W : Type 0} → Bool → a_desk.Ghosts D → a_source.Ghosts C → a_sink.Ghosts C → a_clock.Ghosts K → a_settler.Ghosts W → D → K → C → Ending → D → K → C → Type 0

@@ -69,7 +69,8 @@ stands Ear l = standing Ear l.ear l.clock
 module _ {E C K : Type 0} (Ear : an_ear.Ghosts E C) (Attended : Attending C K) where
   -- A loop ran, beside so many others: these connections came, and it counts those that it served and what they acknowledged. It ended as one whose ear
   -- failed only where the ear's count rose; as one whose numbers were used up only where one more connection had come; and as unsettled only where a
-  -- session was. Where it ended by a cause of its own, as SHUTDOWN is one, it woke each other loop once, and else none; and it doesn't run again.
+  -- session was. Where one was it ended for that, or because waking the others failed; and it ended too where a session ended by SHUTDOWN. Where it ended
+  -- by a cause of its own, as SHUTDOWN is one, it woke each other loop once, and else none; and it doesn't run again.
   pub record Runs (others : ℕ) (old new : LoopView E K) : Type 0 where
     pub visits : List (Visit C)
     pub came : AreVisits Attended (stands Ear old) visits (stands Ear new)
@@ -80,6 +81,8 @@ module _ {E C K : Type 0} (Ear : an_ear.Ghosts E C) (Attended : Attending C K) w
     pub failed : new.end ≡ loop_end.Failed → (old.end ≡ loop_end.Failed) ⊎ Rose (Ear.ear_faults old.ear) (Ear.ear_faults new.ear)
     pub spent : new.end ≡ loop_end.Spent → (old.end ≡ loop_end.Spent) ⊎ EndsUnserved visits
     pub unsettled : new.end ≡ loop_end.Unsettled → (old.end ≡ loop_end.Unsettled) ⊎ HasUnsettled visits
+    pub ends : HasUnsettled visits → (new.end ≡ loop_end.Unsettled) ⊎ (new.end ≡ loop_end.Failed)
+    pub ends_shut : HasShutdown visits → new.end ≢ loop_end.Done
     pub woke : old.end ≡ loop_end.Done → IsNudged (Ear.nudged old.ear) (nudges_at new.end others) (Ear.nudged new.ear)
     pub over : old.end ≢ loop_end.Done → (new ≡ old) × (visits ≡ [])
     pub quit : new.shut ≡ true → (old.shut ≡ true) ⊎ (HasShutdown visits × (new.end ≢ loop_end.Done))
@@ -145,6 +148,10 @@ module _ {E C K : Type 0} (Ear : an_ear.Ghosts E C) (Attended : Attending C K) w
     pub each : All IsAccount accounts
     pub holds : P accounts
 
+-- A session of it was unsettled.
+abbrev pub EndsUnsettled : {E C K : Type 0} → Account E C K → Type 0
+EndsUnsettled a = HasUnsettled a.visits
+
 -- As many connections were served as there were numbers of seats, and one more came.
 abbrev pub IsUsedUp : {E C K : Type 0} → ℕ → Account E C K → Type 0
 IsUsedUp numbers a = (served_in a.visits ≡ numbers) × EndsUnserved a.visits
@@ -163,21 +170,18 @@ module _ {E C K : Type 0} (Ear : an_ear.Ghosts E C) where
   IsShut others a = HasShutdown a.visits × IsNudged (Ear.nudged a.ear) others (Ear.nudged a.ear')
 
   -- What the loops did: so many sessions are those of the connections, and what they acknowledged adds up to so many rows. Each ear had as many connections
-  -- served as it was to, or a session ended by SHUTDOWN.
+  -- served as it was to, or a session ended by SHUTDOWN; and none was unsettled.
   pub record HaveRun (bound loops sessions rows : ℕ) (accounts : List (Account E C K)) : Type 0 where
     pub sessions_are : sessions ≡ sum_by (λ a. served_in a.visits) accounts
     pub rows_are : rows ≡ sum_by (λ a. acknowledged_in a.visits) accounts
     pub done : IsFull bound accounts ⊎ Among (IsShut (loops - 1)) accounts
+    pub settled : Among EndsUnsettled accounts → ⊥
 
   -- What a server did: its loops ran, and what its sessions acknowledged is what the store counts from outside.
   pub record IsServed (bound loops : ℕ) (s : Served) (accounts : List (Account E C K)) : Type 0 where
     pub ran : HaveRun bound loops s.sessions s.acknowledged accounts
     pub outside : s.acknowledged ≡ s.tally.outside
     pub balanced : IsBalanced s.tally
-
--- A session of it was unsettled.
-abbrev pub EndsUnsettled : {E C K : Type 0} → Account E C K → Type 0
-EndsUnsettled a = HasUnsettled a.visits
 
 module _ {E C K : Type 0} (Ear : an_ear.Ghosts E C) (Attended : Attending C K) where
   -- The loops over these ears ended at this fault. Nothing says when there is no memory.

@@ -1,5 +1,5 @@
 // One accept loop: it serves one connection after another, each on a seat of its own, and leaves each to its ear.
-ghost use Rattle.std.specs.Prelude.{◌≡◌, ◌≢◌, ◌⊎◌, ◌≤◌, ◌*◌, ◌↔◌, IfOk, IfErr, IfSome, IsTrue, Err, true, false};
+ghost use Rattle.std.specs.Prelude.{◌≡◌, ◌≢◌, ◌⊎◌, ◌≤◌, ◌*◌, ◌↔◌, IfOk, IfErr, IfSome, IsSome, IsTrue, Some, Err, true, false};
 ghost use Rattle.sk_base.specs.Outside.{Rose};
 ghost use Rattle.sk_edge.specs.Doors.{IsNudged};
 ghost use Rattle.sk_serve.specs.Server.{Runs, ServedBy, end_of, stands};
@@ -120,6 +120,8 @@ fn cause_of(how: Ending) -> Option<LoopEnd>
     ensures cause { IfSome result (λ end. (end ≢ LoopEnd.Done) × (end ≢ LoopEnd.Failed) × (end ≢ LoopEnd.Spent)) }
     ensures shut { IfSome result (λ end. end ≡ LoopEnd.Shutdown → how.end ≡ SessionEnd.Shutdown) }
     ensures unsettled { IfSome result (λ end. end ≡ LoopEnd.Unsettled → how.unsettled ≡ true) }
+    ensures ends { how.unsettled ≡ true → result ≡ Some LoopEnd.Unsettled }
+    ensures ends_shut { how.end ≡ SessionEnd.Shutdown → IsSome result }
 {
     if how.unsettled {
         return Some(LoopEnd::Unsettled);

@@ -190,6 +190,7 @@ where
     ensures ran { LoopsRun W.holds_back B.wants_words E.Ear E.Conn.Source E.Conn.Sink K.Clock W.Settler.Settler
         shared.now.others loops.old loops.new }
     ensures settled { OnOk result (IsSettled shared.now.sessions loops.new) }
+    ensures whole { OnOk result (NoneAt LoopEnd.Failed loops.new × NoneAt LoopEnd.Unsettled loops.new) }
     ensures failed { result ≡ Err ServeFault.Failed → Any (λ it. it.end ≡ LoopEnd.Failed) loops.new }
     ensures spent { result ≡ Err ServeFault.Spent → Any (λ it. IsUsed it) loops.new }
     ensures unsettled { result ≡ Err ServeFault.Unsettled → Any (λ it. it.end ≡ LoopEnd.Unsettled) loops.new }
@@ -208,8 +209,8 @@ where
 }
 
 /// Serves over these ears, 1 to 64, a loop in a thread for each, and has them back at the end. Each loop serves one connection after another, on a new
-/// seat, until all end as [`serve`] says. Answers how many connections were served. The pass is a whole one, and is one again then, with what the replies
-/// of the sessions acknowledged.
+/// seat, until all end as [`serve`] says. Answers how many connections were served, where no session was unsettled. The pass is a whole one, and is one
+/// again then, with what the replies of the sessions acknowledged.
 pub fn serve_at<
     I: HubId + Send + Sync,
     R: Threads + Wait + Sync,

@@ -10,4 +10,5 @@ returns g c = record {
   settler' = c.held_session-held.result.settler;
   since = c.held_session-held.ensures.since;
   failed = λ failed. inl (grind (arith, nat_tests, c.requires, c.faults.ensures, failed));
+  passed = λ passed. grind (arith, nat_tests, c.requires, c.faults.ensures, passed);
 }

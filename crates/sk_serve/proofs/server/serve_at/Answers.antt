@@ -1,4 +1,4 @@
-use Rattle.std.proofs.Common.{◌≡◌, ◌∙◌, ◌/◌, ap, arith, length, refl, sym, Err, subst}
+use Rattle.std.proofs.Common.{◌≡◌, ◌∙◌, ◌/◌, ap, arith, length, sym, Err, subst}
 use Rattle.std.specs.Prelude.{All, map, reverse, vec_len}
 use Rattle.std.specs.List.{sum_by}
 use Rattle.std.proofs.lemmas.List.{take_at}
@@ -7,8 +7,8 @@ use Rattle.sk_desk.specs.Pass.{PassView}
 use Rattle.sk_serve.specs.Attending.{Attends}
 use Rattle.sk_serve.specs.Server.{HaveRun, IsFresh}
 use Rattle.sk_serve.proofs.Accounts.{all_run, became, by_fault}
-use Rattle.sk_serve.proofs.Counting.{all_back, some_each}
-use Rattle.sk_serve.proofs.Loops.{numbers_kept}
+use Rattle.sk_serve.proofs.Counting.{some_each}
+use Rattle.sk_serve.proofs.Parts.{parts_back}
 use Rattle.sk_serve.proofs.server.serve_at.Goals as goal
 
 pub loops_for-requires-clause-some : goal.loops_for-requires-clause-some
@@ -16,25 +16,13 @@ loops_for-requires-clause-some g c κs within = some_each 4294967294 c.len-count
 
 pub returns-in-Ok-ended-clause-parts : goal.returns-in-Ok-ended-clause-parts
 returns-in-Ok-ended-clause-parts g c =
-    let ran = c.run_on-ended.ensures.ran in
-    let long : length c.run_on-ended.new.loops ≡ vec_len c.loops_for.new.loops = sym (length_all_zip _ c.as_mut_slice.result.now c.run_on-ended.new.loops ran) ∙ c.as_mut_slice.ensures.len in
-    let back = take_at c.run_on-ended.new.loops _ (vec_len c.loops_for.new.loops) long in
-    let numbers = 4294967294 / c.len-count.result in
-    let fresh = subst (All (IsFresh numbers)) (sym c.as_mut_slice.ensures.value) c.loops_for.ensures.fresh in
-    let kept = numbers_kept g.E.Ear (Attends g.W.Settlers.holds_back g.B.Book.wants_words g.E.Conn.Source g.E.Conn.Sink g.K.Clock g.W.Settler.Settler) c.args.shared.now.others numbers c.as_mut_slice.result.now c.run_on-ended.new.loops ran fresh in
-    let parts = c.gather-served.ensures.parts numbers (subst (All (λ it. it.numbers ≡ numbers)) (sym back) kept) in
-    all_back _ _ _ _ numbers _ _ parts c.loops_for.ensures.parts c.loops_for.ensures.len refl
+    parts_back g.E.Ear (Attends g.W.Settlers.holds_back g.B.Book.wants_words g.E.Conn.Source g.E.Conn.Sink g.K.Clock g.W.Settler.Settler) c.args.shared.now.others _ _ _ _ _ _ _ _ _ _
+    c.run_on-ended.ensures.ran c.loops_for.ensures.fresh c.as_mut_slice.ensures.value c.as_mut_slice.ensures.len c.gather-served.ensures.parts c.loops_for.ensures.parts c.loops_for.ensures.len
 
 pub returns-in-Err-clause-parts : goal.returns-in-Err-clause-parts
 returns-in-Err-clause-parts g c =
-    let ran = c.run_on-ended.ensures.ran in
-    let long : length c.run_on-ended.new.loops ≡ vec_len c.loops_for.new.loops = sym (length_all_zip _ c.as_mut_slice.result.now c.run_on-ended.new.loops ran) ∙ c.as_mut_slice.ensures.len in
-    let back = take_at c.run_on-ended.new.loops _ (vec_len c.loops_for.new.loops) long in
-    let numbers = 4294967294 / c.len-count.result in
-    let fresh = subst (All (IsFresh numbers)) (sym c.as_mut_slice.ensures.value) c.loops_for.ensures.fresh in
-    let kept = numbers_kept g.E.Ear (Attends g.W.Settlers.holds_back g.B.Book.wants_words g.E.Conn.Source g.E.Conn.Sink g.K.Clock g.W.Settler.Settler) c.args.shared.now.others numbers c.as_mut_slice.result.now c.run_on-ended.new.loops ran fresh in
-    let parts = c.gather-served.ensures.parts numbers (subst (All (λ it. it.numbers ≡ numbers)) (sym back) kept) in
-    all_back _ _ _ _ numbers _ _ parts c.loops_for.ensures.parts c.loops_for.ensures.len refl
+    parts_back g.E.Ear (Attends g.W.Settlers.holds_back g.B.Book.wants_words g.E.Conn.Source g.E.Conn.Sink g.K.Clock g.W.Settler.Settler) c.args.shared.now.others _ _ _ _ _ _ _ _ _ _
+    c.run_on-ended.ensures.ran c.loops_for.ensures.fresh c.as_mut_slice.ensures.value c.as_mut_slice.ensures.len c.gather-served.ensures.parts c.loops_for.ensures.parts c.loops_for.ensures.len
 
 pub returns-in-Ok-ended-clause-ended : goal.returns-in-Ok-ended-clause-ended
 returns-in-Ok-ended-clause-ended g c =
@@ -50,7 +38,7 @@ returns-in-Ok-ended-clause-ended g c =
     (HaveRun g.E.Ear c.args.shared.now.sessions (vec_len c.args.ears.now) c.gather-served.result c.gather-served.new.pass.amount)
     (ap (map (λ l. l.ear)) c.as_mut_slice.ensures.value ∙ c.loops_for.ensures.ears) (c.gather-served.ensures.ears ∙ ap (λ loops. reverse (map (λ l. l.ear) loops)) back)
     (all_run g.E.Ear (Attends g.W.Settlers.holds_back g.B.Book.wants_words g.E.Conn.Source g.E.Conn.Sink g.K.Clock g.W.Settler.Settler) c.args.shared.now.others numbers old new ran fresh c.args.shared.now.sessions (vec_len c.args.ears.now) _ _
-    (omega (arith, c.requires.ears)) c.in-Ok-ended.ensures.settled
+    (omega (arith, c.requires.ears)) c.in-Ok-ended.ensures.settled c.in-Ok-ended.ensures.whole
     (c.gather-served.ensures.sessions ∙ ap (sum_by (λ l. l.served)) back)
     (omega (arith, c.gather-served.ensures.amount, none, ap (sum_by (λ l. l.pass.amount)) back)))
 

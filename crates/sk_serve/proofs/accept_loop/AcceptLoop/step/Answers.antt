@@ -3,7 +3,7 @@ use Rattle.std.specs.Prelude.{◌≡◌}
 use Rattle.sk_serve.specs.Attending.{Attends}
 use Rattle.sk_serve.specs.Server.{LoopView, Runs}
 use Rattle.sk_serve.specs.declared.accept_loop.LoopEnd.TheVariants as loop_end
-use Rattle.sk_serve.proofs.Loops.{ended_by, from_err, from_ok, left_visit, nudged_by, rose_from, rose_on, runs_none, runs_one, settled_by, shut_by, stands_same, unnudged, unsettled_by, unspent_by}
+use Rattle.sk_serve.proofs.Loops.{ended_by, ends_by, from_err, from_ok, left_visit, nudged_by, rose_from, rose_on, runs_none, runs_one, settled_by, shut_by, stands_same, unnudged, unsettled_by, unspent_by}
 use Rattle.sk_serve.proofs.Lists.{plus_none}
 use Rattle.sk_serve.proofs.accept_loop.AcceptLoop.step.Goals as goal
 
@@ -42,7 +42,7 @@ returns-then-is_stopped g c =
     (record { came = c.in-Ok.conn; gone = c.in-Ok.conn; session = None })
     (left_visit g.E.Ear (Attends g.W.Settlers.holds_back g.B.Book.wants_words g.E.Conn.Source g.E.Conn.Sink g.K.Clock g.W.Settler.Settler) in_.ear c.accept.new.self c.leave.new.self in_.clock in_.clock
     (record { came = c.in-Ok.conn; gone = c.in-Ok.conn; session = None }) _ refl accepted.heard gone.beside.0 accepted.beside.0 gone.kept (refl, refl))
-    (plus_none in_.served) (plus_none in_.pass.amount) (λ is. refl) (λ is. absurd (cc (sym waits ∙ is))) (λ shut. inl shut))
+    (plus_none in_.served) (plus_none in_.pass.amount) (λ is. refl) (λ is. absurd (cc (sym waits ∙ is))) (λ some. absurd some) (λ some. absurd some) (λ shut. inl shut))
 
 -- one more was served
 pub returns-in_default-cause_of : goal.returns-in_default-cause_of
@@ -62,7 +62,8 @@ returns-in_default-cause_of g c =
     (record { came = c.in-Ok.conn; gone = c.serve_one-conn.result.0; session = Some (record { acknowledged = one.1.0; how = c.in-Ok-served.how }) })
     (left_visit g.E.Ear (Attends g.W.Settlers.holds_back g.B.Book.wants_words g.E.Conn.Source g.E.Conn.Sink g.K.Clock g.W.Settler.Settler) in_.ear c.accept.new.self c.leave-2.new.self in_.clock c.serve_one-conn.new.clock _ _ refl accepted.heard gone.beside.0 accepted.beside.0
     gone.kept one.1.1)
-    refl one.1.2 (λ is. absurd (cc (sym waits ∙ is))) (λ is. absurd (cc (sym waits ∙ is))) (λ shut. inl shut))
+    refl one.1.2 (λ is. absurd (cc (sym waits ∙ is))) (λ is. absurd (cc (sym waits ∙ is)))
+    (λ some. absurd (cc (c.in_default-cause_of.ensures.ends some))) (λ some. absurd (cc (c.in_default-cause_of.ensures.ends_shut some))) (λ shut. inl shut))
 
 -- one more was served, behind which the loop ends
 pub returns-in-Some : goal.returns-in-Some
@@ -87,6 +88,7 @@ returns-in-Some g c =
     accepted.beside.0 gone.kept one.1.1)
     stopped.counts.0 (ap (λ p. p.amount) stopped.counts.1 ∙ one.1.2) (λ is. absurd (unspent_by c.in-Some.end new.end cause.0 stopped.ended cause.2 is))
     (λ is. c.in-Some.ensures.unsettled (unsettled_by c.in-Some.end new.end cause.0 stopped.ended is))
+    (λ some. ends_by c.in-Some.end new.end cause.0 stopped.ended (cc (c.in-Some.ensures.ends some))) (λ some. over)
     (λ shut. shut_by in_.shut new.end c.in-Some.end _ over (c.has_shut-self-inside.ensures (sym stopped.same.1 ∙ shut)) c.in-Some.ensures.shut))
 
 -- there was no seat for it
@@ -111,4 +113,5 @@ returns-in-Err g c =
     (left_visit g.E.Ear (Attends g.W.Settlers.holds_back g.B.Book.wants_words g.E.Conn.Source g.E.Conn.Sink g.K.Clock g.W.Settler.Settler) in_.ear c.accept.new.self c.leave-2.new.self in_.clock c.serve_one-conn.new.clock _ _ stopped.stands accepted.heard gone.beside.0
     accepted.beside.0 gone.kept (same.2, same.1))
     (stopped.counts.0 ∙ plus_none in_.served) (ap (λ p. p.amount) stopped.counts.1 ∙ ap (λ p. p.amount) same.0 ∙ plus_none in_.pass.amount) (λ is. refl)
-    (λ is. absurd (settled_by c.end_at.result new.end c.end_at.ensures.cause stopped.ended c.end_at.ensures.settled is)) (λ shut. inl (sym stopped.same.1 ∙ shut)))
+    (λ is. absurd (settled_by c.end_at.result new.end c.end_at.ensures.cause stopped.ended c.end_at.ensures.settled is)) (λ some. absurd some) (λ some. absurd some)
+    (λ shut. inl (sym stopped.same.1 ∙ shut)))
