@@ -12,6 +12,8 @@ use Rattle.sk_cmd.specs.declared.command.Command.{Command}
 use Rattle.sk_cmd.specs.declared.command.Command.TheVariants as command
 use Rattle.sk_cmd.specs.declared.command.PlainCommand.{PlainCommand}
 use Rattle.sk_cmd.specs.declared.command.PlainCommand.TheVariants as plain
+use Rattle.sk_cmd.specs.declared.command.ScriptCommand.{ScriptCommand}
+use Rattle.sk_cmd.specs.declared.command.ScriptCommand.TheVariants as script
 use Rattle.sk_model.specs.Change.{moment_after, perform}
 use Rattle.sk_model.specs.Event.{Ask, Cut, Event, Happens, Reaches, Step, after, world_after}
 use Rattle.sk_model.specs.Outcome.{Outcome}
@@ -25,7 +27,8 @@ use Rattle.sk_model.proofs.Theorems.Runs.{leads_on}
 use Rattle.sk_desk.specs.declared.stamp.Effect.{Effect}
 use Rattle.sk_desk.specs.declared.stamp.Effect.TheVariants as effect
 use Rattle.sk_desk.specs.declared.stamp.Stamp.{Stamp}
-use Rattle.sk_desk.specs.Writing.{Drafts, IsDraft, IsIdle, IsKeptUp, IsWritten, Settles, Spelling, SpellsAll, Writing, WritesCut, WroteSome, WroteUpTo, nothing_written, effect_of, effect_of_plain, idles_at, is_null, moves_or_changes}
+use Rattle.sk_desk.specs.Writing.{Drafts, IsDraft, IsIdle, IsKeptUp, IsWritten, Settles, Spelling, SpellsAll, Writing, WritesCut, WroteSome, WroteUpTo, nothing_written, effect_of, effect_of_plain, effect_of_script, idles_at, is_null, moves_or_changes, reports_zero}
+use Rattle.sk_desk.proofs.Idles.{zero_dues_idle, zero_rescues_idle}
 
 -- ## A command that changes nothing
 
@@ -43,19 +46,40 @@ either : (a b : Bool) → (a || b) ≡ true → (a ≡ true) ⊎ (b ≡ true)
 either true b is = inl refl
 either false b is = inr is
 
+neither : (a b : Bool) → (a || b) ≡ false → a ≡ false
+neither true b is = absurd (cc is)
+neither false b is = refl
+
 module _ (w : World) (seat now : ℕ) where
-  -- A command that is answered with an error, and LMOVE that is answered null, leave the world but for time.
+  -- A command that is answered with an error leaves the world but for time.
+  idle_error : (c : Command) → is_error (outcome w seat now c).reply ≡ true → Idles w (outcome w seat now c)
+  idle_error c error = inr (now, error_still w seat now c error)
+
+  -- So does one whose reply tells in another way that nothing changed.
+  idle_or : (c : Command) (told : Bool) → (told ≡ true → Idles w (outcome w seat now c)) → (is_error (outcome w seat now c).reply || told) ≡ true → Idles w (outcome w seat now c)
+  idle_or c told tells is = by_reply (either (is_error (outcome w seat now c).reply) told is) where
+    by_reply : (is_error (outcome w seat now c).reply ≡ true) ⊎ (told ≡ true) → Idles w (outcome w seat now c)
+    by_reply (inl error) = idle_error c error
+    by_reply (inr told_is) = tells told_is
+
   idle_plain : (c : PlainCommand) → idles_at (effect_of_plain c) (outcome w seat now (command.Plain c)).reply ≡ true → Idles w (outcome w seat now (command.Plain c))
-  idle_plain (plain.Lmove source destination from to) is = by_reply (either _ _ is) where
-    by_reply : (is_error (outcome w seat now (command.Plain (plain.Lmove source destination from to))).reply ≡ true) ⊎ (is_null (outcome w seat now (command.Plain (plain.Lmove source destination from to))).reply ≡ true)
-        → Idles w (outcome w seat now (command.Plain (plain.Lmove source destination from to)))
-    by_reply (inl error) = inr (now, error_still w seat now (command.Plain (plain.Lmove source destination from to)) error)
-    by_reply (inr null) = null_moves_idle w seat now source destination from to (null_is _ null)
-  idle_plain other is = inr (now, error_still w seat now (command.Plain other) is)
+  idle_plain (plain.Lmove source destination from to) is =
+      let answer : Reply = (outcome w seat now (command.Plain (plain.Lmove source destination from to))).reply in
+      idle_or (command.Plain (plain.Lmove source destination from to)) (is_null answer) (λ null. null_moves_idle w seat now source destination from to (null_is answer null)) is
+  idle_plain other is = idle_error (command.Plain other) is
+
+  idle_script : (c : ScriptCommand) → idles_at (effect_of_script c) (outcome w seat now (command.Script c)).reply ≡ true → Idles w (outcome w seat now (command.Script c))
+  idle_script (script.Due set limit) is =
+      let answer : Reply = (outcome w seat now (command.Script (script.Due set limit))).reply in
+      idle_or (command.Script (script.Due set limit)) (reports_zero answer) (zero_dues_idle w seat now set limit) is
+  idle_script script.Rescue is =
+      let answer : Reply = (outcome w seat now (command.Script script.Rescue)).reply in
+      idle_or (command.Script script.Rescue) (reports_zero answer) (zero_rescues_idle w seat now) is
+  idle_script other is = idle_error (command.Script other) is
 
   idle_loud : (c : Command) → idles_at (moves_or_changes c) (outcome w seat now c).reply ≡ true → Idles w (outcome w seat now c)
   idle_loud (command.Plain c) is = idle_plain c is
-  idle_loud (command.Script c) is = inr (now, error_still w seat now (command.Script c) is)
+  idle_loud (command.Script c) is = idle_script c is
 
   idle_by : (c : Command) (quiet : Bool) → is_quiet c ≡ quiet → idles_at (cond quiet effect.Never (moves_or_changes c)) (outcome w seat now c).reply ≡ true → Idles w (outcome w seat now c)
   idle_by c true quiet is = inr (now, quiet_still w seat now c quiet)
@@ -111,10 +135,8 @@ module _ (spells : Spelling) (start w v : World) (bodies : List Bytes) (step : S
 loud : (how : Effect) (answer : Reply) (spells : Spelling) (event : Event) (draft : List Bytes) → idles_at how answer ≡ false → IsDraft spells how event draft
     → (is_error answer ≡ false) × ((body : Bytes) × spells event body × (draft ≡ body ∷ []))
 loud effect.Never answer spells event draft is drafted = absurd (cc is)
-loud effect.UnlessNull answer spells event draft is drafted = (neither (is_error answer) (is_null answer) is, drafted) where
-  neither : (a b : Bool) → (a || b) ≡ false → a ≡ false
-  neither true b is = absurd (cc is)
-  neither false b is = refl
+loud effect.UnlessNull answer spells event draft is drafted = (neither (is_error answer) (is_null answer) is, drafted)
+loud effect.UnlessZero answer spells event draft is drafted = (neither (is_error answer) (reports_zero answer) is, drafted)
 loud effect.Always answer spells event draft is drafted = (is, drafted)
 
 module _ (spells : Spelling) (start w v : World) (seat now : ℕ) (words : Words) (c : Command) (o : Outcome) (happens : Happens w (Ask seat now words) o) (may : MayComeTo w seat now c o) (new_is : v ≡ perform w o.changes) where

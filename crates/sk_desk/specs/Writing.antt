@@ -1,7 +1,8 @@
 -- What a book writes of the commands and cuts that it hears of: a body for each that may have changed the store.
-use Rattle.std.specs.Prelude.{◌≡◌, ◌⊎◌, ◌||◌, ℕ, List, [], ◌∷◌, ◌++◌, Option, Some, None, IfSome, Bool, true, false, cond}
+use Rattle.std.specs.Prelude.{◌≡◌, ◌⊎◌, ◌||◌, ◌&&◌, ℕ, pos, List, [], ◌∷◌, ◌++◌, Option, Some, None, IfSome, Bool, true, false, cond, bytes_eq, codes}
+use Rattle.std.specs.Ordering.{int_eq}
 use Rattle.sk_resp.specs.Errors.{is_error}
-use Rattle.sk_resp.specs.Spelling.{Bytes}
+use Rattle.sk_resp.specs.Spelling.{Bytes, line}
 use Rattle.sk_resp.specs.declared.reply.Reply.{Reply}
 use Rattle.sk_resp.specs.declared.reply.Reply.TheVariants as reply
 use Rattle.sk_cmd.specs.ReadOnly.{is_quiet}
@@ -9,6 +10,8 @@ use Rattle.sk_cmd.specs.declared.command.Command.{Command}
 use Rattle.sk_cmd.specs.declared.command.Command.TheVariants as command
 use Rattle.sk_cmd.specs.declared.command.PlainCommand.{PlainCommand}
 use Rattle.sk_cmd.specs.declared.command.PlainCommand.TheVariants as plain
+use Rattle.sk_cmd.specs.declared.command.ScriptCommand.{ScriptCommand}
+use Rattle.sk_cmd.specs.declared.command.ScriptCommand.TheVariants as script
 use Rattle.sk_model.specs.Event.{Event, Ask, Cut, Reaches, Step}
 use Rattle.sk_model.specs.Reading.{Words}
 use Rattle.sk_model.specs.Replay.{Entry, Written}
@@ -31,14 +34,20 @@ IsIdle writing = IfSome writing (λ w. w.draft ≡ [])
 
 -- ## What a command may do
 
+-- LMOVE moves nothing where it is answered null.
 abbrev pub effect_of_plain : PlainCommand → Effect
 effect_of_plain (plain.Lmove source destination from to) = effect.UnlessNull
 effect_of_plain other = effect.Always
 
--- LMOVE moves nothing where it is answered null
+-- SK.DUE and SK.RESCUE do nothing where they report no row.
+abbrev pub effect_of_script : ScriptCommand → Effect
+effect_of_script (script.Due set limit) = effect.UnlessZero
+effect_of_script script.Rescue = effect.UnlessZero
+effect_of_script other = effect.Always
+
 abbrev pub moves_or_changes : Command → Effect
 moves_or_changes (command.Plain c) = effect_of_plain c
-moves_or_changes (command.Script c) = effect.Always
+moves_or_changes (command.Script c) = effect_of_script c
 
 abbrev pub effect_of : Command → Effect
 effect_of c = cond (is_quiet c) effect.Never (moves_or_changes c)
@@ -47,10 +56,29 @@ abbrev pub is_null : Reply → Bool
 is_null reply.Null = true
 is_null other = false
 
+abbrev pub is_zero : Reply → Bool
+is_zero (reply.Int n) = int_eq n (pos 0)
+is_zero other = false
+
+-- the text of the integer 0
+abbrev pub spells_zero : Bytes → Bool
+spells_zero text = bytes_eq text (line (codes ":0"))
+
+-- The first two elements of a report, how many rows were moved and how many were buried, are 0. Elements are seen as their texts.
+abbrev pub counts_zero : List Bytes → Bool
+counts_zero (moved ∷ buried ∷ more) = spells_zero moved && spells_zero buried
+counts_zero few = false
+
+-- a report of no row
+abbrev pub reports_zero : Reply → Bool
+reports_zero (reply.Array elements) = counts_zero elements
+reports_zero other = false
+
 -- With this reply the store is as it was, but for time.
 abbrev pub idles_at : Effect → Reply → Bool
 idles_at effect.Never answer = true
 idles_at effect.UnlessNull answer = is_error answer || is_null answer
+idles_at effect.UnlessZero answer = is_error answer || reports_zero answer
 idles_at effect.Always answer = is_error answer
 
 -- ## The calls of a book
@@ -63,6 +91,7 @@ Spelling = Event → Bytes → Type 0
 abbrev pub IsDraft : Spelling → Effect → Event → List Bytes → Type 0
 IsDraft spells effect.Never event draft = draft ≡ []
 IsDraft spells effect.UnlessNull event draft = (body : Bytes) × spells event body × (draft ≡ body ∷ [])
+IsDraft spells effect.UnlessZero event draft = (body : Bytes) × spells event body × (draft ≡ body ∷ [])
 IsDraft spells effect.Always event draft = (body : Bytes) × spells event body × (draft ≡ body ∷ [])
 
 -- The draft of the command waits.
