@@ -1,5 +1,5 @@
 -- Runs of `serve --log`.
-use Rattle.std.proofs.Common.{◌≡◌, ◌≤◌, ℕ, List, Option, Some, None, Result, Ok, Err, IfSome, inl, inr, refl, arith, sym, subst}
+use Rattle.std.proofs.Common.{◌≡◌, ◌≤◌, ℕ, List, Option, Some, None, Result, Ok, Err, inl, inr, refl, arith, sym, subst}
 use Rattle.std.specs.Option.{IsSomeAnd}
 use Rattle.std.specs.Result.{IsErrAnd}
 use Rattle.std.specs.declared.string.String.{String}
@@ -25,7 +25,7 @@ use Rattle.sk_resp.specs.Spelling.{Bytes}
 use Rattle.sk_serve.specs.declared.serve_end.Served.{Served}
 use Rattle.sk_app.specs.LogOutcomes.{fault_status_of}
 use Rattle.sk_app.specs.LogServeOutcomes.{IsOutcomeOf, LogServeOutcome, Tells, by_line, kept_status_of}
-use Rattle.sk_app.specs.LogServing.{DoLogServe, FailsToKeep, FillsFile, IsNoLine, IsUnreadable, IsUnready, LendsFile, LogServeCauses, LogServeRun, OpensFile, OverFile, ServesFile, StaysUnready, StopsHearing}
+use Rattle.sk_app.specs.LogServing.{DoLogServe, FailsToKeep, FileFails, FillsFile, IsNoLine, IsUnreadable, IsUnready, LendsFile, LogServeCauses, LogServeRun, OpensFile, OverFile, ServesFile, StaysUnready, StopsHearing}
 use Rattle.sk_app.specs.LogServing as serving
 use Rattle.sk_app.specs.declared.unserved.Unserved.TheVariants as unserved
 use Rattle.sk_app.proofs.LogServeStatuses.{outcome_status, own_but, status_one, told_own}
@@ -74,15 +74,15 @@ module _ {N C E K D : Type 0} (Door : a_door.Ghosts N C E) (Ear : an_ear.Ghosts 
     unready disk why (Some disk') lends is = (disk, disk', lends, is)
     unready disk why None lends is = absurd is
 
-    unready_rose : (disk : D) (back : Option D) → IsSomeAnd back (λ disk'. IsUnready Disk disk disk' fault.Disk) →
-        IfSome back (λ disk'. Rose (Disk.disk_faults disk) (Disk.disk_faults disk'))
-    unready_rose disk (Some disk') is = is.failed refl
-    unready_rose disk None is = absurd is
+    unready_fails : (disk : D) (back : Option D) → LendsFile Shelf shelf shelf' disk back → IsSomeAnd back (λ disk'. IsUnready Disk disk disk' fault.Disk) →
+        FileFails Shelf Disk shelf shelf'
+    unready_fails disk (Some disk') lends is = (disk, disk', lends, is.failed refl)
+    unready_fails disk None lends is = absurd is
 
-    served_rose : (disk begun : D) (back : Option D) → Disk.disk_faults disk ≤ Disk.disk_faults begun →
-        IfSome back (λ disk'. Rose (Disk.disk_faults begun) (Disk.disk_faults disk')) → IfSome back (λ disk'. Rose (Disk.disk_faults disk) (Disk.disk_faults disk'))
-    served_rose disk begun (Some disk') later rose = rose_from _ _ _ later rose
-    served_rose disk begun None later rose = rose
+    served_fails : (disk begun : D) (back : Option D) → LendsFile Shelf shelf shelf' disk back → Disk.disk_faults disk ≤ Disk.disk_faults begun →
+        IsSomeAnd back (λ disk'. Rose (Disk.disk_faults begun) (Disk.disk_faults disk')) → FileFails Shelf Disk shelf shelf'
+    served_fails disk begun (Some disk') lends later rose = (disk, disk', lends, rose_from _ _ _ later rose)
+    served_fails disk begun None lends later rose = absurd rose
 
     -- ## Words that are no line
 
@@ -96,7 +96,7 @@ module _ {N C E K D : Type 0} (Door : a_door.Ghosts N C E) (Ear : an_ear.Ghosts 
 
     log_failed : (asked : LogServeLine) (f : LogFault) → Opens asked (Err (unserved.Log f)) →
         fault_status_of f ≡ 10 → FailsToKeep Door Ear Source Sink Clock Disk Shelf net shelf net' shelf'
-    log_failed asked fault.Disk opens e = inr (inl (opens.disk, opens.back, opens.lends, unready_rose opens.disk opens.back opens.over.1))
+    log_failed asked fault.Disk opens e = inr (inl (unready_fails opens.disk opens.back opens.lends opens.over.1))
     log_failed asked fault.NotALog opens e = absurd (omega (arith, e))
     log_failed asked (fault.Damaged at) opens e = absurd (omega (arith, e))
     log_failed asked fault.Full opens e = absurd (omega (arith, e))
@@ -104,12 +104,7 @@ module _ {N C E K D : Type 0} (Door : a_door.Ghosts N C E) (Ear : an_ear.Ghosts 
 
     kept_failed : (asked : LogServeLine) (f : KeptFault) → Opens asked (Err (unserved.Kept f)) →
         kept_status_of f ≡ 10 → FailsToKeep Door Ear Source Sink Clock Disk Shelf net shelf net' shelf'
-    kept_failed asked kept.Disk opens e = inr (inl (
-      opens.disk,
-      opens.back,
-      opens.lends,
-      served_rose opens.disk opens.over.begun opens.back opens.over.later opens.over.ended,
-    ))
+    kept_failed asked kept.Disk opens e = inr (inl (served_fails opens.disk opens.over.begun opens.back opens.lends opens.over.later opens.over.ended))
     kept_failed asked kept.Astray opens e = inr (inr (asked, opens))
     kept_failed asked kept.Full opens e = absurd (omega (arith, e))
     kept_failed asked kept.Failed opens e = absurd (omega (arith, e))

@@ -75,10 +75,9 @@ module _ {H D : Type 0} (Shelf : a_shelf.Ghosts H D) (Disk : a_disk.Ghosts D) wh
   abbrev pub StaysUnready : H → H → LogFault → Type 0
   StaysUnready shelf shelf' why = (disk disk' : D) × LendsFile Shelf shelf shelf' disk (Some disk') × IsUnready Disk disk disk' why
 
-  -- The shelf's file failed: its count of faults rose, if it was given back.
+  -- The shelf's file failed: its count of faults rose, and it was given back.
   abbrev pub FileFails : H → H → Type 0
-  FileFails shelf shelf' = (disk : D) × (back : Option D) × LendsFile Shelf shelf shelf' disk back
-      × IfSome back (λ disk'. Rose (Disk.disk_faults disk) (Disk.disk_faults disk'))
+  FileFails shelf shelf' = (disk disk' : D) × LendsFile Shelf shelf shelf' disk (Some disk') × Rose (Disk.disk_faults disk) (Disk.disk_faults disk')
 
 -- ## The server
 

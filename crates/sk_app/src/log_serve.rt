@@ -21,6 +21,7 @@ use sk_serve::{OpenGate, Served};
 use std::alloc::Global;
 use std::sync::Wait;
 use std::thread::Threads;
+use std::time;
 
 // What the server's end comes to.
 fn outcome_at(alloc: Global, end: Result<Served, KeptFault>) -> Result<Word, Unserved>
@@ -33,7 +34,7 @@ fn outcome_at(alloc: Global, end: Result<Served, KeptFault>) -> Result<Word, Uns
 }
 
 // Serves from the store that the file keeps, and gives the file back.
-fn serve_over<R: Threads + Wait + Sync, D: Disk + Drop + Send, N: Door, C: Clock + Send>(
+fn serve_over<R: Threads + Wait + Sync + time::Clock, D: Disk + Drop + Send, N: Door, C: Clock + Send>(
     rt: &R,
     alloc: Global,
     line: &LogServeLine,
@@ -51,7 +52,12 @@ where
         Ok(store) => store,
         Err(fault) => return (Err(Unserved::Log(fault)), Some(disk)),
     };
-    let store = KeptStore { core, log, disk };
+    let store = KeptStore {
+        core,
+        log,
+        disk,
+        sync_every: line.sync_every,
+    };
     let loops = line.loops as usize;
     let sessions = u64::from(line.sessions);
     let kept = serve_kept(
@@ -72,7 +78,7 @@ fn leave<H: Shelf>(shelf: &mut H, back: Option<H::Disk>)
 }
 
 // What `serve --log` comes to.
-fn outcome_by<R: Threads + Wait + Sync, N: Door, H: Shelf, C: Clock + Send>(
+fn outcome_by<R: Threads + Wait + Sync + time::Clock, N: Door, H: Shelf, C: Clock + Send>(
     rt: &R,
     alloc: Global,
     words: &[String],
@@ -98,7 +104,7 @@ where
 /// program's store. The words begin with `serve`. Answers 0 with the summary, 4 where the sink failed, 5 where there was no memory, 2 for words that are
 /// no line of it, 6 where the door or an ear failed or seats were used up, 10 where the file can't be opened, read or written or nothing more could be
 /// logged, 11 where it is no log or is damaged, which is told, and 12 where it is full.
-pub fn run_log_serve<R: Threads + Wait + Sync, K: Sink, N: Door, H: Shelf, C: Clock + Send>(
+pub fn run_log_serve<R: Threads + Wait + Sync + time::Clock, K: Sink, N: Door, H: Shelf, C: Clock + Send>(
     rt: &R,
     alloc: Global,
     words: &[String],

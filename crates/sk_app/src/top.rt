@@ -30,6 +30,7 @@ use sk_worker::Registry;
 use std::alloc::Global;
 use std::sync::Wait;
 use std::thread::Threads;
+use std::time;
 
 /// Does what the words of a command line ask for, which are those behind the program's name, and answers the exit status. The first word names the
 /// program:
@@ -52,7 +53,7 @@ use std::thread::Threads;
 /// tell differs from its journal. 9: 2^40 bytes were read. Of `pipe --log` and `serve --log` alone, 10: the shelf gave no file, the file failed, or
 /// nothing more could be logged. 11: the file is no log, or is damaged, which is told. 12: the file is full.
 pub fn run<
-    R: Threads + Wait + Sync,
+    R: Threads + Wait + Sync + time::Clock,
     S: Source,
     K: Sink,
     N: Door,

@@ -12,6 +12,9 @@ pub const LOOPS: &str = "4";
 /// How many connections a loop of `serve` serves before it ends: 0, as many as come.
 pub const SESSIONS: &str = "0";
 
+/// When a server stores what was logged: before each reply, as Redis's `appendfsync always`, so that nothing that was answered is lost.
+pub const SYNC: &str = "always";
+
 /// The queue of a job, and the one queue of a worker, as Sidekiq's.
 pub const QUEUE: &str = "default";
 

@@ -86,7 +86,10 @@ pub const SESSIONS_HELP: &str =
     "How many connections each loop serves before it ends, 1 to 4294967295; 0: all that come";
 
 pub const SERVE_LOG_HELP: &str =
-    "The file that keeps the store: what was answered outlives a crash; left out, all is kept in memory";
+    "The file that keeps the store, so that it outlives a crash; left out, all is kept in memory";
+
+pub const SYNC_HELP: &str =
+    "When the file of --log gets what was done: always (before each reply), or every so many milliseconds, 1 to 3600000";
 
 pub const IDENT_HELP: &str = "The process, by a name that never comes back; left out, a new one";
 

@@ -33,7 +33,7 @@ pub use limit_line::{
     LONGEST_LIMITER, LimitKind, LimitLine, MOST_LIMITED, MOST_LIMITED_MILLIS, read_limit,
 };
 pub use log_line::{LogLine, read_log};
-pub use log_serve_line::{LogServeLine, read_log_serve};
+pub use log_serve_line::{LogServeLine, MOST_SYNC_EVERY, read_log_serve};
 pub use push_line::{PushLine, read_push};
 pub use serve_line::{ServeLine, read_serve};
 pub use soak_line::{MOST_SOAKED, SoakLine, read_soak};

@@ -1,16 +1,18 @@
 // Which value of a command line that clap takes breaks its rule, for standard error.
 use crate::LineFault;
 use crate::cron_words::loop_of;
+use crate::defaults::SYNC;
 use crate::drill_line::{MOST_CRASHES, MOST_DRILLED};
 use crate::help_lines::{
     ARGS_HELP, AT_HELP, CLASS_HELP, CRASHES_HELP, CRON_HELP, DRILL_JOBS_HELP, EVERY_HELP,
     IDENT_HELP, ITEMS_HELP, JID_HELP, JOBS_HELP, KIND_HELP, LIMITER_HELP, LOG_HELP, LOOPS_HELP,
     MILLIS_HELP, MOST_HELP, MOST_ITEMS_HELP, OFFSET_HELP, PATIENCE_HELP, PORT_HELP, PREFETCH_HELP,
     QUEUE_HELP, QUEUES_HELP, RETRY_FOR_HELP, RETRY_HELP, SEED_HELP, SERVE_LOG_HELP,
-    SERVE_PORT_HELP, SESSIONS_HELP, THREADS_HELP, TURNS_HELP, UNIQUE_HELP, WORKERS_HELP,
+    SERVE_PORT_HELP, SESSIONS_HELP, SYNC_HELP, THREADS_HELP, TURNS_HELP, UNIQUE_HELP, WORKERS_HELP,
 };
 use crate::iterate_line::{MOST_EVERY, MOST_ITERATED};
 use crate::limit_line::{LONGEST_LIMITER, MOST_LIMITED, MOST_LIMITED_MILLIS, kind_of};
+use crate::log_serve_line::sync_of;
 use crate::queues::order_of;
 use crate::soak_line::MOST_SOAKED;
 use crate::subcommand::Subcommand;
@@ -89,12 +91,24 @@ fn log_breach<'a>(alloc: Global, matches: &ArgMatches<'a>) -> Option<Breach<'a>>
     }
 }
 
+// The same of when that file is written. It can't be said without a file.
+fn sync_breach<'a>(matches: &ArgMatches<'a>) -> Option<Breach<'a>> {
+    let found = text_in(matches, "sync")?;
+    let sync = if text_in(matches, "log").is_some() || found == SYNC {
+        sync_of(matches)
+    } else {
+        Err(LineFault::Refused)
+    };
+    broken(matches, sync, "--sync", SYNC_HELP)
+}
+
 fn of_serve<'a>(alloc: Global, matches: &ArgMatches<'a>) -> Option<Breach<'a>> {
     let most = MOST_LOOPS_SERVED as u32;
     port_breach(matches, SERVE_PORT_HELP)
         .or(number_breach(matches, "--loops", LOOPS_HELP, 1, most))
         .or(number_breach(matches, "--sessions", SESSIONS_HELP, 0, u32::MAX))
         .or(log_breach(alloc, matches))
+        .or(sync_breach(matches))
 }
 
 // The first periodic job that is none.

@@ -10,10 +10,11 @@ use std::alloc::Global;
 use std::io;
 use std::sync::Wait;
 use std::thread::Threads;
+use std::time::Clock;
 pub use top::run_top;
 
 // What comes of the call.
-fn play<R: Threads + Wait + Sync>(rt: &R, alloc: Global, given: &Given<'_>) -> io::Result<Output> {
+fn play<R: Threads + Wait + Sync + Clock>(rt: &R, alloc: Global, given: &Given<'_>) -> io::Result<Output> {
     match given.call {
         "run" | "work" | "iterjob" | "lane" | "drill" => with_teams(rt, alloc, given),
         _ => call(rt, alloc, given),
@@ -76,7 +77,7 @@ impl<'a> Row<'a> {
 }
 
 // What is wrong with what comes of a row.
-fn wrong_with<R: Threads + Wait + Sync>(
+fn wrong_with<R: Threads + Wait + Sync + Clock>(
     rt: &R,
     alloc: Global,
     row: &Row<'_>,
@@ -87,7 +88,7 @@ fn wrong_with<R: Threads + Wait + Sync>(
 }
 
 /// Runs the rows. Empty lines stand between them, and between them and remarks, which begin with `#`.
-pub fn run<R: Threads + Wait + Sync + Print>(
+pub fn run<R: Threads + Wait + Sync + Clock + Print>(
     rt: &R,
     alloc: Global,
     rows: &str,
@@ -116,7 +117,7 @@ fn call_of<'a>(name: &str, line: &'a str) -> io::Result<Given<'a>> {
 
 /// What comes of rows of lanes, of drills or of transcripts; of lanes and drills behind each row itself. Lines that begin with `#` say what the next
 /// row shows.
-pub fn told<R: Threads + Wait + Sync>(
+pub fn told<R: Threads + Wait + Sync + Clock>(
     rt: &R,
     alloc: Global,
     name: &str,

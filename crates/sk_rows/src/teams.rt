@@ -17,6 +17,7 @@ use std::io;
 use std::sync::atomic::AtomicU64;
 use std::sync::{Arc, Wait};
 use std::thread::Threads;
+use std::time::Clock;
 
 /// A team: after how many seconds its jobs are tried again, and jobs of no class that it has; 0: by the plain rule.
 #[derive(Clone, Copy)]
@@ -165,7 +166,7 @@ fn delay(seconds: u64, count: u32) -> u64
 }
 
 // What comes of the call with these teams and a plain rule for each.
-fn play_with<R: Threads + Wait + Sync>(
+fn play_with<R: Threads + Wait + Sync + Clock>(
     rt: &R,
     alloc: Global,
     given: &Given<'_>,
@@ -229,7 +230,7 @@ fn add(
 }
 
 // What comes of the call with this crew.
-fn play_crew<R: Threads + Wait + Sync>(
+fn play_crew<R: Threads + Wait + Sync + Clock>(
     rt: &R,
     alloc: Global,
     given: &Given<'_>,
@@ -264,7 +265,7 @@ fn play_crew<R: Threads + Wait + Sync>(
 }
 
 /// What comes of a call with teams.
-pub fn with_teams<R: Threads + Wait + Sync>(
+pub fn with_teams<R: Threads + Wait + Sync + Clock>(
     rt: &R,
     alloc: Global,
     given: &Given<'_>,

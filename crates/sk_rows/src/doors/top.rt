@@ -18,6 +18,7 @@ use std::alloc::{AllocError, Global};
 use std::io;
 use std::sync::Wait;
 use std::thread::Threads;
+use std::time::Clock;
 
 // Stops the jobs of the queue `held`.
 fn hold(draft: JobDraft) -> Option<JobDraft>
@@ -69,7 +70,7 @@ impl Scene {
     }
 
     // The status of the top call. What it promises stands in no proof above this one.
-    fn status<R: Threads + Wait + Sync>(
+    fn status<R: Threads + Wait + Sync + Clock>(
         &mut self,
         rt: &R,
         alloc: Global,
@@ -122,7 +123,7 @@ fn name(alloc: Global, text: &str) -> Result<Text, AllocError> {
 }
 
 // What comes of the top call with a chain of `cap` and `hold`.
-fn run_chained<R: Threads + Wait + Sync>(
+fn run_chained<R: Threads + Wait + Sync + Clock>(
     rt: &R,
     alloc: Global,
     mut scene: Scene,
@@ -154,7 +155,7 @@ fn run_chained<R: Threads + Wait + Sync>(
 }
 
 /// What comes of the top call, with these teams and rules, and a chain of `cap` and `hold` where the row has one.
-pub fn run_top<R: Threads + Wait + Sync>(
+pub fn run_top<R: Threads + Wait + Sync + Clock>(
     rt: &R,
     alloc: Global,
     given: &Given<'_>,
