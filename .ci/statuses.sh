@@ -69,6 +69,10 @@ expect 'a server over a file that is no log' 11 $?
 expect 'a server over a file that is damaged' 11 $?
 "$program" serve --log </dev/null 2>/dev/null
 expect 'a server with no file behind --log' 2 $?
+"$program" serve --log "$kept/log" --sync </dev/null 2>/dev/null
+expect 'a server with no time behind --sync' 2 $?
+"$program" serve --sync always </dev/null 2>/dev/null
+expect 'a server that has no file to sync' 2 $?
 mkfifo "$kept/commands"
 "$program" pipe --log "$kept/log" <"$kept/commands" >"$kept/replies" 2>/dev/null &
 exec 3>"$kept/commands"
@@ -102,6 +106,11 @@ range --port 70000 serve --port 70000
 range --loops 65 serve --loops 65
 range --sessions -1 serve --sessions=-1
 range --log '' serve --log ''
+range --sync 0 serve --log jobs.log --sync 0
+range --sync 3600001 serve --log jobs.log --sync 3600001
+range --sync -1 serve --log jobs.log --sync=-1
+range --sync often serve --log jobs.log --sync often
+range --sync 1000 serve --sync 1000
 range --threads 17 work --threads 17
 range --queues a,a work --queues a,a
 range --prefetch 0 work --prefetch 0
