@@ -7,5 +7,6 @@ returns-clause-told g c = came g.N.Door g.N.Ear.Ear g.N.Conn.Source g.N.Conn.Sin
   begun = c.ready.new.disk;
   ready = c.in-Ok.ensures.ready;
   ended = rw c.from-sessions.ensures at c.serve_kept-kept.ensures.ended;
+  left = c.serve_kept-kept.ensures.left;
   later = c.ready.ensures.later;
 })
