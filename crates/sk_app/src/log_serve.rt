@@ -101,7 +101,7 @@ where
 }
 
 /// Serves as [`run_serve`](crate::run_serve) does, from the store that the file of the words keeps ([`sk_durable::serve_kept`]), with the limits of the
-/// program's store. The words begin with `serve`. Answers 0 with the summary, 4 where the sink failed, 5 where there was no memory, 2 for words that are
+/// program's store. The words begin with `serve`, and say whether replies wait for the file. Answers 0 with the summary, 4 where the sink failed, 5 where there was no memory, 2 for words that are
 /// no line of it, 6 where the door or an ear failed or seats were used up, 10 where the file can't be opened, read or written or nothing more could be
 /// logged, 11 where it is no log or is damaged, which is told, and 12 where it is full.
 pub fn run_log_serve<R: Threads + Wait + Sync + time::Clock, K: Sink, N: Door, H: Shelf, C: Clock + Send>(
