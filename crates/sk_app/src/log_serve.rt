@@ -34,7 +34,12 @@ fn outcome_at(alloc: Global, end: Result<Served, KeptFault>) -> Result<Word, Uns
 }
 
 // Serves from the store that the file keeps, and gives the file back.
-fn serve_over<R: Threads + Wait + Sync + time::Clock, D: Disk + Drop + Send, N: Door, C: Clock + Send>(
+fn serve_over<
+    R: Threads + Wait + Sync + time::Clock,
+    D: Disk + Drop + Send,
+    N: Door,
+    C: Clock + Send,
+>(
     rt: &R,
     alloc: Global,
     line: &LogServeLine,
@@ -100,11 +105,17 @@ where
     outcome
 }
 
-/// Serves as [`run_serve`](crate::run_serve) does, from the store that the file of the words keeps ([`sk_durable::serve_kept`]), with the limits of the
-/// program's store. The words begin with `serve`, and say whether replies wait for the file. Answers 0 with the summary, 4 where the sink failed, 5 where there was no memory, 2 for words that are
-/// no line of it, 6 where the door or an ear failed or seats were used up, 10 where the file can't be opened, read or written or nothing more could be
-/// logged, 11 where it is no log or is damaged, which is told, and 12 where it is full.
-pub fn run_log_serve<R: Threads + Wait + Sync + time::Clock, K: Sink, N: Door, H: Shelf, C: Clock + Send>(
+/// Serves as [`run_serve`](crate::run_serve) does, from the store that the file of the words keeps ([`sk_durable::serve_kept`]), with the limits of
+/// the program's store. The words begin with `serve`, and say whether replies wait for the file. Answers 0 with the summary, 4 where the sink failed,
+/// 5 where there was no memory, 2 for words that are no line of it, 6 where the door or an ear failed or seats were used up, 10 where the file can't
+/// be opened, read or written or nothing more could be logged, 11 where it is no log or is damaged, which is told, and 12 where it is full.
+pub fn run_log_serve<
+    R: Threads + Wait + Sync + time::Clock,
+    K: Sink,
+    N: Door,
+    H: Shelf,
+    C: Clock + Send,
+>(
     rt: &R,
     alloc: Global,
     words: &[String],

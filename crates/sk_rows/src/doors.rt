@@ -14,7 +14,11 @@ use std::time::Clock;
 pub use top::run_top;
 
 // What comes of the call.
-fn play<R: Threads + Wait + Sync + Clock>(rt: &R, alloc: Global, given: &Given<'_>) -> io::Result<Output> {
+fn play<R: Threads + Wait + Sync + Clock>(
+    rt: &R,
+    alloc: Global,
+    given: &Given<'_>,
+) -> io::Result<Output> {
     match given.call {
         "run" | "work" | "iterjob" | "lane" | "drill" => with_teams(rt, alloc, given),
         _ => call(rt, alloc, given),
