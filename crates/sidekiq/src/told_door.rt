@@ -1,10 +1,10 @@
 // The door of the program. Where workers wait for a server that is away, it tells people when that begins, and when the server is back. Where a store
-// was read from a file, it tells how long that took.
+// was read from a file, it tells how much that was, and how long it took.
 ghost use Rattle.std.specs.Prelude.{◌≡◌, None};
 
+use crate::reading::Reading;
 use sk_edge::{Door, DoorFault, TcpConn, TcpDoor, TcpEar};
 use std::io;
-use std::time::{Duration, Instant};
 
 /// A door to the network that tells, on standard error, when its server is away and when it is back, and that it listens, if it is to tell that.
 #[derive(Drop)]
@@ -13,8 +13,8 @@ pub struct ToldDoor {
     door: TcpDoor<HostRuntime>,
     /// For how many seconds the server is waited for; 0: nothing is told.
     patience: u32,
-    /// When the reading of the store began; none: nothing is told of it.
-    began: Option<Instant>,
+    /// The reading that ends when the door listens; none: nothing is told of it.
+    reading: Option<Reading>,
     /// Connections were left: who connects again has lost them.
     was_left: bool,
     is_away: bool,
@@ -25,13 +25,13 @@ impl ToldDoor {
         rt: HostRuntime,
         door: TcpDoor<HostRuntime>,
         patience: u32,
-        began: Option<Instant>,
+        reading: Option<Reading>,
     ) -> ToldDoor {
         ToldDoor {
             rt,
             door,
             patience,
-            began,
+            reading,
             was_left: false,
             is_away: false,
         }
@@ -42,21 +42,11 @@ impl ToldDoor {
         self.door.last_error()
     }
 
-    // How long the reading took that ends now, where that is to be told.
-    fn taken(&self) -> Option<Duration> {
-        match self.began {
-            Some(began) => began.elapsed(&self.rt).ok(),
-            None => None,
+    // The store was read, if one was to be, and the door listens.
+    fn tell_reading(&self) {
+        if let Some(reading) = &self.reading {
+            reading.tell();
         }
-    }
-
-    // The store was read, and the door listens.
-    fn tell_reading(&self, taken: Duration) {
-        let _untold = eprintln!(self.rt;
-            "sidekiq: the store was read from it in {}.{:02} s; listening",
-            taken.as_secs(),
-            taken.subsec_millis() / 10
-        );
     }
 
     // The server is away. It is told once.
@@ -102,11 +92,10 @@ impl Door for ToldDoor {
     ghost gathered = { λ _. None };
 
     fn listen(&mut self, port: u16, loops: usize) -> Result<Vec<TcpEar<HostRuntime>>, DoorFault> {
-        let taken = self.taken();
         let ears = self.door.listen(port, loops);
-        match (&ears, taken) {
-            (Ok(_), Some(taken)) => self.tell_reading(taken),
-            _ => {}
+        match &ears {
+            Ok(_) => self.tell_reading(),
+            Err(_) => {}
         }
         ears
     }

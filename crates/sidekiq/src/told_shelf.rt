@@ -1,40 +1,28 @@
-// The shelf of the program. Where a server is to read a store from a file, it tells people how large that is.
+// The shelf of the program. Where a server is to read a store from a file, it tells people how large that is, and has its records counted.
 ghost use Rattle.std.specs.Prelude.{None};
 
+use crate::counted_disk::CountedDisk;
+use crate::grouped::grouped;
+use crate::read_records::ReadRecords;
 use sk_base::Failed;
 use sk_disk::{Disk, FileDisk, FileShelf, Shelf};
-use std::alloc::{AllocError, Global};
 use std::io;
 
-/// A shelf of the system's files that tells, on standard error, how large a file is that it opens, if it is to tell that.
+/// A shelf of the system's files that tells, on standard error, how large the first file is that it opens, if it is to tell that.
 #[derive(Drop)]
 pub struct ToldShelf {
     rt: HostRuntime,
     shelf: FileShelf<HostRuntime>,
-    tells: bool,
-}
-
-// The number, with a comma before each three digits but the first.
-fn grouped(alloc: Global, number: u64) -> Result<String, AllocError> {
-    let digits = format!(in alloc; "{number}")?;
-    let mut left = digits.len();
-    let mut text = String::new(alloc);
-    for digit in digits.chars() {
-        if left % 3 == 0 && !text.is_empty() {
-            text.push(',')?;
-        }
-        text.push(digit)?;
-        left = left.saturating_sub(1);
-    }
-    Ok(text)
+    /// Where the records of the next file are told; none: nothing is told of it.
+    records: Option<ReadRecords>,
 }
 
 impl ToldShelf {
-    pub fn new(rt: HostRuntime, tells: bool) -> ToldShelf {
+    pub fn new(rt: HostRuntime, records: Option<ReadRecords>) -> ToldShelf {
         ToldShelf {
             rt,
             shelf: FileShelf::new(rt),
-            tells,
+            records,
         }
     }
 
@@ -55,22 +43,23 @@ impl ToldShelf {
 }
 
 impl Shelf for ToldShelf {
-    type Disk = FileDisk;
+    type Disk = CountedDisk;
 
     ghost stands = { λ _. None };
 
     ghost shelf_faults = { λ s. s.shelf };
 
     /// Opens the file as the shelf of files does.
-    fn open(&mut self, path: &str) -> Result<FileDisk, Failed> {
+    fn open(&mut self, path: &str) -> Result<CountedDisk, Failed> {
         let mut disk = self.shelf.open(path)?;
-        if self.tells {
+        let records = self.records.take();
+        if records.is_some() {
             self.tell_size(path, &mut disk);
         }
-        Ok(disk)
+        Ok(CountedDisk::new(disk, records))
     }
 
-    fn leave(&mut self, disk: FileDisk) {
-        self.shelf.leave(disk);
+    fn leave(&mut self, disk: CountedDisk) {
+        self.shelf.leave(disk.into_disk());
     }
 }
