@@ -1,8 +1,9 @@
 #!/usr/bin/env python3
 """Tries the clients and workers of clients/ over `sidekiq serve`, beside the program's own `push` and `work`.
 
-    clients.py PROGRAM [NAME ..]
+    clients.py PROGRAM [--log FILE] [NAME ..]
 
+With --log the server keeps its store in a file, which isn't there yet; one test has it so in any case.
 The rules of retries, of failed texts and of periodic jobs are compared with the rows of the worked tests, which the proved functions pass, too: so
 one table checks each language. Plain sockets and Python alone. Status 1 where a test fails.
 """
@@ -21,7 +22,7 @@ HOME = pathlib.Path(__file__).resolve().parent.parent
 sys.path[:0] = [str(HOME / 'clients/python'), str(HOME / '.ci')]
 sys.dont_write_bytecode = True
 import sidekiq
-from server import PROGRAM, SECONDS, Server
+from server import PROGRAM, SECONDS, Server, a_file, kill
 
 DATA = HOME / 'crates/sk_rows/data'
 
@@ -369,19 +370,50 @@ def wrong_steps(server):
     assert client('DEL', 'queue:wrong') == 1
 
 
+# ---------------------------------------------------------------------------------------------
+# A store in a file
+
+
+SESSIONS = [calls_of_the_client, a_worker_in_python, jobs_for_a_worker_in_rattle, callbacks, a_worker_in_python_that_is_told_to_end,
+            a_worker_in_python_with_many_due_jobs, wrong_steps]
+RUBY_SESSIONS = [calls_of_the_client_in_ruby, a_worker_in_ruby, a_worker_in_ruby_that_is_told_to_end]
+
+
+def counts(server):
+    """What the page tells of jobs."""
+    page = sidekiq.Client(port=server.port).status()
+    return {it: page[it] for it in ('processed', 'failed', 'scheduled', 'retries', 'dead', 'live')}
+
+
+def the_same_over_a_file(_):
+    """The same sessions with a server that keeps its store in a file. What they leave is there again when it was killed and is started again."""
+    with a_file() as path:
+        server = Server(64, '--log', path)
+        for test in SESSIONS + (RUBY_SESSIONS if shutil.which('ruby') else []):
+            test(server)
+        before = counts(server)
+        kill(server)
+        server = Server(64, '--log', path)
+        assert counts(server) == before and before['processed'] > 25, (before, counts(server))
+        assert server.end()[0] == 0
+
+
 TESTS = [python_as_the_rows, calls_of_the_client, jobs_that_are_none, a_worker_in_python, jobs_for_a_worker_in_rattle, callbacks,
-         a_worker_in_python_that_is_told_to_end, a_worker_in_python_with_many_due_jobs, periodic_jobs, wrong_steps, killed_workers]
+         a_worker_in_python_that_is_told_to_end, a_worker_in_python_with_many_due_jobs, periodic_jobs, wrong_steps, killed_workers,
+         the_same_over_a_file]
 RUBY_TESTS = [ruby_as_the_rows, calls_of_the_client_in_ruby, a_worker_in_ruby, a_worker_in_ruby_that_is_told_to_end,
               a_worker_in_ruby_with_many_due_jobs]
 
 
 def main():
+    wanted = sys.argv[2:]
+    more, wanted = (wanted[:2], wanted[2:]) if wanted[:1] == ['--log'] else ([], wanted)
     try:
-        server = Server(64)
+        server = Server(64, *more)
     except OSError as fault:
         print('clients: passed over, since there is no loopback here: %s' % fault)
         return 0
-    failed, wanted, tests = [], sys.argv[2:], TESTS + (RUBY_TESTS if shutil.which('ruby') else [])
+    failed, tests = [], TESTS + (RUBY_TESTS if shutil.which('ruby') else [])
     for test in tests:
         if wanted and test.__name__ not in wanted:
             continue

@@ -1,10 +1,12 @@
 #!/usr/bin/env bash
 # What the clients of others make of `sidekiq serve`: redis-cli (single commands, --pipe, --latency), redis-benchmark, redis-py, ruby-redis. Prints a
 # line for each that is installed, and what it did. Debian's packages: redis-tools, python3-redis, ruby-redis.
+#
+#     clients.sh [--log FILE]    further words of `serve`, as a file for its store, which isn't there yet
 set -u
 top=$(cd "$(dirname "${BASH_SOURCE[0]}")/.." && pwd)
 port=7424
-${SIDEKIQ:-"$top/bin/sidekiq"} serve --port $port --loops 64 >/tmp/served.$$ 2>/dev/null &
+${SIDEKIQ:-"$top/bin/sidekiq"} serve --port $port --loops 64 "$@" >/tmp/served.$$ 2>/dev/null &
 trap 'kill %1 2>/dev/null; rm -f /tmp/served.$$' EXIT
 until (exec 3<>/dev/tcp/127.0.0.1/$port) 2>/dev/null; do sleep 0.05; done
 
