@@ -81,9 +81,20 @@ fn serving(rt: &HostRuntime, line: &ServeLine) -> io::Result<()> {
     )
 }
 
+// The same where replies don't wait for the disk, which has what was done every so many milliseconds.
+fn keeping_later(rt: &HostRuntime, file: &str, millis: u32) -> io::Result<()> {
+    eprintln!(rt; "sidekiq: the store is kept in {file}; no reply waits for the disk")?;
+    eprintln!(rt;
+        "sidekiq: a crash loses at most what was answered in the last {millis} milliseconds, and while the disk is written"
+    )
+}
+
 fn serving_log(rt: &HostRuntime, line: &LogServeLine) -> io::Result<()> {
     going(rt, &beside_log(line))?;
-    keeping(rt, line.path.text())?;
+    match line.sync_every {
+        Some(millis) => keeping_later(rt, line.path.text(), millis)?,
+        None => keeping(rt, line.path.text())?,
+    }
     eprintln!(rt; "sidekiq: the command SHUTDOWN ends it")
 }
 
@@ -182,6 +193,13 @@ fn logged(rt: &HostRuntime, file: &str, status: u8, cause: Option<&io::Error>) -
     }
 }
 
+// What was of a file that replies don't wait for.
+fn kept_in_part(rt: &HostRuntime, file: &str) -> io::Result<()> {
+    eprintln!(rt;
+        "sidekiq: {file} can't be read or written any more; what was answered since it was last written may not be in it"
+    )
+}
+
 // Why a server with a file ended so.
 fn served_log(
     rt: &HostRuntime,
@@ -190,7 +208,11 @@ fn served_log(
     cause: Option<&io::Error>,
 ) -> io::Result<()> {
     served(rt, &beside_log(line), status, cause)?;
-    logged(rt, line.path.text(), status, cause)
+    let file = line.path.text();
+    match (line.sync_every, status, cause) {
+        (Some(_), 10, None) => kept_in_part(rt, file),
+        _ => logged(rt, file, status, cause),
+    }
 }
 
 // Tells of words that begin with no program's name, or with one that takes no others.
