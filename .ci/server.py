@@ -749,16 +749,31 @@ def threads_of(process):
         return int(re.search(r'Threads:\s+(\d+)', it.read())[1])
 
 
+def line_from(client):
+    """A line, or nothing where the connection ended."""
+    line = b''
+    while not line.endswith(b'\n'):
+        piece = client.take(1)
+        if not piece:
+            return b''
+        line += piece
+    return line
+
+
 def said(client, *words):
     """The first line of the reply, or nothing where the connection ended."""
     try:
         client.send(command(*words))
-        line = client.take(1)
-        while line and not line.endswith(b'\n'):
-            line += client.take(1)
-        return line
+        return line_from(client)
     except ConnectionError:
         return b''
+
+
+def texts_of(client, *words):
+    """The texts that are answered as an array."""
+    line = said(client, *words)
+    assert line[:1] == b'*', line
+    return [client.take(int(line_from(client)[1:]) + 2)[:-2] for _ in range(int(line[1:]))]
 
 
 def fill(server, clients):
@@ -964,11 +979,40 @@ def names_used_once(_):
 
 # A store that a file keeps.
 
+HEAD = b'SKLOG001'
+
+
 @contextlib.contextmanager
 def a_file():
     """The path of a file that isn't there yet, in a folder of its own."""
     with tempfile.TemporaryDirectory() as room:
         yield os.path.join(room, 'jobs.log')
+
+
+def bodies_of(path):
+    """The bodies of a log's records."""
+    with open(path, 'rb') as it:
+        whole = it.read()
+    at = len(HEAD)
+    while whole[at] == 1:
+        end = at + 5 + int.from_bytes(whole[at + 1:at + 5], 'big')
+        yield whole[at + 5:end]
+        at = end
+
+
+def names_in(path):
+    """The names of the commands in a log, one for each record: the last of its arrays is the command."""
+    return [re.findall(rb'\*\d+\r\n\$\d+\r\n(\S+)\r\n', body)[-1].decode() for body in bodies_of(path)]
+
+
+def write_log(path, commands):
+    """A log of these commands of clients."""
+    with open(path, 'wb') as it:
+        it.write(HEAD)
+        for words in commands:
+            body = command('SK.AS', 0) + command('SK.NOW', 1_700_000_000_000) + command(*words)
+            it.write(b'\1' + len(body).to_bytes(4, 'big') + body)
+        it.write(b'\0')
 
 
 def kill(server):
@@ -985,6 +1029,8 @@ def number_at(client, key):
 class Keeper:
     """A client whose commands are numbered: the odd ones count up, and the even ones put their number behind others. It writes some at a time, and keeps
     how many it has sent, and how many were answered."""
+
+    times = 50                                      # (how often it writes in one visit)
 
     def __init__(self, name):
         self.count, self.rows = 'count:%s' % name, 'rows:%s' % name
@@ -1018,20 +1064,25 @@ class Keeper:
         except OSError:
             return False
 
+    def rest(self):
+        """What it does between two visits, while others that wait have the connection."""
+
     def talk(self, port, batch):
-        """Visits a server until it is gone. Between two visits others that wait have the connection."""
+        """Visits a server until it is gone."""
         try:
-            while self.visit(port, batch, 50):
-                pass
+            self.rest()
+            while self.visit(port, batch, self.times):
+                self.rest()
         except AssertionError as fault:
             self.fault = fault
 
-    def has_all(self, port):
-        """Each command that was answered stands, once and in order, and no more than were sent. It goes on behind them."""
+    def has_all(self, port, least=None):
+        """Each command that was answered, or so many of them, stands, once and in order, and no more than were sent. It goes on behind them."""
+        least = self.answered if least is None else least
         with Client(port) as it:
             counted, rows = number_at(it, self.count), it.length(self.rows)
             stands = counted + rows
-            assert rows in (counted - 1, counted) and self.answered <= stands <= self.sent, (self.answered, counted, rows, self.sent)
+            assert rows in (counted - 1, counted) and least <= stands <= self.sent, (least, counted, rows, self.sent)
             texts = b''.join(bulk(b'%d' % n) for n in range(2, 2 * rows + 1, 2))
             it.ask(b'*%d\r\n' % rows + texts, 'LRANGE', self.rows, 0, -1)
         self.sent = self.answered = stands
@@ -1160,6 +1211,29 @@ def a_shutdown_keeps_all(_, jobs=200):
     assert b' has %s bytes\n' % format(size, ',').encode() in lines and re.search(rb' read from it in \d+\.\d\d s; listening\n', lines), lines
 
 
+def told_of(path):
+    """What a server tells that starts on a file and is ended."""
+    with open(path + '.told', 'w+b') as told:
+        assert Server(None, '--log', path, log=told).end()[0] == 0
+        told.seek(0)
+        return told.read()
+
+
+def records_that_are_read(_):
+    """A server tells how many records it has read: none of a file that isn't there yet, and else as many as stand in it, however long these are, and
+    wherever a piece of the file ends that it reads at a time."""
+    with a_file() as path:
+        assert b'\nsidekiq: 0 records were read from it in ' in told_of(path)
+        for count, was in ((0, b'0 records were'), (1, b'1 record was'), (1_204, b'1,204 records were')):
+            write_log(path, [('INCRBY', 'count', 1)] * count)
+            told = told_of(path)
+            assert b'\nsidekiq: %s read from it in ' % was in told, told
+        lengths = [*range(100), *range(65_400, 65_600), *range(131_000, 131_072, 5), 1_000_000, 0]
+        write_log(path, [('SET', 'long', b'\1' * length) for length in lengths])
+        told = told_of(path)
+        assert b'\nsidekiq: %d records were read from it in ' % len(lengths) in told, told
+
+
 def refused_log(path, *more):
     """The status of a server over this file that ends at once, and what it tells."""
     done = subprocess.run([PROGRAM, 'serve', '--port', str(free_port()), '--log', path, *more], stdin=subprocess.DEVNULL, capture_output=True,
@@ -1207,27 +1281,34 @@ def files_that_are_no_logs(_):
 
 def words_that_name_no_file(_):
     """Words that are no line of a server with a file are refused, and the one that is wrong is named."""
-    for words, named in (([''], b"--log can't be ''"), (['none', 'more'], b"'more'"), (['none', '--loops', '65'], b"--loops can't be '65'")):
+    for words, named in (([''], b"--log can't be ''"), (['none', 'more'], b"'more'"), (['none', '--loops', '65'], b"--loops can't be '65'"),
+                         (['none', '--sync', '0'], b"--sync can't be '0'"), (['none', '--sync', '3600001'], b"--sync can't be '3600001'")):
         status, told = refused_log(*words)
         assert status == 2 and named in told, (words, status, told)
 
 
-def a_disk_that_fails(_, size=200_000):
-    """Where the file can't grow any more the server ends with status 10 and says so, idle clients are let go, and no reply came for what isn't in it."""
+def told_at_a_full_disk(keepers, path, *more, size=200_000):
+    """What a server over this file tells when it can't grow any more: it ends with status 10 beside these clients, and idle ones are let go."""
     def narrow():
         signal.signal(signal.SIGXFSZ, signal.SIG_IGN)
         resource.setrlimit(resource.RLIMIT_FSIZE, (size, size))
+    server = Server(None, '--log', path, *more, limit=narrow)
+    with server.client() as idle:
+        idle.ask(b'+PONG\r\n', 'PING')
+        talk_until(keepers, server.port, 16, lambda: server.process.wait(SECONDS))
+        assert idle.is_over()
+    out, told = server.process.communicate()
+    assert (server.process.returncode, out) == (10, b''), (server.process.returncode, out)
+    assert sum(it.answered for it in keepers) > 500, [it.answered for it in keepers]
+    return told
+
+
+def a_disk_that_fails(_):
+    """Where the file can't grow any more the server ends and says so, and no reply came for what isn't in it."""
     keepers = [Keeper(n) for n in range(8)]
     with a_file() as path:
-        server = Server(None, '--log', path, limit=narrow)
-        with server.client() as idle:
-            idle.ask(b'+PONG\r\n', 'PING')
-            talk_until(keepers, server.port, 16, lambda: server.process.wait(SECONDS))
-            assert idle.is_over()
-        out, told = server.process.communicate()
-        assert (server.process.returncode, out) == (10, b''), (server.process.returncode, out)
+        told = told_at_a_full_disk(keepers, path)
         assert b" can't be read or written any more; no reply was sent for what isn't in it\n" in told, told
-        assert sum(it.answered for it in keepers) > 500, [it.answered for it in keepers]
         server = Server(None, '--log', path)
         for it in keepers:
             it.has_all(server.port)
@@ -1238,23 +1319,161 @@ def can_trace():
     return shutil.which('strace') and subprocess.run(['strace', '-o', os.devnull, 'true'], stderr=subprocess.DEVNULL, timeout=SECONDS).returncode == 0
 
 
-def replies_wait_for_the_device(_, commands=20):
+def traced(path):
+    """The words that have the calls of a program told to a file: what it writes, stores and sends."""
+    return ['strace', '-f', '-o', path + '.calls', '-e', 'trace=pwrite64,fdatasync,sendto']
+
+
+def calls_of(path):
+    with open(path + '.calls') as it:
+        return re.findall(r'\b(pwrite64|fdatasync|sendto)\(', it.read())
+
+
+def calls_for_pushes(path, pushes, *more):
+    """The calls of a server over this file while one client pushes so many jobs, one after another, and of its end."""
+    server = Server(1, '--log', path, *more, under=traced(path))
+    try:
+        with server.client() as it:
+            for n in range(1, pushes + 1):
+                it.ask(b':%d\r\n' % n, 'LPUSH', 'queue:default', JOB % (n, n))
+    finally:
+        status = server.end()[0]
+    assert status == 0, status
+    return calls_of(path)
+
+
+def replies_wait_for_the_device(_, pushes=20):
     """No reply is sent while something that was written to the file isn't on its device: so the server asks the system, as `strace` shows where it can."""
     if not can_trace():
         return print('server: replies_wait_for_the_device: passed over, since strace is not installed, or may not trace')
     with a_file() as path:
-        server = Server(1, '--log', path, under=['strace', '-f', '-o', path + '.calls', '-e', 'trace=pwrite64,fdatasync,sendto'])
-        try:
-            with server.client() as it:
-                for n in range(1, commands + 1):
-                    it.ask(b':%d\r\n' % n, 'INCRBY', 'count', 1)
-        finally:
-            status = server.end()[0]
-        with open(path + '.calls') as it:
-            calls = re.findall(r'\b(pwrite64|fdatasync|sendto)\(', it.read())
+        calls = calls_for_pushes(path, pushes)
     behind = [before for before, call in zip(calls, calls[1:]) if call == 'sendto']
-    assert status == 0 and set(behind) == {'fdatasync'} and calls.count('pwrite64') >= commands, (status, calls[:50])
-    assert len(behind) == commands + 1, calls[:50]
+    assert set(behind) == {'fdatasync'} and calls.count('pwrite64') >= pushes, calls[:50]
+    assert len(behind) == pushes + 1, calls[:50]
+
+
+# The same where replies don't wait for the file, which has what was done every so many milliseconds.
+
+def replies_that_dont_wait(_, pushes=40):
+    """With `--sync 200` replies are sent without a sync before each, and what they tell is stored all the same."""
+    if not can_trace():
+        return print('server: replies_that_dont_wait: passed over, since strace is not installed, or may not trace')
+    with a_file() as path:
+        calls = calls_for_pushes(path, pushes, '--sync', '200')
+        assert names_in(path).count('LPUSH') == pushes, names_in(path)
+    sends = [at for at, call in enumerate(calls) if call == 'sendto']
+    assert len(sends) == pushes + 1, calls[:100]
+    assert calls[sends[0]:sends[pushes - 1]].count('fdatasync') < pushes // 2, calls[:100]
+
+
+def a_pause_stores_all(_, clients=8):
+    """A second behind the last reply all that was answered is in the file of a server with `--sync 200`: a kill takes nothing of it."""
+    keepers = [Keeper(n) for n in range(clients)]
+    with a_file() as path:
+        server = Server(None, '--log', path, '--sync', '200')
+        threads = [threading.Thread(target=it.visit, args=(server.port, 16, 20)) for it in keepers]
+        [it.start() for it in threads]
+        [it.join(SECONDS) for it in threads]
+        assert all(it.answered == 16 * 20 for it in keepers), [it.answered for it in keepers]
+        time.sleep(1)
+        kill(server)
+        server = Server(None, '--log', path)
+        for it in keepers:
+            it.has_all(server.port)
+        assert server.end()[0] == 0
+
+
+def answered_before(server, keepers, seconds, more):
+    """Kills the server among these clients, so many seconds behind a moment that is as many more behind its start. Answers what each was answered then."""
+    told = []
+
+    def over():
+        time.sleep(seconds)
+        told.extend(it.answered for it in keepers)
+        time.sleep(more)
+        kill(server)
+    talk_until(keepers, server.port, 16, over)
+    return told
+
+
+def a_beginning_outlives_a_kill(_, kills=10, clients=8):
+    """A kill under load leaves a file that opens, with a beginning of what each client sent, in order and without holes. With `--sync 200` it has what was
+    answered a second before."""
+    keepers = [Keeper(n) for n in range(clients)]
+    with a_file() as path:
+        server = Server(None, '--log', path, '--sync', '200')
+        for n in range(kills):
+            told = answered_before(server, keepers, random.uniform(0, 0.3), 1 if n % 5 == 0 else 0)
+            server = Server(None, '--log', path, '--sync', '200')
+            for it, least in zip(keepers, told):
+                it.has_all(server.port, least if n % 5 == 0 else 0)
+        assert server.end()[0] == 0
+
+
+def a_shutdown_stores_all(_, jobs=200):
+    """SHUTDOWN leaves all in the file, also where an hour would have passed before it was stored. The server tells what a crash would have cost."""
+    with a_file() as path, open(path + '.told', 'w+b') as told:
+        server = Server(None, '--log', path, '--sync', '3600000', log=told)
+        with server.client() as it:
+            it.ask(b':%d\r\n' % jobs, 'LPUSH', 'queue:default', *(JOB % (n, n) for n in range(jobs)))
+        assert server.end()[0] == 0
+        told.seek(0)
+        assert b' a crash loses at most what was answered in the last 3600000 milliseconds, and while the disk is written\n' in told.read()
+        server = Server(None, '--log', path)
+        with server.client() as it:
+            it.ask(b':%d\r\n' % jobs, 'LLEN', 'queue:default')
+        assert server.end()[0] == 0
+
+
+def a_disk_that_fails_behind_replies(_):
+    """Where the file can't grow any more a server whose replies don't wait ends, too, and says what may be lost. The file has a beginning of what each
+    client sent."""
+    keepers = [Keeper(n) for n in range(8)]
+    with a_file() as path:
+        told = told_at_a_full_disk(keepers, path, '--sync', '50')
+        assert b" can't be read or written any more; what was answered since it was last written may not be in it\n" in told, told
+        server = Server(None, '--log', path)
+        for it in keepers:
+            it.has_all(server.port, 0)
+        assert server.end()[0] == 0
+
+
+NARROWED = 'import os, resource, sys; resource.setrlimit(resource.RLIMIT_FSIZE, (50_000, 50_000)); os.execv(sys.argv[1], sys.argv[1:])'
+
+
+def no_reply_behind_a_failed_write(_):
+    """Once a write has failed at most the one reply is sent that was on its way, as `strace` shows where it can: the server has one loop."""
+    if not can_trace():
+        return print('server: no_reply_behind_a_failed_write: passed over, since strace is not installed, or may not trace')
+    with a_file() as path:
+        # (Python ignores the signal that says that a file can't grow, and so does what it becomes)
+        server = Server(1, '--log', path, '--sync', '50', under=[*traced(path), sys.executable, '-c', NARROWED])
+        talk_until([Keeper(0)], server.port, 16, lambda: server.process.wait(SECONDS))
+        with open(path + '.calls') as it:
+            before, failed, behind = it.read().partition('EFBIG')
+    assert server.process.returncode == 10 and 'sendto(' in before and failed, (server.process.returncode, before[-1000:])
+    assert behind.count('sendto(') <= 1, behind[:1000]
+
+
+def idle_workers_log_little(_, seconds=10):
+    """Workers and a poller that find nothing add nothing to the file but heartbeats, and the lease of the one that leads."""
+    with a_file() as path:
+        server = Server(None, '--log', path)
+        line = [PROGRAM, 'work', '--port', str(server.port), '--threads', '2', '0 3 * * * Note default']
+        worker = subprocess.Popen(line, stdin=subprocess.DEVNULL, stdout=subprocess.DEVNULL, stderr=subprocess.DEVNULL)
+        try:
+            wait_for(lambda: page(server)['processes'] == 1, lambda: page(server))
+            time.sleep(3)                           # (until each worker has joined, and the first slot of the cron is done)
+            before = len(names_in(path))
+            time.sleep(seconds)
+            added = names_in(path)[before:]
+            assert worker.poll() is None, worker.returncode
+        finally:
+            worker.kill()
+            worker.wait()
+        assert server.end()[0] == 0
+    assert set(added) == {'SK.BEAT', 'SK.LEAD'} and len(added) <= 2 * (seconds // 5 + 1), added
 
 
 def clients_of_redis(_):
@@ -1277,25 +1496,37 @@ def clients_of_redis(_):
 
 
 class Pusher:
-    """A client that pushes one job after another, to whatever server is at its port, and counts the pushes that it sent and those that were answered."""
+    """A client that pushes one job after another, to whatever server is at its port, and keeps the numbers of the pushes that were answered. Between two
+    of them it rests for so many seconds."""
 
-    def __init__(self, port, name='pushed'):
-        self.port, self.name, self.sent, self.answered, self.ended = port, name, 0, 0, False
+    reply = b':'                                    # (how a push is answered that is taken)
+
+    def __init__(self, port, name='pushed', pace=0):
+        self.port, self.name, self.pace, self.sent, self.numbers, self.ended = port, name, pace, 0, [], False
         self.thread = threading.Thread(target=self.push_on)
         self.thread.start()
+
+    @property
+    def answered(self):
+        return len(self.numbers)
+
+    def words(self, number):
+        return 'LPUSH', 'queue:default', JOB % ('%s-%d' % (self.name, number), number)
+
+    def push(self, client):
+        """Whether the next push was taken."""
+        self.sent += 1
+        taken = said(client, *self.words(self.sent)).startswith(self.reply)
+        if taken:
+            self.numbers.append(self.sent)
+        return taken
 
     def push_on(self):
         while not self.ended:
             try:
                 with Client(self.port) as it:
-                    while not self.ended:
-                        self.sent += 1
-                        it.send(command('LPUSH', 'queue:default', JOB % ('%s-%d' % (self.name, self.sent), self.sent)))
-                        if not it.take(1) == b':':
-                            break
-                        while it.take(1) not in (b'\n', b''):
-                            pass
-                        self.answered += 1
+                    while not self.ended and self.push(it):
+                        time.sleep(random.uniform(0, 2 * self.pace))
             except OSError:
                 time.sleep(0.01)
 
@@ -1342,8 +1573,10 @@ TESTS = [pipeline, large_reply, single_bytes, one_that_leaves, one_that_never_re
          a_shutdown_among_clients, a_shutdown_with_workers, a_server_that_comes_back, patience_that_ends, a_signal_while_it_waits,
          connections_leave_no_descriptors, memory_that_is_used_up,
          a_stack_that_cant_grow, too_few_threads, a_silent_peer, full_log, old_texts_go, many_rows, full_store, names_used_once,
-         many_clients_of_a_file, what_was_answered_outlives_a_kill, killed_again_and_again, a_shutdown_keeps_all, a_file_that_another_server_has,
-         files_that_are_no_logs, words_that_name_no_file, a_disk_that_fails, replies_wait_for_the_device, clients_of_redis, workers_outlive_kills]
+         many_clients_of_a_file, what_was_answered_outlives_a_kill, killed_again_and_again, a_shutdown_keeps_all, records_that_are_read,
+         a_file_that_another_server_has, files_that_are_no_logs, words_that_name_no_file, a_disk_that_fails, replies_wait_for_the_device,
+         replies_that_dont_wait, a_pause_stores_all, a_beginning_outlives_a_kill, a_shutdown_stores_all, a_disk_that_fails_behind_replies,
+         no_reply_behind_a_failed_write, idle_workers_log_little, clients_of_redis, workers_outlive_kills]
 
 
 def main():
