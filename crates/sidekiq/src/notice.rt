@@ -306,6 +306,15 @@ fn beside_one(loops: u32) -> usize {
     (loops as usize).saturating_sub(1)
 }
 
+// How many threads a server with a file starts beside its own: its loops but one, and one that stores what was logged, where no reply waits for that.
+fn log_threads(line: &LogServeLine) -> usize {
+    let others = beside_one(line.loops);
+    match line.sync_every {
+        Some(_) => others.saturating_add(1),
+        None => others,
+    }
+}
+
 impl Notice {
     /// What the words ask for, where `work` has so many teams.
     pub fn of(alloc: Global, words: &[String], teams: u32) -> Notice {
@@ -330,7 +339,7 @@ impl Notice {
         match self {
             // a loop each
             Notice::Serve(line) => Some(beside_one(line.loops)),
-            Notice::LogServe(line) => Some(beside_one(line.loops)),
+            Notice::LogServe(line) => Some(log_threads(line)),
             // the poller, and a worker each
             Notice::Work(settings) => Some(settings.threads as usize),
             // who pushes, the poller, and a worker each
