@@ -1,8 +1,8 @@
 #!/usr/bin/env bash
-# `redis-benchmark` against `sidekiq serve --log FILE`, beside `sidekiq serve` and beside a Redis 7 whose append-only file is synced `always` and
-# `everysec`, one after another on the same machine, in one run: commands a second of each, with 1, 16 and 64 connections, and with 64 and 16 commands to
-# a write. "LPUSH job" pushes jobs of 118 bytes with random ids; PING changes nothing, so its reply waits for no sync. The device decides most of it, so
-# the files should lie where a log will.
+# `redis-benchmark` against `sidekiq serve --log FILE` with `--sync always` and `--sync 1000`, beside `sidekiq serve` and beside a Redis 7 whose
+# append-only file is synced `always` and `everysec`, one after another on the same machine, in one run: commands a second of each, with 1, 16 and 64
+# connections, and with 64 and 16 commands to a write. "LPUSH job" pushes jobs of 118 bytes with random ids; PING changes nothing, so its reply waits for
+# no sync. The device decides most of it, so the files should lie where a log will.
 # Wanted besides what common.sh wants: redis-benchmark. `SIDEKIQ` names another program than bin/sidekiq.
 #
 #     serve_log.sh [SECONDS [FOLDER]]    how long each takes (3), and where the files are made
@@ -12,13 +12,14 @@ set -eu
 long=${1:-3}
 program=${SIDEKIQ:-"$top/bin/sidekiq"}
 "$program" pipe <"$top/crates/sidekiq/stdin" >/dev/null      # builds it, where it is stale
-names=(serve serve-log always everysec)
-ports=(7430 7431 7432 7433)
+names=(serve log-always log-1000 always everysec)
+ports=(7430 7431 7432 7433 7434)
 servers=()
 trap 'kill "${servers[@]}" 2>/dev/null; wait; rm -rf "$folder"' EXIT
 "$program" serve --port 7430 >/dev/null 2>&1 & servers+=($!)
 "$program" serve --port 7431 --log "$folder/jobs.log" >/dev/null 2>&1 & servers+=($!)
-for at in 2 3; do
+"$program" serve --port 7432 --log "$folder/late.log" --sync 1000 >/dev/null 2>&1 & servers+=($!)
+for at in 3 4; do
     mkdir "$folder/${names[at]}"
     redis-server --port "${ports[at]}" --save '' --dir "$folder/${names[at]}" --appendonly yes --appendfsync "${names[at]}" >/dev/null 2>&1 & servers+=($!)
 done
@@ -39,7 +40,7 @@ steady() {
 # NAME, connections, commands to a write, the command's words: a line with the rates of all.
 race() {
     line=$(printf '%-9s %2d connections, %2d to a write:' "$1" "$2" "$3")
-    for at in 0 1 2 3; do
+    for at in 0 1 2 3 4; do
         line+=$(printf ' %s %7d' "${names[at]}" "$(steady "${ports[at]}" -c "$2" -P "$3" -r 2147483647 "${@:4}")")
     done
     echo "$line a second"

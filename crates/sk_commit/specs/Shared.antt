@@ -1,7 +1,7 @@
 -- What a shared log keeps under its two locks: what waits for a leader, and what its file has.
-use Rattle.std.specs.Prelude.{ℕ, ◌≡◌, ◌≤◌, ◌+◌, ◌^◌, List, [], ◌∷◌, ◌++◌, Option, None, Some, length}
-use Rattle.sk_disk.specs.Images.{Images}
-use Rattle.sk_log.specs.File.{Body, IsAt, IsGroup}
+use Rattle.std.specs.Prelude.{ℕ, ◌≡◌, ◌<◌, ◌≤◌, ◌+◌, ◌^◌, List, [], ◌∷◌, ◌++◌, Option, None, Some, length}
+use Rattle.sk_disk.specs.Images.{Images, Narrows}
+use Rattle.sk_log.specs.File.{Body, IsAt, IsGroup, Stood, place, records}
 
 -- all that was logged, and the record that is drafted and may yet be dropped
 pub record Backed : Type 0 where
@@ -39,3 +39,32 @@ IsStart starts gate may_leave = (events : List Body) → starts events → IsAt 
 -- It is a log of these and, behind them, of the stored ones.
 abbrev pub HasBehind : (List Body → Type 0) → List Body → ℕ → Images → Type 0
 HasBehind starts stored gate may_leave = (events : List Body) → starts events → IsAt (events ++ stored) gate may_leave
+
+-- ## At each crash
+
+-- The file is a log of these bodies and, behind them, of some of which that holds.
+pub record StoodSome (events : List Body) (Holds : List Body → Type 0) (image : List ℕ) : Type 0 where
+  pub bodies : List Body
+  pub holds : Holds bodies
+  pub stood : Stood (events ++ bodies) image
+
+module _ {D : Type 0} (moment : D → ℕ) (left_since : D → ℕ → Images) where
+  -- So is each file that a crash at any moment since then might have left.
+  pub record LeavesSome (events : List Body) (Holds : List Body → Type 0) (since : ℕ) (disk : D) : Type 0 where
+    pub later : since ≤ moment disk
+    pub each : Narrows (StoodSome events Holds) (left_since disk since)
+
+  -- whatever bodies the file may have had at first
+  abbrev pub KeepsSome : (List Body → Type 0) → (List Body → Type 0) → ℕ → D → Type 0
+  KeepsSome starts Holds since disk = (events : List Body) → starts events → LeavesSome events Holds since disk
+
+-- ## A full file
+
+-- With the next records, behind what is stored, the file would have more than 2^50 bytes.
+pub record Overflows (starts Holds : List Body → Type 0) : Type 0 where
+  pub stored : List Body
+  pub next : List Body
+  pub holds : Holds (stored ++ next)
+  pub gate : ℕ
+  pub gate_is : (events : List Body) → starts events → gate ≡ place (events ++ stored)
+  pub too_long : 2 ^ 50 < gate + length (records next) + 1

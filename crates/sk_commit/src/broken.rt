@@ -1,6 +1,7 @@
 // A file to which nothing more is written.
-ghost use Rattle.std.specs.Prelude.{◌≡◌, ◌≤◌};
+ghost use Rattle.std.specs.Prelude.{◌≡◌};
 ghost use Rattle.sk_base.specs.Outside.{Rose};
+ghost use Rattle.sk_commit.specs.Shared.{KeepsSome, Overflows};
 
 use crate::LogId;
 use sk_disk::Disk;
@@ -17,7 +18,8 @@ pub enum Halt {
     Astray,
 }
 
-/// The file of a log that has ended. Contracts see why it has.
+/// The file of a log that has ended. Contracts see why it has. Whatever a crash may have left since the file was handed over is a log of what stood in it
+/// then, and of records of which holds what holds of all that leaders take.
 #[derive(Drop)]
 pub struct Broken<D: Disk + Drop, I: LogId> {
     disk: D,
@@ -28,6 +30,7 @@ pub struct Broken<D: Disk + Drop, I: LogId> {
 impl<D: Disk + Drop, I: LogId> Model for Broken<D, I> {
     ghost use Rattle.std.specs.Prelude.{◌≡◌};
     ghost use Rattle.sk_base.specs.Outside.{Rose};
+    ghost use Rattle.sk_commit.specs.Shared.{KeepsSome, Overflows};
     ghost use Rattle.sk_commit.specs.declared.broken.Halt.{Halt};
     ghost use Rattle.sk_commit.specs.declared.broken.Halt.TheVariants as halt;
 
@@ -35,13 +38,16 @@ impl<D: Disk + Drop, I: LogId> Model for Broken<D, I> {
 
     ghost view = { λ b. b.why };
 
-    ghost invariant = { λ b. b.why ≡ halt.Disk → Rose I.faults (D.disk_faults b.disk) };
+    ghost invariant = { λ b. (b.why ≡ halt.Disk → Rose I.faults (D.disk_faults b.disk)) × (b.why ≡ halt.Full → Overflows I.starts I.holds)
+        × KeepsSome D.moment D.left_since I.starts I.holds I.since b.disk };
 }
 
 impl<D: Disk + Drop, I: LogId> Broken<D, I> {
     /// The log ends, whose file is on this disk.
     pub(crate) fn new(disk: D, why: Halt) -> Broken<D, I>
-        requires { why ≡ Halt.Disk → Rose I.faults (D.disk_faults disk) }
+        requires cause { why ≡ Halt.Disk → Rose I.faults (D.disk_faults disk) }
+        requires full { why ≡ Halt.Full → Overflows I.starts I.holds }
+        requires left { KeepsSome D.moment D.left_since I.starts I.holds I.since disk }
         ensures { result ≡ why }
     {
         Broken {
@@ -51,10 +57,13 @@ impl<D: Disk + Drop, I: LogId> Broken<D, I> {
         }
     }
 
-    /// The disk, and why the log ended. Where the disk failed, its count of faults rose since it was handed over.
+    /// The disk, and why the log ended. Where the disk failed, its count of faults rose since it was handed over; where the file is full, the next
+    /// records would have made it longer than 2^50 bytes.
     pub fn into_parts(self) -> (D, Halt)
         ensures why { result.1 ≡ self }
         ensures cause { result.1 ≡ Halt.Disk → Rose I.faults (D.disk_faults result.0) }
+        ensures full { result.1 ≡ Halt.Full → Overflows I.starts I.holds }
+        ensures left { KeepsSome D.moment D.left_since I.starts I.holds I.since result.0 }
     {
         let Broken { disk, why, of: _ } = self;
         (disk, why)

@@ -1,11 +1,12 @@
-// Who writes: one of those that wait for the file leads, and the others sleep until it has stored what they wait for, or the log has ended.
+// Who writes: one of those that wait for the file leads, and the others sleep until it has stored what they wait for, or the log has ended. They sleep in
+// two crowds by turns: those whose records the leader has, who wake once it is done, and those whose records come next, of whom one leads then.
 ghost use Rattle.std.specs.Prelude.{IfSome};
 ghost use mathlib.Core.List.{IsPrefix};
 
 use crate::{Backlog, Broken, Durable, LogId, Prefix, Stored};
 use sk_disk::Disk;
 use sk_log::Group;
-use std::sync::{Condvar, Mutex, Wait};
+use std::sync::{Condvar, Mutex, MutexGuard, Wait};
 
 // A file that nobody writes just now, and a group for the next leader to leave behind.
 #[derive(Drop)]
@@ -20,6 +21,10 @@ struct Slot<D: Disk + Drop, I: LogId> {
     durable: Durable<I>,
     file: Option<Idle<D, I>>,
     broken: Option<Broken<D, I>>,
+    /// How many records are stored once the last leader is done,
+    led: u64,
+    /// and whether those who wait for that sleep in the second crowd.
+    second: bool,
 }
 
 impl<D: Disk + Drop, I: LogId> Slot<D, I> {
@@ -27,13 +32,23 @@ impl<D: Disk + Drop, I: LogId> Slot<D, I> {
     fn must_wait(&self, records: u64) -> bool {
         self.durable.len() < records && self.file.is_none() && self.broken.is_none()
     }
+
+    // Whether who waits for so many records sleeps in the second crowd.
+    fn sleeps_in_second(&self, records: u64) -> bool {
+        if records <= self.led {
+            self.second
+        } else {
+            !self.second
+        }
+    }
 }
 
 /// A log that many threads share. A leader takes the file out of its lock, and holds none while it writes.
 #[derive(Drop)]
 pub struct Committer<D: Disk + Drop, I: LogId> {
     slot: Mutex<Slot<D, I>>,
-    changed: Condvar,
+    first: Condvar,
+    second: Condvar,
 }
 
 impl<D: Disk + Drop, I: LogId> Committer<D, I> {
@@ -45,49 +60,66 @@ impl<D: Disk + Drop, I: LogId> Committer<D, I> {
             durable,
             file,
             broken: None,
+            led: 0,
+            second: false,
         };
         Committer {
             slot: Mutex::new(slot),
-            changed: Condvar::new(),
+            first: Condvar::new(),
+            second: Condvar::new(),
         }
     }
 
-    // Puts the file back with what was stored, or ends the log.
-    fn put_back<R: Wait>(
-        &self,
-        rt: &R,
-        done: Result<(Stored<D, I>, Group), Broken<D, I>>,
-    ) -> Option<Durable<I>> {
+    // One of the two crowds.
+    fn crowd(&self, second: bool) -> &Condvar {
+        if second { &self.second } else { &self.first }
+    }
+
+    // Puts the file back with what was stored, and wakes those who wait for that, and one who leads next.
+    fn put_back<R: Wait>(&self, rt: &R, stored: Stored<D, I>, spare: Group) -> Durable<I> {
+        let durable = stored.durable();
         let mut slot = self.slot.lock(rt);
-        match done {
-            Ok((stored, spare)) => {
-                let durable = stored.durable();
-                slot.durable = durable.again();
-                slot.file = Some(Idle { stored, spare });
-                Some(durable)
-            }
-            Err(broken) => {
-                slot.broken = Some(broken);
-                None
-            }
-        }
+        slot.durable = durable.again();
+        slot.file = Some(Idle { stored, spare });
+        let second = slot.second;
+        drop(slot);
+        self.crowd(second).notify_all();
+        self.crowd(!second).notify_one();
+        durable
     }
 
-    // Stores what waits, and wakes all that sleep.
+    // Ends the log, and wakes all that sleep.
+    fn end<R: Wait>(&self, rt: &R, broken: Broken<D, I>) {
+        self.slot.lock(rt).broken = Some(broken);
+        self.first.notify_all();
+        self.second.notify_all();
+    }
+
+    // Takes what waits, and stores it.
     fn lead<R: Wait, B: Backlog<I>>(
         &self,
         rt: &R,
         backlog: &B,
+        slot: MutexGuard<'_, Slot<D, I>>,
         idle: Idle<D, I>,
     ) -> Option<Durable<I>> {
+        let mut slot = slot;
         let Idle { stored, spare } = idle;
-        let done = match backlog.take(rt, spare) {
-            Some(taken) => stored.store(taken),
-            None => Err(stored.give_up()),
+        let Some(taken) = backlog.take(rt, spare) else {
+            drop(slot);
+            self.end(rt, stored.give_up());
+            return None;
         };
-        let durable = self.put_back(rt, done);
-        self.changed.notify_all();
-        durable
+        slot.led = taken.len();
+        slot.second = !slot.second;
+        drop(slot);
+        match stored.store(taken) {
+            Ok((stored, spare)) => Some(self.put_back(rt, stored, spare)),
+            Err(broken) => {
+                self.end(rt, broken);
+                None
+            }
+        }
     }
 
     /// Waits until all that was seen is in the file, and leads where nobody does. Answers what is in the file then. None where the log has ended, as it
@@ -102,15 +134,14 @@ impl<D: Disk + Drop, I: LogId> Committer<D, I> {
         ensures holds { IfSome result (λ durable. I.holds durable) }
     {
         let records = me.len();
-        let mut slot = self
-            .changed
-            .wait_while(rt, self.slot.lock(rt), |slot| slot.must_wait(records));
+        let slot = self.slot.lock(rt);
+        let crowd = self.crowd(slot.sleeps_in_second(records));
+        let mut slot = crowd.wait_while(rt, slot, |slot| slot.must_wait(records));
         if slot.durable.reaches(me) {
             return Some(slot.durable.again());
         }
         let idle = slot.file.take()?;
-        drop(slot);
-        let durable = self.lead(rt, backlog, idle)?;
+        let durable = self.lead(rt, backlog, slot, idle)?;
         if durable.reaches(me) {
             Some(durable)
         } else {
@@ -118,14 +149,31 @@ impl<D: Disk + Drop, I: LogId> Committer<D, I> {
         }
     }
 
+    /// What is in the file just now. None where the log has ended.
+    pub fn stored<R: Wait>(&self, rt: &R) -> Option<Durable<I>>
+        ensures { IfSome result (λ durable. I.holds durable) }
+    {
+        let slot = self.slot.lock(rt);
+        if slot.broken.is_some() {
+            return None;
+        }
+        Some(slot.durable.again())
+    }
+
     /// The file, once nobody shares the log; or the one that takes no more, where the log has ended. Neither is there only where a leader has it, and no
     /// leader is left then.
     pub fn close(self) -> Result<Stored<D, I>, Option<Broken<D, I>>> {
-        let Committer { slot, changed: _ } = self;
+        let Committer {
+            slot,
+            first: _,
+            second: _,
+        } = self;
         let Slot {
             durable: _,
             file,
             broken,
+            led: _,
+            second: _,
         } = slot.into_inner();
         match file {
             Some(idle) => Ok(idle.stored),

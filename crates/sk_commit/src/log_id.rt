@@ -15,8 +15,11 @@ pub trait LogId {
     /// The file may have been a log of these bodies when it was handed over.
     ghost starts: { List Body → Type 0 };
 
-    /// How often the file's disk had failed then.
+    /// How often the file's disk had failed then,
     ghost faults: { ℕ };
+
+    /// and at which moment of it that was.
+    ghost since: { ℕ };
 
     /// It holds of the history at each moment at which a leader takes what waits.
     ghost holds: { List Body → Type 0 };
@@ -28,6 +31,8 @@ impl LogId for Brand {
     ghost starts = { λ _. ⊥ };
 
     ghost faults = { 0 };
+
+    ghost since = { 0 };
 
     ghost holds = { λ _. ⊤ };
 }

@@ -1,5 +1,5 @@
 // What waits to be stored: the last records of the history, as one group, and behind them a draft that a command's reply decides on.
-ghost use Rattle.std.specs.Prelude.{◌≡◌, ◌⊎◌, ◌++◌, ◌∷◌, [], OnOk, OnErr, IfErr};
+ghost use Rattle.std.specs.Prelude.{◌≡◌, ◌⊎◌, ◌++◌, ◌∷◌, [], length, OnOk, OnErr, IfErr};
 ghost use Rattle.sk_commit.specs.Shared.{IsWaiting, backed};
 ghost use Rattle.sk_log.specs.declared.fault.LogFault.TheVariants.{Full, Memory};
 
@@ -53,6 +53,13 @@ impl<I: LogId> Model for Taken<I> {
 }
 
 impl<I: LogId> Taken<I> {
+    /// How many records that history has.
+    pub fn len(&self) -> u64
+        ensures { result ≡ length self.now }
+    {
+        self.prefix.len()
+    }
+
     /// The history up to the group's end, how many records stand before the group, and the group.
     pub fn into_parts(self) -> (Prefix<I>, u64, Group)
         ensures prefix { result.0 ≡ self }

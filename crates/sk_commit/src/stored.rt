@@ -1,7 +1,7 @@
 // The file of a shared log, which has a beginning of the history.
 ghost use Rattle.std.specs.Prelude.{◌≡◌, ◌≤◌, [], IfOk, length, true};
 ghost use mathlib.Core.List.{IsPrefix};
-ghost use Rattle.sk_commit.specs.Shared.{HasBehind, IsStart};
+ghost use Rattle.sk_commit.specs.Shared.{HasBehind, IsStart, KeepsSome};
 
 use crate::{Broken, Halt, LogId, Prefix, Taken};
 use sk_disk::Disk;
@@ -9,7 +9,8 @@ use sk_log::{Group, Log, LogFault};
 use std::marker::Model;
 
 /// A file, and the records that were stored in it since it was handed over. Contracts see these. Whatever a crash leaves is a log of what stood in
-/// the file then, and of these, of which holds what holds of all that leaders take.
+/// the file then, and of these, of which holds what holds of all that leaders take; and so was, with others of which that holds, whatever a crash might
+/// have left before.
 #[derive(Drop)]
 pub struct Stored<D: Disk + Drop, I: LogId> {
     disk: D,
@@ -20,13 +21,14 @@ pub struct Stored<D: Disk + Drop, I: LogId> {
 impl<D: Disk + Drop, I: LogId> Model for Stored<D, I> {
     ghost use Rattle.std.specs.Prelude.{◌≤◌, List};
     ghost use Rattle.sk_log.specs.File.{Body};
-    ghost use Rattle.sk_commit.specs.Shared.{HasBehind};
+    ghost use Rattle.sk_commit.specs.Shared.{HasBehind, KeepsSome};
 
     ghost Value = { List Body };
 
     ghost view = { λ s. s.prefix };
 
-    ghost invariant = { λ s. HasBehind I.starts s.prefix s.log (D.may_leave s.disk) × I.holds s.prefix × (I.faults ≤ D.disk_faults s.disk) };
+    ghost invariant = { λ s. HasBehind I.starts s.prefix s.log (D.may_leave s.disk) × I.holds s.prefix × (I.faults ≤ D.disk_faults s.disk)
+        × KeepsSome D.moment D.left_since I.starts I.holds I.since s.disk };
 }
 
 /// A beginning of the history that is in the file, at whose end a leader once took it. Only the file itself makes one. Contracts see the bodies of its
@@ -79,7 +81,8 @@ impl<I: LogId> Durable<I> {
 
 // Why a log ends that couldn't be appended to.
 fn halt_at(fault: LogFault) -> Halt
-    ensures { result ≡ Halt.Disk → fault ≡ LogFault.Disk }
+    ensures disk { result ≡ Halt.Disk → fault ≡ LogFault.Disk }
+    ensures full { result ≡ Halt.Full → fault ≡ LogFault.Full }
 {
     match fault {
         LogFault::Disk => Halt::Disk,
@@ -95,6 +98,7 @@ impl<D: Disk + Drop, I: LogId> Stored<D, I> {
         requires holds { I.holds [] }
         requires start { IsStart I.starts log (D.may_leave disk) }
         requires count { D.disk_faults disk ≡ I.faults }
+        requires since { D.moment disk ≡ I.since }
         ensures { result ≡ [] }
     {
         Stored { disk, log, prefix }
@@ -154,6 +158,7 @@ impl<D: Disk + Drop, I: LogId> Stored<D, I> {
         ensures log { HasBehind I.starts self result.1 (D.may_leave result.0) }
         ensures holds { I.holds self }
         ensures count { I.faults ≤ D.disk_faults result.0 }
+        ensures left { KeepsSome D.moment D.left_since I.starts I.holds I.since result.0 }
     {
         let Stored {
             disk,

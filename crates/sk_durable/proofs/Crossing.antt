@@ -5,9 +5,11 @@ use Rattle.std.proofs.Crossing.{crosses}
 use Rattle.logbook.proofs.tokens.Seen.TheSendSync.{the_send as seen_send}
 use Rattle.logbook.proofs.word.Word.TheSendSync.{the_send as word_send}
 use Rattle.sk_serve.proofs.Crossing.{hub_sync}
+use Rattle.sk_desk.specs.contracts.hub.Hub as Hub
 use Rattle.sk_commit.specs.contracts.committer.Committer as Committer
 use Rattle.sk_commit.specs.contracts.pending.Pending as Pending
 use Rattle.sk_commit.specs.contracts.stored.Durable as Durable
+use Rattle.sk_durable.specs.contracts.flush_timer.FlushTimer as FlushTimer
 use Rattle.sk_durable.specs.contracts.log_book.LogBook as LogBook
 use Rattle.sk_durable.specs.contracts.hub_backlog.HubBacklog as HubBacklog
 use Rattle.sk_durable.specs.contracts.log_settler.LogSettler as LogSettler
@@ -19,7 +21,7 @@ pending_send J j send sync = search (sendable, crosses, seen_send, word_send) de
 book_send : (J : RattleType) (j : _) → IsSend J → IsSync J → IsSend (LogBook.the_field J j).row
 book_send J j send sync = search (sendable, crosses, pending_send) depth 60 fits 5000
 
-book_send_row : (J : RattleType) (j : _) → IsSend J → IsSync J → IsSend (LogBook.the_row J j)
+pub book_send_row : (J : RattleType) (j : _) → IsSend J → IsSync J → IsSend (LogBook.the_row J j)
 book_send_row J j send sync = search (sendable, crosses, book_send) depth 60 fits 5000
 
 backlog_sync : (a : _) (L J : RattleType) (l : _) (j : _) → IsSend J → IsSync J → IsSync (HubBacklog.the_field a L J l j).row
@@ -42,3 +44,14 @@ settlers_sync a R D L J d l j r disk send sync = search (sendable, crosses, back
 
 pub settlers_sync_row : (a : _) (R D L J : RattleType) (d : _) (l : _) (j : _) → IsSync R → IsSend D → IsSend J → IsSync J → IsSync (LogSettlers.the_row a R D L J d l j)
 settlers_sync_row a R D L J d l j r disk send sync = search (sendable, crosses, settlers_sync) depth 60 fits 5000
+
+-- and what its thread that flushes gets
+
+pub hub_sync_row : (L B P : RattleType) (l : _) (b : _) → IsSend B → IsSync (Hub.the_row L B P l b)
+hub_sync_row L B P l b sends = search (sendable, crosses, hub_sync) depth 60 fits 5000
+
+pub committer_sync_row : (D J : RattleType) (d : _) (j : _) → IsSend D → IsSend J → IsSync J → IsSync (Committer.the_row D J d j)
+committer_sync_row D J d j disk send sync = search (sendable, crosses, committer_sync) depth 60 fits 5000
+
+pub timer_sync_row : IsSync FlushTimer.the_row
+timer_sync_row = search (sendable, crosses) depth 60 fits 5000

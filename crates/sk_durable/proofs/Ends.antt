@@ -1,8 +1,14 @@
 -- How a server over a kept store ends, by its loops and by its file.
-use Rattle.std.proofs.Common.{◌≡◌, ◌+◌, ◌-◌, ◌/◌, ◌^◌, ℕ, List, length, Option, Some, Result, Ok, Err, IfSome, refl, sym, subst, inl, inr}
+use Rattle.std.proofs.Common.{◌≡◌, ◌+◌, ◌-◌, ◌/◌, ◌^◌, ℕ, List, ◌++◌, length, Option, None, Some, Result, Ok, Err, IfSome, refl, sym, subst, inl, inr}
+use Rattle.std.specs.Prelude.{IsSomeAnd}
 use Rattle.sk_base.specs.Outside.{Rose}
 use Rattle.sk_desk.specs.State.{IsBalanced, pushed_in}
+use Rattle.sk_commit.specs.Shared.{KeepsSome, Overflows}
+use Rattle.sk_commit.specs.declared.broken.Halt.{Halt}
+use Rattle.sk_commit.specs.declared.broken.Halt.TheVariants as halt
+use Rattle.sk_commit.specs.declared.log_id.LogId as a_log_id
 use Rattle.sk_disk.specs.Images.{Images}
+use Rattle.sk_disk.specs.declared.disk.Disk as a_disk
 use Rattle.sk_edge.specs.Collected.{Keeps, MakesRoom}
 use Rattle.sk_edge.specs.Doors.{Listens}
 use Rattle.sk_edge.specs.declared.door.Door as a_door
@@ -19,7 +25,8 @@ use Rattle.sk_serve.specs.declared.serve_end.ServeFault.{ServeFault}
 use Rattle.sk_serve.specs.declared.serve_end.ServeFault.TheVariants as serve_fault
 use Rattle.sk_serve.specs.declared.serve_end.Served.{Served}
 use Rattle.sk_serve.proofs.Ends.{became_so, serves}
-use Rattle.sk_durable.specs.Serving.{EndsSo, HasAll, IsHalted, IsOfLog, IsServedOn, KeptEnds, KeptServerEnds, kept_fault, unheard_fault}
+use Rattle.sk_durable.specs.Serving.{EndsSo, HasAll, IsBroken, IsHalted, IsServedOn, IsToldAs, KeptEnds, KeptServerEnds, kept_fault, unheard_fault}
+use Rattle.sk_durable.specs.Writes.{IsKeptLog, TellsOf}
 use Rattle.sk_status.specs.declared.tally.Tally.{Tally}
 use Rattle.sk_durable.specs.declared.server.KeptEnd.{KeptEnd}
 use Rattle.sk_durable.specs.declared.server.KeptFault.{KeptFault}
@@ -30,19 +37,11 @@ module _ {D E C K : Type 0} (may_leave : D → Images) (faults : D → ℕ) (Ear
   abbrev Ends : Result Served KeptFault → Option D → Type 0
   Ends = KeptEnds may_leave faults Ear Attended starts start first bound loops ears ears'
 
-  -- The log had ended.
-  by_log : (why : KeptFault) (given : Option D) → IsOfLog why → (why ≡ fault.Disk → IfSome given (λ disk. Rose first (faults disk))) → Ends (Err why) given
-  by_log fault.Disk given of_log disk = disk refl
-  by_log fault.Full given of_log disk = tt
-  by_log fault.Astray given of_log disk = tt
-  by_log fault.Failed given of_log disk = absurd of_log
-  by_log fault.Spent given of_log disk = absurd of_log
-  by_log fault.Memory given of_log disk = absurd of_log
+  -- There was no memory.
+  pub starved_ends : (end : Result Served KeptFault) (given : Option D) → end ≡ Err fault.Memory → Ends end given
+  starved_ends end given is = subst (λ e. Ends e given) (sym is) tt
 
-  pub halted_ends : (e : KeptEnd D) → IsHalted faults first e → Ends e.end e.disk
-  halted_ends e halted = subst (λ end. Ends end e.disk) (sym halted.is) (by_log halted.why e.disk halted.of_log halted.disk)
-
-  -- The loops had.
+  -- The loops had ended.
   by_loops : (f : ServeFault) (given : Option D) → EndedAt Ear Attended loops ears ears' f → Ends (Err (kept_fault f)) given
   by_loops serve_fault.Failed given came = came
   by_loops serve_fault.Spent given came = came
@@ -69,6 +68,51 @@ module _ {D E C K : Type 0} (may_leave : D → Images) (faults : D → ℕ) (Ear
       (served_ends (record { sessions = sessions; acknowledged = acknowledged; tally = tally }) rows disk w same outside balanced tally_is came all)
   ends_so (Err f) end acknowledged rows tally disk w so same outside balanced tally_is came all = subst (λ e. Ends e (Some disk)) (sym so) (by_loops f (Some disk) came)
 
+-- ## By the log
+
+-- What holds of all that leaders take holds of what they have no room for.
+overflows_kept : (starts Holds : List Body → Type 0) (start : World) → TellsOf start Holds → Overflows starts Holds → Overflows starts (λ bodies. IsKeptLog start bodies)
+overflows_kept starts Holds start law over = record {
+  stored = over.stored;
+  next = over.next;
+  holds = (law (over.stored ++ over.next)).1 over.holds;
+  gate = over.gate;
+  gate_is = over.gate_is;
+  too_long = over.too_long;
+}
+
+module _ {D E C J K : Type 0} (Disk : a_disk.Ghosts D) (Log : a_log_id.Ghosts J) (Ear : an_ear.Ghosts E C) (Attended : Attending C K) (start : World) (law : TellsOf start Log.holds)
+    (bound loops : ℕ) (ears ears' : List E) where
+  abbrev LogEnds : Result Served KeptFault → Option D → Type 0
+  LogEnds = KeptEnds Disk.may_leave Disk.disk_faults Ear Attended Log.starts start Log.faults bound loops ears ears'
+
+  by_astray : (told : KeptFault) (given : Option D) → IsToldAs halt.Astray told → LogEnds (Err told) given
+  by_astray told given (inl is) = subst (λ f. LogEnds (Err f) given) (sym is) tt
+  by_astray told given (inr is) = subst (λ f. LogEnds (Err f) given) (sym is) tt
+
+  by_halt : (why : Halt) (told : KeptFault) (given : Option D) → IsToldAs why told → IsSomeAnd given (IsBroken Disk Log why) → LogEnds (Err told) given
+  by_halt halt.Disk told (Some disk) is broken = subst (λ f. LogEnds (Err f) (Some disk)) (sym is) (broken.failed refl)
+  by_halt halt.Full told (Some disk) is broken = subst (λ f. LogEnds (Err f) (Some disk)) (sym is) (overflows_kept Log.starts Log.holds start law (broken.full refl))
+  by_halt halt.Astray told (Some disk) is broken = by_astray told (Some disk) is
+  by_halt why told None is broken = absurd broken
+
+  pub halted_ends : (broken : Option Halt) (e : KeptEnd D) → IsHalted Disk Log broken e → LogEnds e.end e.disk
+  halted_ends None e ((told, is, so), none) = subst (λ end. LogEnds end e.disk) (sym is) (by_astray told e.disk so)
+  halted_ends (Some why) e ((told, is, so), some) = subst (λ end. LogEnds end e.disk) (sym is) (by_halt why told e.disk so some)
+
+module _ {D J : Type 0} (Disk : a_disk.Ghosts D) (Log : a_log_id.Ghosts J) where
+  abbrev Kept : D → Type 0
+  Kept = KeepsSome Disk.moment Disk.left_since Log.starts Log.holds Log.since
+
+  broken_left : (why : Halt) (given : Option D) → IsSomeAnd given (IsBroken Disk Log why) → IfSome given Kept
+  broken_left why None broken = tt
+  broken_left why (Some disk) broken = broken.left
+
+  -- A disk that is given back has outlived each crash.
+  pub halted_left : (broken : Option Halt) (e : KeptEnd D) → IsHalted Disk Log broken e → IfSome e.disk Kept
+  halted_left None e (told, none) = subst (λ given. IfSome given Kept) (sym none) tt
+  halted_left (Some why) e (told, some) = broken_left why e.disk some
+
 -- ## With its door
 
 module _ {D N E C K : Type 0} (may_leave : D → Images) (faults : D → ℕ) (Ear : an_ear.Ghosts E C) (Attended : Attending C K) (starts : List Body → Type 0) (start : World) (first : ℕ)
@@ -91,7 +135,7 @@ module _ {D N E C K : Type 0} (may_leave : D → Images) (faults : D → ℕ) (E
     by_end (Err fault.Failed) given came = inr (serves Door Ear Attended bound loops count old mid new ears ears' many counted hears same made gathers (Among (EarFailed Ear)) came)
     by_end (Err fault.Spent) given came = serves Door Ear Attended bound loops count old mid new ears ears' many counted hears same made gathers (Among (IsUsedUp ((2 ^ 32 - 2) / loops))) came
     by_end (Err fault.Disk) given came = came
-    by_end (Err fault.Full) given came = tt
+    by_end (Err fault.Full) given came = came
     by_end (Err fault.Astray) given came = tt
     by_end (Err fault.Memory) given came = tt
 

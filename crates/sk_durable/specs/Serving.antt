@@ -1,10 +1,12 @@
 -- How a server over a store that a file keeps ends.
-use Rattle.std.specs.Prelude.{◌≡◌, ◌-◌, ◌/◌, ◌^◌, ◌+◌, ℕ, List, Option, Some, Result, Ok, Err, IfSome, true}
+use Rattle.std.specs.Prelude.{◌≡◌, ◌⊎◌, ◌-◌, ◌/◌, ◌^◌, ◌+◌, ℕ, List, Option, None, Some, Result, Ok, Err, IfSome, IsSomeAnd, true}
 use Rattle.sk_base.specs.Outside.{Rose}
 use Rattle.sk_base.specs.declared.clock.Clock as a_clock
 use Rattle.sk_base.specs.declared.sink.Sink as a_sink
 use Rattle.sk_base.specs.declared.source.Source as a_source
-use Rattle.sk_commit.specs.Shared.{HasBehind}
+use Rattle.sk_commit.specs.Shared.{HasBehind, KeepsSome, Overflows}
+use Rattle.sk_commit.specs.declared.broken.Halt.{Halt}
+use Rattle.sk_commit.specs.declared.broken.Halt.TheVariants as halt
 use Rattle.sk_commit.specs.declared.log_id.LogId as a_log_id
 use Rattle.sk_desk.specs.State.{IsBalanced, pushed_in}
 use Rattle.sk_desk.specs.Writing.{IsWritten}
@@ -24,7 +26,7 @@ use Rattle.sk_serve.specs.declared.serve_end.ServeFault.{ServeFault}
 use Rattle.sk_serve.specs.declared.serve_end.ServeFault.TheVariants as serve_fault
 use Rattle.sk_serve.specs.declared.serve_end.Served.{Served}
 use Rattle.sk_status.specs.declared.tally.Tally.{Tally}
-use Rattle.sk_durable.specs.Writes.{SettlerView, SpellsBody}
+use Rattle.sk_durable.specs.Writes.{IsKeptLog, SettlerView, SpellsBody}
 use Rattle.sk_durable.specs.declared.server.KeptEnd.{KeptEnd}
 use Rattle.sk_durable.specs.declared.server.KeptFault.{KeptFault}
 use Rattle.sk_durable.specs.declared.server.KeptFault.TheVariants as fault
@@ -34,7 +36,7 @@ use Rattle.sk_durable.specs.declared.server.KeptStore.{KeptStore}
 abbrev pub settling : a_settler.Ghosts SettlerView
 settling = record { settled = λ s. s.settled; settle_faults = λ s. s.faults }
 
--- The session's replies waited for a settler.
+-- The session's replies waited for a settler, each time until it had settled.
 abbrev pub Waited : {C K : Type 0} → a_source.Ghosts C → a_sink.Ghosts C → a_clock.Ghosts K → Attending C K
 Waited Source Sink Clock = Attends true true Source Sink Clock settling
 
@@ -68,19 +70,33 @@ module _ {D : Type 0} (may_leave : D → Images) (starts : List Body → Type 0)
     pub tally_is : s.tally ≡ tally_of world
     pub all : HasAll world disk
 
--- one of the faults of a log
-abbrev pub IsOfLog : KeptFault → Type 0
-IsOfLog fault.Disk = Unit {0}
-IsOfLog fault.Full = Unit {0}
-IsOfLog fault.Astray = Unit {0}
-IsOfLog other = ⊥
+-- Whatever a crash at any moment since this disk might have left is a log of what the file was, whose gate stood there, and behind that of what a log
+-- keeps of some run from this world. So it is of the disk that is given back.
+abbrev pub OutlivesCrashes : {D : Type 0} → a_disk.Ghosts D → ℕ → World → D → Option D → Type 0
+OutlivesCrashes Disk gate start disk given =
+    IfSome given (KeepsSome Disk.moment Disk.left_since (λ events. IsAt events gate (Disk.may_leave disk)) (λ bodies. IsKeptLog start bodies) (Disk.moment disk))
 
--- Where the disk's failure ended the log, its count rose above the first, if the disk is given back.
-pub record IsHalted {D : Type 0} (faults : D → ℕ) (first : ℕ) (e : KeptEnd D) : Type 0 where
-  pub why : KeptFault
-  pub is : e.end ≡ Err why
-  pub of_log : IsOfLog why
-  pub disk : why ≡ fault.Disk → IfSome e.disk (λ disk. Rose first (faults disk))
+-- The end of a log is told so: that nothing more could be logged, as want of memory, where it was that.
+abbrev pub IsToldAs : Halt → KeptFault → Type 0
+IsToldAs halt.Disk told = told ≡ fault.Disk
+IsToldAs halt.Full told = told ≡ fault.Full
+IsToldAs halt.Astray told = (told ≡ fault.Astray) ⊎ (told ≡ fault.Memory)
+
+module _ {D J : Type 0} (Disk : a_disk.Ghosts D) (Log : a_log_id.Ghosts J) where
+  -- The log on this disk ended for that cause, and has outlived each crash.
+  pub record IsBroken (why : Halt) (disk : D) : Type 0 where
+    pub failed : why ≡ halt.Disk → Rose Log.faults (Disk.disk_faults disk)
+    pub full : why ≡ halt.Full → Overflows Log.starts Log.holds
+    pub left : KeepsSome Disk.moment Disk.left_since Log.starts Log.holds Log.since disk
+
+  -- The log's end is told.
+  abbrev TellsHalt : Halt → KeptEnd D → Type 0
+  TellsHalt why e = (told : KeptFault) × (e.end ≡ Err told) × IsToldAs why told
+
+  -- A log ended so: that is told, and its disk is given back. Where nobody has the file, nothing more could be logged.
+  abbrev pub IsHalted : Option Halt → KeptEnd D → Type 0
+  IsHalted None e = TellsHalt halt.Astray e × (e.disk ≡ None)
+  IsHalted (Some why) e = TellsHalt why e × IsSomeAnd e.disk (IsBroken why)
 
 -- what a fault of the door is, where it gave no ears
 abbrev pub unheard_fault : DoorFault → KeptFault
@@ -96,12 +112,14 @@ pub record IsServedOn {E C K : Type 0} (Ear : an_ear.Ghosts E C) (start : World)
   pub balanced : IsBalanced s.tally
 
 module _ {D E C K : Type 0} (may_leave : D → Images) (faults : D → ℕ) (Ear : an_ear.Ghosts E C) (Attended : Attending C K) (starts : List Body → Type 0) (start : World) (first : ℕ) where
-  -- The loops over these ears ended so, and then the log. Nothing says when there is no memory, or when nothing more can be logged.
+  -- The loops over these ears ended so, and then the log. Where the disk failed, it is given back, and its count rose above the first; where the file is
+  -- full, there is no room for the next records of a run. Nothing says when there is no memory, or when nothing more can be logged.
   abbrev pub KeptEnds : (bound loops : ℕ) → List E → List E → Result Served KeptFault → Option D → Type 0
   KeptEnds bound loops ears ears' (Ok s) given = Became Ear Attended ears ears' (IsServedOn Ear start bound loops s) × KeepsAll may_leave starts start s given
   KeptEnds bound loops ears ears' (Err fault.Failed) given = EndedAt Ear Attended loops ears ears' serve_fault.Failed
   KeptEnds bound loops ears ears' (Err fault.Spent) given = EndedAt Ear Attended loops ears ears' serve_fault.Spent
-  KeptEnds bound loops ears ears' (Err fault.Disk) given = IfSome given (λ disk. Rose first (faults disk))
+  KeptEnds bound loops ears ears' (Err fault.Disk) given = IsSomeAnd given (λ disk. Rose first (faults disk))
+  KeptEnds bound loops ears ears' (Err fault.Full) given = Overflows starts (λ bodies. IsKeptLog start bodies)
   KeptEnds bound loops ears ears' (Err other) given = Unit {0}
 
   module _ {N : Type 0} (Door : a_door.Ghosts N C E) where
@@ -110,7 +128,8 @@ module _ {D E C K : Type 0} (may_leave : D → Images) (faults : D → ℕ) (Ear
     KeptServerEnds bound loops old new (Ok s) given = Serves Door Ear Attended loops old new (IsServedOn Ear start bound loops s) × KeepsAll may_leave starts start s given
     KeptServerEnds bound loops old new (Err fault.Failed) given = HasFailed Door Ear Attended loops old new
     KeptServerEnds bound loops old new (Err fault.Spent) given = HasSpent Door Ear Attended ((2 ^ 32 - 2) / loops) loops old new
-    KeptServerEnds bound loops old new (Err fault.Disk) given = IfSome given (λ disk. Rose first (faults disk))
+    KeptServerEnds bound loops old new (Err fault.Disk) given = IsSomeAnd given (λ disk. Rose first (faults disk))
+    KeptServerEnds bound loops old new (Err fault.Full) given = Overflows starts (λ bodies. IsKeptLog start bodies)
     KeptServerEnds bound loops old new (Err other) given = Unit {0}
 
 -- ## What is said of the calls

@@ -1,14 +1,16 @@
 //! A shared store whose events are logged: what its book writes waits behind the store's own lock, and a settler has it stored before replies are handed
-//! on. No clause can say through a lock that a mark has all that its session did before; that what is stored then is what a log keeps of a run of the
-//! store from the start on, the clauses say.
+//! on, or a thread of its own stores it from time to time. No clause can say through a lock that a mark has all that its session did before; that what is
+//! stored then is what a log keeps of a run of the store from the start on, and that each crash leaves such a log, the clauses say.
 #![tactic(auto)]
 
+mod flush_timer;
 mod hub_backlog;
 mod log_book;
 mod log_settler;
 mod log_settlers;
 mod server;
 
+pub use flush_timer::FlushTimer;
 pub use hub_backlog::HubBacklog;
 pub use log_book::LogBook;
 pub use log_settler::LogSettler;

@@ -10,7 +10,7 @@ ghost use Rattle.sk_durable.specs.Writes.{HasDraft, SpellsBody};
 use sk_aof::{cut_record, draft_record};
 use sk_commit::{LogId, Pending, Prefix, Taken};
 use sk_desk::{Book, Effect, Outbox, Stamp};
-use sk_log::{Group, Record};
+use sk_log::{Group, LogFault, Record};
 use sk_resp::{Memory, Reply, Words};
 use std::alloc::Global;
 use std::marker::Model;
@@ -22,6 +22,8 @@ pub struct LogBook<J: LogId> {
     alloc: Global,
     pending: Pending<J>,
     ended: bool,
+    // it ended for want of memory
+    starved: bool,
 }
 
 impl<J: LogId> Model for LogBook<J> {
@@ -44,7 +46,13 @@ impl<J: LogId> LogBook<J> {
             alloc,
             pending,
             ended: false,
+            starved: false,
         }
+    }
+
+    /// Whether nothing can be written any more since there was no memory for the record of a cut.
+    pub fn is_starved(&self) -> bool {
+        self.starved
     }
 
     // Drafts the record of a command.
@@ -104,8 +112,9 @@ impl<J: LogId> Book for LogBook<J> {
 
     fn quit(&mut self, _seat: u32, place: Record) {
         self.pending.drop_draft();
-        if self.pending.log(place).is_err() {
+        if let Err(fault) = self.pending.log(place) {
             self.ended = true;
+            self.starved = matches!(fault, LogFault::Memory);
         }
     }
 

@@ -1,7 +1,7 @@
 // The settlers of a server whose events are logged.
 ghost use Rattle.std.specs.Prelude.{◌≡◌, IfSome, IsSome, true, false};
 
-use crate::{HubBacklog, LogSettler};
+use crate::{FlushTimer, HubBacklog, LogSettler};
 use sk_commit::{Committer, LogId};
 use sk_desk::HubId;
 use sk_disk::Disk;
@@ -14,6 +14,7 @@ pub struct LogSettlers<'a, R: Wait, D: Disk + Drop, I: HubId, J: LogId> {
     rt: &'a R,
     backlog: &'a HubBacklog<'a, I, J>,
     committer: &'a Committer<D, J>,
+    timer: &'a FlushTimer,
 }
 
 impl<'a, R: Wait, D: Disk + Drop, I: HubId, J: LogId> LogSettlers<'a, R, D, I, J> {
@@ -22,11 +23,13 @@ impl<'a, R: Wait, D: Disk + Drop, I: HubId, J: LogId> LogSettlers<'a, R, D, I, J
         rt: &'a R,
         backlog: &'a HubBacklog<'a, I, J>,
         committer: &'a Committer<D, J>,
+        timer: &'a FlushTimer,
     ) -> LogSettlers<'a, R, D, I, J> {
         LogSettlers {
             rt,
             backlog,
             committer,
+            timer,
         }
     }
 }
@@ -37,6 +40,6 @@ impl<'a, R: Wait, D: Disk + Drop, I: HubId, J: LogId> Settlers for LogSettlers<'
     ghost holds_back = { true };
 
     fn settler(&self) -> Option<LogSettler<'a, R, D, I, J>> {
-        Some(LogSettler::new(self.rt, self.backlog, self.committer))
+        Some(LogSettler::new(self.rt, self.backlog, self.committer, self.timer))
     }
 }

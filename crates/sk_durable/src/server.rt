@@ -1,14 +1,16 @@
 // A server over a store that a file keeps: accept loops in threads over one store and one log, whose replies wait until what was done before them is in
-// the file. Once the loops have ended, what waits still is stored, and the store and the file are closed.
+// the file, or a thread beside them that stores it from time to time. Once the loops have ended, what waits still is stored, and the store and the file
+// are closed.
 ghost use Rattle.std.specs.Prelude.{◌≡◌, ◌<◌, ◌≤◌, ◌+◌, ◌-◌, ◌^◌, [], Some, Ok, Err, IfOk, IfErr, IfSome, vec_len};
 ghost use Rattle.sk_base.specs.Outside.{Rose};
-ghost use Rattle.sk_commit.specs.Shared.{IsStart};
+ghost use Rattle.sk_commit.specs.Shared.{IsStart, KeepsSome};
 ghost use Rattle.sk_desk.specs.Counts.{blank_share};
 ghost use Rattle.sk_desk.specs.Pass.{pass_of};
-ghost use Rattle.sk_durable.specs.Serving.{EndsSo, HasAll, IsHalted, KeptServed, NamedEnds, Waited, WaitedEnded, unheard_fault};
+ghost use Rattle.sk_durable.specs.Serving.{EndsSo, HasAll, IsHalted, IsToldAs, KeptServed, NamedEnds, OutlivesCrashes, Waited, WaitedEnded, unheard_fault};
 ghost use Rattle.sk_durable.specs.Writes.{TellsOf};
 
-use crate::{HubBacklog, LogBook, LogSettlers};
+use crate::flush_timer::flush;
+use crate::{FlushTimer, HubBacklog, LogBook, LogSettlers};
 use sk_base::Clock;
 use sk_base::limits::MOST_LOOPS_SERVED;
 use sk_commit::{Broken, Committer, Halt, LogId, NewHistory, Pending, Stored};
@@ -22,14 +24,18 @@ use sk_status::Tally;
 use std::alloc::Global;
 use std::marker::Brand;
 use std::sync::Wait;
-use std::thread::Threads;
+use std::thread::{self, Threads};
+use std::time;
 
-/// A store, the log that keeps it, and the disk that this is on.
+/// A store, the log that keeps it, the disk that this is on, and when what is logged goes there.
 #[derive(Drop)]
 pub struct KeptStore<D: Disk + Drop> {
     pub core: Core,
     pub log: Log,
     pub disk: D,
+    /// None: each reply waits until all that was logged before it is stored. Else replies don't wait, and what is logged is stored so many milliseconds
+    /// after one another: a crash loses what was done since the last time.
+    pub sync_every: Option<u32>,
 }
 
 /// Why a server over a kept store ended before it was done. Of several causes it is the first of these.
@@ -37,15 +43,15 @@ pub struct KeptStore<D: Disk + Drop> {
 pub enum KeptFault {
     /// The disk failed: its count of faults rose.
     Disk,
-    /// The file would have more than 2^50 bytes.
+    /// With the next records the file would have more than 2^50 bytes.
     Full,
-    /// Nothing more could be logged. No clause says when this comes; but for want of memory for the record of a cut, nothing makes it.
+    /// Nothing more could be logged. No clause says when this comes, and nothing makes it: a history is written by its server alone.
     Astray,
     /// The door or an ear failed: its count of faults rose.
     Failed,
     /// A loop had used up its seats' numbers when it accepted one more connection.
     Spent,
-    /// There was no memory. Nothing says when this comes.
+    /// There was no memory: to begin with, for a seat, or for the record of a cut. Nothing says when this comes.
     Memory,
 }
 
@@ -79,6 +85,7 @@ fn store_last<I: HubId, J: LogId, D: Disk + Drop>(
 ) -> Result<D, Broken<D, J>>
     requires { TellsOf I.start J.holds }
     ensures all { IfOk result (λ disk. HasAll D.may_leave J.starts I.start closed.old.world disk) }
+    ensures left { IfOk result (KeepsSome D.moment D.left_since J.starts J.holds J.since) }
     ensures same { closed.new ≡ closed.old }
 {
     let Some(taken) = closed.book.take(spare) else {
@@ -97,6 +104,7 @@ fn close_file<I: HubId, J: LogId, D: Disk + Drop>(
 ) -> Result<D, Option<Broken<D, J>>>
     requires { TellsOf I.start J.holds }
     ensures all { IfOk result (λ disk. HasAll D.may_leave J.starts I.start closed.old.world disk) }
+    ensures left { IfOk result (KeepsSome D.moment D.left_since J.starts J.holds J.since) }
     ensures same { closed.new ≡ closed.old }
 {
     let stored = committer.close()?;
@@ -106,34 +114,42 @@ fn close_file<I: HubId, J: LogId, D: Disk + Drop>(
     }
 }
 
+// What the end of a log is told as, whose book was starved of memory or wasn't.
+fn halt_fault(why: Halt, starved: bool) -> KeptFault
+    ensures { IsToldAs why result }
+{
+    match why {
+        Halt::Disk => KeptFault::Disk,
+        Halt::Full => KeptFault::Full,
+        Halt::Astray if starved => KeptFault::Memory,
+        Halt::Astray => KeptFault::Astray,
+    }
+}
+
 // The end of a server whose log has ended.
-fn halted<J: LogId, D: Disk + Drop>(broken: Option<Broken<D, J>>) -> KeptEnd<D>
-    ensures { IsHalted D.disk_faults J.faults result }
+fn halted<J: LogId, D: Disk + Drop>(broken: Option<Broken<D, J>>, starved: bool) -> KeptEnd<D>
+    ensures { IsHalted D.Disk J.LogId broken result }
 {
     let Some(broken) = broken else {
         return KeptEnd {
-            end: Err(KeptFault::Astray),
+            end: Err(halt_fault(Halt::Astray, starved)),
             disk: None,
         };
     };
     let (disk, why) = broken.into_parts();
-    let fault = match why {
-        Halt::Disk => KeptFault::Disk,
-        Halt::Full => KeptFault::Full,
-        Halt::Astray => KeptFault::Astray,
-    };
     KeptEnd {
-        end: Err(fault),
+        end: Err(halt_fault(why, starved)),
         disk: Some(disk),
     }
 }
 
-// The loops, each of whose sessions has a settler of its own.
+// The loops, each of whose sessions has a settler of its own. No more times come for a flush once they have ended.
 fn run_loops<I, J, R, D, E, K, G>(
     rt: &R,
     alloc: Global,
     hub: &Hub<I, LogBook<J>>,
     committer: &Committer<D, J>,
+    timer: &FlushTimer,
     pass: &mut Pass<I>,
     ears: &mut Vec<E>,
     sessions: u64,
@@ -157,12 +173,102 @@ where
 {
     let others = ears.len() - 1;
     let backlog = HubBacklog::new(hub);
-    let settlers = LogSettlers::new(rt, &backlog, committer);
-    serve_at(
+    let settlers = LogSettlers::new(rt, &backlog, committer, timer);
+    let ended = serve_at(
         &Shared::new(rt, alloc, hub, &settlers, gate, others, sessions),
         pass,
         ears,
         clock,
+    );
+    timer.end(rt);
+    ended
+}
+
+// The loops, and beside them a thread that stores what is logged at the timer's times. Where none can be made, replies wait.
+fn run_beside<I, J, R, D, E, K, G>(
+    rt: &R,
+    alloc: Global,
+    hub: &Hub<I, LogBook<J>>,
+    committer: &Committer<D, J>,
+    timer: &FlushTimer,
+    pass: &mut Pass<I>,
+    ears: &mut Vec<E>,
+    sessions: u64,
+    clock: &K,
+    gate: &G,
+) -> Result<u64, ServeFault>
+where
+    I: HubId + Send + Sync,
+    J: LogId + Send + Sync,
+    R: Threads + Wait + time::Clock + Sync,
+    D: Disk + Drop + Send,
+    E: Ear + Send,
+    K: Clock + Send,
+    G: Gate + Sync,
+    requires tells { TellsOf I.start J.holds }
+    requires pass { pass.old ≡ pass_of 0 (2 ^ 32 - 1) (blank_share (2 ^ 34)) }
+    requires ears { (0 < vec_len ears.old) × (vec_len ears.old ≤ MOST_LOOPS_SERVED) }
+    ensures parts { pass.new.parts ≡ pass.old.parts }
+    ensures ended { WaitedEnded E.Ear E.Conn.Source E.Conn.Sink K.Clock
+        sessions (vec_len ears.old) pass.new.amount ears.old.items ears.new.items result }
+{
+    let (_, ended) = thread::join_mut(
+        rt,
+        &mut ||
+            requires { TellsOf I.start J.holds }
+        { flush(rt, hub, committer, timer) },
+        &mut ||
+            requires tells { TellsOf I.start J.holds }
+            requires pass { pass.now ≡ pass_of 0 (2 ^ 32 - 1) (blank_share (2 ^ 34)) }
+            requires ears { (0 < vec_len ears.now) × (vec_len ears.now ≤ MOST_LOOPS_SERVED) }
+            ensures parts { pass.exit.now.parts ≡ pass.entry.now.parts }
+            ensures ended { WaitedEnded E.Ear E.Conn.Source E.Conn.Sink K.Clock
+                sessions (vec_len ears.entry.now) pass.exit.now.amount ears.entry.now.items ears.exit.now.items result }
+        {
+            run_loops(
+                rt, alloc, hub, committer, timer, pass, ears, sessions, clock, gate,
+            )
+        },
+    );
+    ended
+}
+
+// The loops over this store and this log. What is logged is stored so many milliseconds after one another, where that isn't None.
+fn run_all<I, J, R, D, E, K, G>(
+    rt: &R,
+    alloc: Global,
+    hub: &Hub<I, LogBook<J>>,
+    committer: &Committer<D, J>,
+    sync_every: Option<u32>,
+    pass: &mut Pass<I>,
+    ears: &mut Vec<E>,
+    sessions: u64,
+    clock: &K,
+    gate: &G,
+) -> Result<u64, ServeFault>
+where
+    I: HubId + Send + Sync,
+    J: LogId + Send + Sync,
+    R: Threads + Wait + time::Clock + Sync,
+    D: Disk + Drop + Send,
+    E: Ear + Send,
+    K: Clock + Send,
+    G: Gate + Sync,
+    requires tells { TellsOf I.start J.holds }
+    requires pass { pass.old ≡ pass_of 0 (2 ^ 32 - 1) (blank_share (2 ^ 34)) }
+    requires ears { (0 < vec_len ears.old) × (vec_len ears.old ≤ MOST_LOOPS_SERVED) }
+    ensures parts { pass.new.parts ≡ pass.old.parts }
+    ensures ended { WaitedEnded E.Ear E.Conn.Source E.Conn.Sink K.Clock
+        sessions (vec_len ears.old) pass.new.amount ears.old.items ears.new.items result }
+{
+    let timer = FlushTimer::new(sync_every.unwrap_or(0));
+    if sync_every.is_some() {
+        return run_beside(
+            rt, alloc, hub, committer, &timer, pass, ears, sessions, clock, gate,
+        );
+    }
+    run_loops(
+        rt, alloc, hub, committer, &timer, pass, ears, sessions, clock, gate,
     )
 }
 
@@ -184,6 +290,21 @@ fn end_of(
     }
 }
 
+// The end of a server that had no memory to begin with. Nothing was done to its disk.
+fn starved<J: LogId, D: Disk + Drop>(log: &Log, disk: D) -> KeptEnd<D>
+    requires holds { J.holds [] }
+    requires start { IsStart J.starts log.now (D.may_leave disk) }
+    requires since { D.moment disk ≡ J.since }
+    ensures end { result.end ≡ Err KeptFault.Memory }
+    ensures left { IfSome result.disk (KeepsSome D.moment D.left_since J.starts J.holds J.since) }
+{
+    let _ = log;
+    KeptEnd {
+        end: Err(KeptFault::Memory),
+        disk: Some(disk),
+    }
+}
+
 // Serves over these ears from the store, and has them back at the end. The hub is that of `I`, and the log that of `J`.
 fn serve_on<I, J, R, D, E, K, G>(
     rt: &R,
@@ -198,7 +319,7 @@ fn serve_on<I, J, R, D, E, K, G>(
 where
     I: HubId + Send + Sync,
     J: LogId + Send + Sync,
-    R: Threads + Wait + Sync,
+    R: Threads + Wait + time::Clock + Sync,
     D: Disk + Drop + Send,
     E: Ear + Send,
     K: Clock + Send,
@@ -208,33 +329,38 @@ where
     requires id { named.1 ≡ J.book }
     requires start { IsStart J.starts store.log (D.may_leave store.disk) }
     requires count { D.disk_faults store.disk ≡ J.faults }
+    requires since { D.moment store.disk ≡ J.since }
     requires holds { J.holds [] }
     requires tells { TellsOf I.start J.holds }
     requires ears { (0 < vec_len ears.old) × (vec_len ears.old ≤ MOST_LOOPS_SERVED) }
-    ensures { NamedEnds D.Disk E.Ear E.Conn.Source E.Conn.Sink K.Clock J.LogId I.start
+    ensures ended { NamedEnds D.Disk E.Ear E.Conn.Source E.Conn.Sink K.Clock J.LogId I.start
         sessions (vec_len ears.old) ears.old.items ears.new.items result }
+    ensures left { IfSome result.disk (KeepsSome D.moment D.left_since J.starts J.holds J.since) }
 {
-    let KeptStore { core, log, disk } = store;
+    let KeptStore {
+        core,
+        log,
+        disk,
+        sync_every,
+    } = store;
     let (Ok(first), Ok(spare), Ok(last)) = (Group::new(alloc), Group::new(alloc), Group::new(alloc))
     else {
-        return KeptEnd {
-            end: Err(KeptFault::Memory),
-            disk: Some(disk),
-        };
+        return starved::<J, D>(&log, disk);
     };
     let (history, prefix) = named.1.named::<J>();
     let committer = Committer::new(Stored::new(disk, log, prefix.again()), spare);
     let book = LogBook::new(alloc, Pending::new(history, prefix, first));
     let (hub, mut pass) = Hub::<I, LogBook<J>>::over(named.0, core, book);
-    let ended = run_loops(
-        rt, alloc, &hub, &committer, &mut pass, ears, sessions, clock, gate,
+    let ended = run_all(
+        rt, alloc, &hub, &committer, sync_every, &mut pass, ears, sessions, clock, gate,
     );
     let mut closed = hub.close();
     let file = close_file(&mut closed, committer, last);
+    let starved = closed.book.is_starved();
     let (acknowledged, tally) = closed.finish(&mut pass);
     let disk = match file {
         Ok(disk) => disk,
-        Err(broken) => return halted(broken),
+        Err(broken) => return halted(broken, starved),
     };
     KeptEnd {
         end: end_of(ended, acknowledged, tally),
@@ -254,12 +380,14 @@ fn unheard_at(fault: DoorFault) -> KeptFault
 
 // The end of a server whose door gave no ears.
 fn unheard<D: Disk + Drop>(store: KeptStore<D>, fault: DoorFault) -> KeptEnd<D>
-    ensures { result.end ≡ Err (unheard_fault fault) }
+    ensures end { result.end ≡ Err (unheard_fault fault) }
+    ensures left { OutlivesCrashes D.Disk store.log store.core store.disk result.disk }
 {
     let KeptStore {
         core: _,
         log: _,
         disk,
+        sync_every: _,
     } = store;
     KeptEnd {
         end: Err(unheard_at(fault)),
@@ -268,10 +396,10 @@ fn unheard<D: Disk + Drop>(store: KeptStore<D>, fault: DoorFault) -> KeptEnd<D>
 }
 
 /// Serves connections at the port as [`sk_serve::serve`] does, from a store that a file keeps. Each reply is handed on once all that was logged before it
-/// is in the file: so it is of a beginning of the journal that stands there at every crash. The file is given back with the whole journal in it, unless the
-/// log has ended: then no reply is handed on any more, and the server ends.
+/// is in the file, unless that is stored from time to time. The file is given back with the whole journal in it, unless the log has ended: then no reply
+/// is handed on any more, and the server ends. Whichever it is, a crash at any moment leaves a beginning of the journal.
 pub fn serve_kept<
-    R: Threads + Wait + Sync,
+    R: Threads + Wait + time::Clock + Sync,
     D: Disk + Drop + Send,
     N: Door,
     K: Clock + Send,
@@ -293,6 +421,8 @@ where
     // The door gave an ear to each loop, which gave its connections in order. What was done is in the file.
     ensures ended { KeptServed D.Disk N.Ear.Ear (Waited N.Conn.Source N.Conn.Sink K.Clock) N.Door store
         sessions loops door.old door.new result }
+    // A crash at any moment of the call leaves a log of what the file was and, behind that, of what a log keeps of a run of the store.
+    ensures left { OutlivesCrashes D.Disk store.log store.core store.disk result.disk }
     ensures later { N.door_faults door.old ≤ N.door_faults door.new }
 {
     let mut ears = match door.listen(port, loops) {

@@ -63,6 +63,7 @@ fn log_two<I: LogId + Send + Sync, D: Disk + Drop + Send, R: Threads + Wait + Sy
     requires id { new ≡ I.book }
     requires start { IsStart I.starts file.1 (D.may_leave file.0) }
     requires count { D.disk_faults file.0 ≡ I.faults }
+    requires since { D.moment file.0 ≡ I.since }
     requires any { (history : List Body) → I.holds history }
 {
     let (disk, log) = file;

@@ -12,5 +12,6 @@ ghosts-serve_on-J-LogId g a = record {
   book = a.named.1;
   starts = λ events. IsAt events a.store.log (g.D.Disk.may_leave a.store.disk);
   faults = g.D.Disk.disk_faults a.store.disk;
+  since = g.D.Disk.moment a.store.disk;
   holds = λ bodies. IsKeptLog a.store.core bodies;
 }
