@@ -1,7 +1,7 @@
 #!/usr/bin/env python3
 """Kills `sidekiq serve --log FILE` by signal 9 while clients and workers are at it, and shows that nothing is lost that was answered.
 
-    bench/kept.py [--kills 200] [--rate 1000] [--clients 64] [--batch 16] [--works 4] [--seconds 1] [--folder DIR]
+    bench/kept.py [--kills 200] [--rate 600] [--clients 64] [--batch 16] [--works 4] [--seconds 1] [--folder DIR]
 
 The server is killed 0.05 to so many seconds behind its first replies, and started again on its file. Meanwhile these are at it, with so many records a
 second together:
@@ -274,7 +274,7 @@ def run(asked, path):
 def main():
     line = argparse.ArgumentParser(description=__doc__, formatter_class=argparse.RawDescriptionHelpFormatter)
     line.add_argument('--kills', type=int, default=200)
-    line.add_argument('--rate', type=float, default=1_000, help='records a second over all clients, half of them of jobs')
+    line.add_argument('--rate', type=float, default=600, help='records a second over all clients, half of them of jobs')
     line.add_argument('--clients', type=int, default=64)
     line.add_argument('--batch', type=int, default=16)
     line.add_argument('--works', type=int, default=4)
