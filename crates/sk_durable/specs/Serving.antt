@@ -1,5 +1,6 @@
 -- How a server over a store that a file keeps ends.
-use Rattle.std.specs.Prelude.{◌≡◌, ◌⊎◌, ◌-◌, ◌/◌, ◌^◌, ◌+◌, ℕ, List, Option, None, Some, Result, Ok, Err, IfSome, IsSomeAnd, true}
+use Rattle.std.specs.Prelude.{◌≡◌, ◌⊎◌, ◌-◌, ◌/◌, ◌^◌, ◌+◌, ℕ, List, Option, None, Some, Result, Ok, Err, IfSome, IsSomeAnd, true, vec_len}
+use Rattle.std_alloc.specs.declared.vec.Vec.{Vec}
 use Rattle.sk_base.specs.Outside.{Rose}
 use Rattle.sk_base.specs.declared.clock.Clock as a_clock
 use Rattle.sk_base.specs.declared.sink.Sink as a_sink
@@ -135,13 +136,13 @@ module _ {D E C K : Type 0} (may_leave : D → Images) (faults : D → ℕ) (Ear
 -- ## What is said of the calls
 
 -- The loops of a server ended so, whose sessions' replies waited.
-abbrev pub WaitedEnded : {E C K : Type 0} → an_ear.Ghosts E C → a_source.Ghosts C → a_sink.Ghosts C → a_clock.Ghosts K → (bound loops rows : ℕ) → List E → List E → Result ℕ ServeFault → Type 0
-WaitedEnded Ear Source Sink Clock bound loops rows ears ears' result = LoopsEnded Ear (Waited Source Sink Clock) bound loops rows ears ears' result
+abbrev pub WaitedEnded : {E C K Z : Type 0} → an_ear.Ghosts E C → a_source.Ghosts C → a_sink.Ghosts C → a_clock.Ghosts K → (bound rows : ℕ) → Vec E Z → Vec E Z → Result ℕ ServeFault → Type 0
+WaitedEnded Ear Source Sink Clock bound rows ears ears' result = LoopsEnded Ear (Waited Source Sink Clock) bound (vec_len ears) rows ears.items ears'.items result
 
 -- So did a server over a log that is named, from this world on.
-abbrev pub NamedEnds : {D E C J K : Type 0} → a_disk.Ghosts D → an_ear.Ghosts E C → a_source.Ghosts C → a_sink.Ghosts C → a_clock.Ghosts K → a_log_id.Ghosts J → World → (bound loops : ℕ) → List E → List E → KeptEnd D → Type 0
-NamedEnds Disk Ear Source Sink Clock Log start bound loops ears ears' e =
-    KeptEnds Disk.may_leave Disk.disk_faults Ear (Waited Source Sink Clock) Log.starts start Log.faults bound loops ears ears' e.end e.disk
+abbrev pub NamedEnds : {D E C J K Z : Type 0} → a_disk.Ghosts D → an_ear.Ghosts E C → a_source.Ghosts C → a_sink.Ghosts C → a_clock.Ghosts K → a_log_id.Ghosts J → World → (bound : ℕ) → Vec E Z → Vec E Z → KeptEnd D → Type 0
+NamedEnds Disk Ear Source Sink Clock Log start bound ears ears' e =
+    KeptEnds Disk.may_leave Disk.disk_faults Ear (Waited Source Sink Clock) Log.starts start Log.faults bound (vec_len ears) ears.items ears'.items e.end e.disk
 
 -- So did a server over this store, whose door gave the ears.
 abbrev pub KeptServed : {D N E C K : Type 0} → a_disk.Ghosts D → an_ear.Ghosts E C → Attending C K → a_door.Ghosts N C E → KeptStore D → (bound loops : ℕ) → N → N → KeptEnd D → Type 0

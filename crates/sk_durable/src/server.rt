@@ -169,7 +169,7 @@ where
     requires ears { (0 < vec_len ears.old) × (vec_len ears.old ≤ MOST_LOOPS_SERVED) }
     ensures parts { pass.new.parts ≡ pass.old.parts }
     ensures ended { WaitedEnded E.Ear E.Conn.Source E.Conn.Sink K.Clock
-        sessions (vec_len ears.old) pass.new.amount ears.old.items ears.new.items result }
+        sessions pass.new.amount ears.old ears.new result }
 {
     let others = ears.len() - 1;
     let backlog = HubBacklog::new(hub);
@@ -210,7 +210,7 @@ where
     requires ears { (0 < vec_len ears.old) × (vec_len ears.old ≤ MOST_LOOPS_SERVED) }
     ensures parts { pass.new.parts ≡ pass.old.parts }
     ensures ended { WaitedEnded E.Ear E.Conn.Source E.Conn.Sink K.Clock
-        sessions (vec_len ears.old) pass.new.amount ears.old.items ears.new.items result }
+        sessions pass.new.amount ears.old ears.new result }
 {
     let (_, ended) = thread::join_mut(
         rt,
@@ -223,7 +223,7 @@ where
             requires ears { (0 < vec_len ears.now) × (vec_len ears.now ≤ MOST_LOOPS_SERVED) }
             ensures parts { pass.exit.now.parts ≡ pass.entry.now.parts }
             ensures ended { WaitedEnded E.Ear E.Conn.Source E.Conn.Sink K.Clock
-                sessions (vec_len ears.entry.now) pass.exit.now.amount ears.entry.now.items ears.exit.now.items result }
+                sessions pass.exit.now.amount ears.entry.now ears.exit.now result }
         {
             run_loops(
                 rt, alloc, hub, committer, timer, pass, ears, sessions, clock, gate,
@@ -259,7 +259,7 @@ where
     requires ears { (0 < vec_len ears.old) × (vec_len ears.old ≤ MOST_LOOPS_SERVED) }
     ensures parts { pass.new.parts ≡ pass.old.parts }
     ensures ended { WaitedEnded E.Ear E.Conn.Source E.Conn.Sink K.Clock
-        sessions (vec_len ears.old) pass.new.amount ears.old.items ears.new.items result }
+        sessions pass.new.amount ears.old ears.new result }
 {
     let timer = FlushTimer::new(sync_every.unwrap_or(0));
     if sync_every.is_some() {
@@ -334,7 +334,7 @@ where
     requires tells { TellsOf I.start J.holds }
     requires ears { (0 < vec_len ears.old) × (vec_len ears.old ≤ MOST_LOOPS_SERVED) }
     ensures ended { NamedEnds D.Disk E.Ear E.Conn.Source E.Conn.Sink K.Clock J.LogId I.start
-        sessions (vec_len ears.old) ears.old.items ears.new.items result }
+        sessions ears.old ears.new result }
     ensures left { IfSome result.disk (KeepsSome D.moment D.left_since J.starts J.holds J.since) }
 {
     let KeptStore {
