@@ -6,7 +6,8 @@ ghost use mathlib.Core.List.{IsPrefix};
 use crate::{Backlog, Broken, Durable, LogId, Prefix, Stored};
 use sk_disk::Disk;
 use sk_log::Group;
-use std::sync::{Condvar, Mutex, MutexGuard, Wait};
+use std::sync::atomic::{AtomicBool, AtomicU64, Ordering};
+use std::sync::{Mutex, Wait};
 
 // A file that nobody writes just now, and a group for the next leader to leave behind.
 #[derive(Drop)]
@@ -15,10 +16,9 @@ struct Idle<D: Disk + Drop, I: LogId> {
     spare: Group,
 }
 
-// What is stored, and the file, unless a leader has it; or the file that takes no more.
+// The file, unless a leader has it; or the file that takes no more.
 #[derive(Drop)]
 struct Slot<D: Disk + Drop, I: LogId> {
-    durable: Durable<I>,
     file: Option<Idle<D, I>>,
     broken: Option<Broken<D, I>>,
     /// How many records are stored once the last leader is done,
@@ -28,11 +28,6 @@ struct Slot<D: Disk + Drop, I: LogId> {
 }
 
 impl<D: Disk + Drop, I: LogId> Slot<D, I> {
-    // So many records aren't stored yet, and somebody leads.
-    fn must_wait(&self, records: u64) -> bool {
-        self.durable.len() < records && self.file.is_none() && self.broken.is_none()
-    }
-
     // Whether who waits for so many records sleeps in the second crowd.
     fn sleeps_in_second(&self, records: u64) -> bool {
         if records <= self.led {
@@ -43,82 +38,133 @@ impl<D: Disk + Drop, I: LogId> Slot<D, I> {
     }
 }
 
+// What a thread does next that waits for the file.
+#[derive(Drop)]
+enum Turn<D: Disk + Drop, I: LogId> {
+    /// It leads,
+    Leads(Idle<D, I>),
+    /// or sleeps in a crowd that has been woken so often, modulo 2^32,
+    Sleeps { second: bool, woken: u32 },
+    /// or the log has ended.
+    Ended,
+}
+
 /// A log that many threads share. A leader takes the file out of its lock, and holds none while it writes.
 #[derive(Drop)]
 pub struct Committer<D: Disk + Drop, I: LogId> {
+    // what is in the file
+    durable: Mutex<Durable<I>>,
     slot: Mutex<Slot<D, I>>,
-    first: Condvar,
-    second: Condvar,
+    ended: AtomicBool,
+    // how often each crowd has been woken
+    first: AtomicU64,
+    second: AtomicU64,
 }
 
 impl<D: Disk + Drop, I: LogId> Committer<D, I> {
     /// Shares a file. The group is for the first leader to leave behind; what stands in it is taken out.
     pub fn new(stored: Stored<D, I>, spare: Group) -> Committer<D, I> {
         let durable = stored.durable();
-        let file = Some(Idle { stored, spare });
         let slot = Slot {
-            durable,
-            file,
+            file: Some(Idle { stored, spare }),
             broken: None,
             led: 0,
             second: false,
         };
         Committer {
+            durable: Mutex::new(durable),
             slot: Mutex::new(slot),
-            first: Condvar::new(),
-            second: Condvar::new(),
+            ended: AtomicBool::new(false),
+            first: AtomicU64::new(0),
+            second: AtomicU64::new(0),
         }
     }
 
     // One of the two crowds.
-    fn crowd(&self, second: bool) -> &Condvar {
+    fn crowd(&self, second: bool) -> &AtomicU64 {
         if second { &self.second } else { &self.first }
     }
 
-    // Puts the file back with what was stored, and wakes those who wait for that, and one who leads next.
-    fn put_back<R: Wait>(&self, rt: &R, stored: Stored<D, I>, spare: Group) -> Durable<I> {
-        let durable = stored.durable();
+    // Wakes one who leads next, if it has come to that.
+    fn wake_one(&self, second: bool) {
+        let crowd = self.crowd(second);
+        crowd.fetch_add(1, Ordering::SeqCst);
+        crowd.wake_one();
+    }
+
+    fn wake_all(&self, second: bool) {
+        let crowd = self.crowd(second);
+        crowd.fetch_add(1, Ordering::SeqCst);
+        crowd.wake_all();
+    }
+
+    // Tells how many records the leader has, with all that were stored before: who waits for one of them is of the other crowd now.
+    fn announce<R: Wait>(&self, rt: &R, records: u64) {
         let mut slot = self.slot.lock(rt);
-        slot.durable = durable.again();
+        slot.led = records;
+        slot.second = !slot.second;
+    }
+
+    // Puts the file back with what was stored, and wakes those who wait for that, and one who leads next.
+    fn put_back<R: Wait>(&self, rt: &R, stored: Stored<D, I>, spare: Group) {
+        *self.durable.lock(rt) = stored.durable();
+        let mut slot = self.slot.lock(rt);
         slot.file = Some(Idle { stored, spare });
         let second = slot.second;
         drop(slot);
-        self.crowd(second).notify_all();
-        self.crowd(!second).notify_one();
-        durable
+        self.wake_all(second);
+        self.wake_one(!second);
     }
 
     // Ends the log, and wakes all that sleep.
     fn end<R: Wait>(&self, rt: &R, broken: Broken<D, I>) {
         self.slot.lock(rt).broken = Some(broken);
-        self.first.notify_all();
-        self.second.notify_all();
+        self.ended.store(true, Ordering::SeqCst);
+        self.wake_all(false);
+        self.wake_all(true);
     }
 
-    // Takes what waits, and stores it.
-    fn lead<R: Wait, B: Backlog<I>>(
-        &self,
-        rt: &R,
-        backlog: &B,
-        slot: MutexGuard<'_, Slot<D, I>>,
-        idle: Idle<D, I>,
-    ) -> Option<Durable<I>> {
-        let mut slot = slot;
+    // Takes what waits, and stores it, or ends the log.
+    fn lead<R: Wait, B: Backlog<I>>(&self, rt: &R, backlog: &B, idle: Idle<D, I>) {
         let Idle { stored, spare } = idle;
         let Some(taken) = backlog.take(rt, spare) else {
-            drop(slot);
             self.end(rt, stored.give_up());
-            return None;
+            return;
         };
-        slot.led = taken.len();
-        slot.second = !slot.second;
-        drop(slot);
+        self.announce(rt, taken.len());
         match stored.store(taken) {
-            Ok((stored, spare)) => Some(self.put_back(rt, stored, spare)),
-            Err(broken) => {
-                self.end(rt, broken);
-                None
-            }
+            Ok((stored, spare)) => self.put_back(rt, stored, spare),
+            Err(broken) => self.end(rt, broken),
+        }
+    }
+
+    // What who waits for so many records does next.
+    fn turn<R: Wait>(&self, rt: &R, records: u64) -> Turn<D, I> {
+        let mut slot = self.slot.lock(rt);
+        if slot.broken.is_some() {
+            return Turn::Ended;
+        }
+        if let Some(idle) = slot.file.take() {
+            return Turn::Leads(idle);
+        }
+        let second = slot.sleeps_in_second(records);
+        let woken = self.crowd(second).load(Ordering::SeqCst);
+        Turn::Sleeps {
+            second,
+            woken: (woken & 0xffff_ffff) as u32,
+        }
+    }
+
+    // What is in the file, where it has all that was seen.
+    fn found<R: Wait>(&self, rt: &R, me: &Prefix<I>) -> Option<Durable<I>>
+        ensures has { IfSome result (λ durable. IsPrefix me.now durable) }
+        ensures holds { IfSome result (λ durable. I.holds durable) }
+    {
+        let durable = self.durable.lock(rt);
+        if durable.reaches(me) {
+            Some(durable.again())
+        } else {
+            None
         }
     }
 
@@ -133,43 +179,43 @@ impl<D: Disk + Drop, I: LogId> Committer<D, I> {
         ensures has { IfSome result (λ durable. IsPrefix me.now durable) }
         ensures holds { IfSome result (λ durable. I.holds durable) }
     {
-        let records = me.len();
-        let slot = self.slot.lock(rt);
-        let crowd = self.crowd(slot.sleeps_in_second(records));
-        let mut slot = crowd.wait_while(rt, slot, |slot| slot.must_wait(records));
-        if slot.durable.reaches(me) {
-            return Some(slot.durable.again());
+        for _ in rt.forever() {
+            if let Some(durable) = self.found(rt, me) {
+                return Some(durable);
+            }
+            match self.turn(rt, me.len()) {
+                Turn::Leads(idle) => {
+                    self.lead(rt, backlog, idle);
+                    return self.found(rt, me);
+                }
+                Turn::Sleeps { second, woken } => self.crowd(second).park(rt, woken),
+                Turn::Ended => return None,
+            }
         }
-        let idle = slot.file.take()?;
-        let durable = self.lead(rt, backlog, slot, idle)?;
-        if durable.reaches(me) {
-            Some(durable)
-        } else {
-            None
-        }
+        unreachable!()
     }
 
     /// What is in the file just now. None where the log has ended.
     pub fn stored<R: Wait>(&self, rt: &R) -> Option<Durable<I>>
         ensures { IfSome result (λ durable. I.holds durable) }
     {
-        let slot = self.slot.lock(rt);
-        if slot.broken.is_some() {
+        if self.ended.load(Ordering::SeqCst) {
             return None;
         }
-        Some(slot.durable.again())
+        Some(self.durable.lock(rt).again())
     }
 
     /// The file, once nobody shares the log; or the one that takes no more, where the log has ended. Neither is there only where a leader has it, and no
     /// leader is left then.
     pub fn close(self) -> Result<Stored<D, I>, Option<Broken<D, I>>> {
         let Committer {
+            durable: _,
             slot,
+            ended: _,
             first: _,
             second: _,
         } = self;
         let Slot {
-            durable: _,
             file,
             broken,
             led: _,

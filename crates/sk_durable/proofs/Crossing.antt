@@ -27,11 +27,14 @@ book_send_row J j send sync = search (sendable, crosses, book_send) depth 60 fit
 backlog_sync : (a : _) (L J : RattleType) (l : _) (j : _) → IsSend J → IsSync J → IsSync (HubBacklog.the_field a L J l j).row
 backlog_sync a L J l j send sync = search (sendable, crosses, hub_sync, book_send_row) depth 60 fits 5000
 
-committer_sync : (D J : RattleType) (d : _) (j : _) → IsSend D → IsSend J → IsSync J → IsSync (Committer.the_field D J d j).row
-committer_sync D J d j disk send sync = search (sendable, crosses, seen_send) depth 100 fits 10000
-
 durable_send : (J : RattleType) (j : _) → IsSend J → IsSync J → IsSend (Durable.the_field J j).row
 durable_send J j send sync = search (sendable, crosses, seen_send) depth 60 fits 5000
+
+durable_send_row : (J : RattleType) (j : _) → IsSend J → IsSync J → IsSend (Durable.the_row J j)
+durable_send_row J j send sync = search (sendable, crosses, durable_send) depth 60 fits 5000
+
+committer_sync : (D J : RattleType) (d : _) (j : _) → IsSend D → IsSend J → IsSync J → IsSync (Committer.the_field D J d j).row
+committer_sync D J d j disk send sync = search (sendable, crosses, seen_send, durable_send_row) depth 100 fits 10000
 
 settler_send : (a : _) (R D L J : RattleType) (d : _) (l : _) (j : _) → IsSync R → IsSend D → IsSend J → IsSync J → IsSend (LogSettler.the_field a R D L J d l j).row
 settler_send a R D L J d l j r disk send sync = search (sendable, crosses, backlog_sync, committer_sync, durable_send) depth 60 fits 5000
