@@ -108,11 +108,23 @@ done_stage text work done = was_not (is_held_stage work.stage) (both (not (is_he
   was_not true e = absurd (cc e)
   was_not false e = refl
 
+-- the first that is done as a text has this text
+pub done_payload : (text : Bytes) (works : List Work) (work : Work) → first (is_done_as text) works ≡ Some work → work.payload ≡ text
+done_payload text works work there = done_text text work (first_passes (is_done_as text) works work there)
+
 -- what a client's seat may do
 pub plain_is : (phase : Phase) (o : Outcome) → phase ≡ Plain → where_plain phase o ≡ o
 plain_is phase o is = ap (λ ph. where_plain ph o) is
 
 -- ## The release
+
+-- the rows stay where the job of a work ends
+pub rows_stay : (work : Work) (p : Placed) → (ended_by work p).rows ≡ p.rows
+rows_stay work p = by_stage work.stage where
+  by_stage : (stage : Stage) → (ended_at stage work.payload p).rows ≡ p.rows
+  by_stage Held = refl
+  by_stage Put = refl
+  by_stage (Settled end) = refl
 
 -- a work of this text, at a stage, is released
 freed_is : (w : World) (p : Placed) (phases : Phases) (ident text payload : Bytes) (stage : Stage) → is_held_stage stage ≡ false → payload ≡ text

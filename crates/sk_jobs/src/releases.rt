@@ -16,6 +16,7 @@ use crate::callbacks::word_of;
 use crate::in_flight::find_held;
 use sk_base::Score;
 use sk_cmd::Side;
+use sk_payload::Payload;
 use sk_places::{Ending, Place, Places};
 use sk_resp::{Memory, Refusal, Reply, Text, Word};
 use sk_seats::{End, Phase, Stage, Work};
@@ -58,10 +59,10 @@ pub fn release(store: &mut Store, seat: u32, ident: Word, text: &Word) -> Reply
     let Some(at) = works.find_done(text.bytes()) else {
         return refused(Refusal::OutOfTurn);
     };
+    let work = works.get(at);
+    end_job(&mut store.places, work);
     let list = Place::Private(ident);
-    let was = store.places.find(&list, text.bytes()).is_some();
-    end_job(&mut store.places, works.get(at));
-    store.places.take_copy(&list, text);
+    let was = store.places.take_copy(&list, &work.payload);
     store.seats.release(seat, at);
     one_if(was)
 }
@@ -85,6 +86,17 @@ fn way_back(
     Ok(Some((word_of(alloc, ident)?, head.queue.copy()?)))
 }
 
+// The payload of a job of this text that a seat holds.
+fn held_payload<'a>(phase: &'a Phase, text: &Word, at: usize) -> &'a Payload
+    requires { IsFound (is_held_as text.now) phase.now at }
+    ensures { result.now ≡ text.now }
+{
+    let Phase::Joined(_, works) = phase else {
+        unreachable!();
+    };
+    &works.get(at).payload
+}
+
 /// SK.BACK: the first job of this text that the seat holds goes back to the right end of its queue, and is fetched first. It is refused without a
 /// head. The answer tells whether it was still in the private list.
 pub fn back(store: &mut Store, seat: u32, text: &Word) -> Result<Reply, Memory>
@@ -99,13 +111,11 @@ pub fn back(store: &mut Store, seat: u32, text: &Word) -> Result<Reply, Memory>
     let Some((ident, queue)) = way else {
         return Ok(refused(Refusal::BadPayload));
     };
-    let was = store.places.shift_text(
-        &Place::Private(ident),
-        text.bytes(),
-        Place::Queue(queue),
-        Score::of_moment(0),
-        Side::Right,
-    )?;
+    let payload = held_payload(store.seats.get(seat), text, at);
+    let (from, to) = (Place::Private(ident), Place::Queue(queue));
+    let was = store
+        .places
+        .shift_payload(&from, payload, to, Score::of_moment(0), Side::Right)?;
     store.seats.release(seat, at);
     Ok(one_if(was))
 }

@@ -1,5 +1,6 @@
 pub mod Accounts
 pub mod AnyOrder
+pub mod FirstCopies
 pub mod Entries
 pub mod Finds
 pub mod Gone
@@ -27,6 +28,7 @@ pub mod Sound
 pub mod SpareDeques
 pub mod Sweeping
 pub mod Sweeps
+pub mod Tags
 pub mod LeastScores
 pub mod MembersTaken
 pub mod TextFound

@@ -11,6 +11,7 @@ pub mod RowLists
 pub mod Rows
 pub mod Scores
 pub mod Segments
+pub mod Tags
 pub mod TextIndex
 pub mod TextKey
 pub mod Totals

@@ -35,6 +35,16 @@ pub fn find_text(rows: &Rows, place: &Place, text: &[u8]) -> Option<usize>
     if at < len { Some(at) } else { None }
 }
 
+/// The same of a payload's text. In a queue or a private list it reads the texts of the rows with its tag alone.
+pub fn find_payload(rows: &Rows, place: &Place, payload: &Payload) -> Option<usize>
+    ensures is { MatchOption result (row_of payload.now (rows_at place.now rows.now.current) ≡ None) (λ at. StandsAt Left (row_of payload.now (rows_at place.now rows.now.current)) (start_of place.now rows.now.current + at) rows.now.current) }
+    ensures within { IfSome result (λ at. at < length (rows_at place.now rows.now.current)) }
+{
+    let len = rows.len_at(place);
+    let at = rows.position_of_payload(place, payload);
+    if at < len { Some(at) } else { None }
+}
+
 /// Whether a push of the payload's job is fresh: no row names it, and it isn't held in a worker's hands. True where it names none.
 pub fn is_fresh(rows: &Rows, payload: &Payload, held: bool) -> bool
     ensures { IfSome (jid_of payload.now) (λ jid. result ≡ is_fresh held rows.now.current jid) }

@@ -18,6 +18,7 @@ mod row_lists;
 mod rows;
 mod search;
 mod spare;
+mod tagged_payload;
 mod text_index;
 mod text_key;
 mod totals;

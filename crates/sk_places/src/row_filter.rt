@@ -6,6 +6,7 @@ ghost use Rattle.sk_places.specs.Rows.{is_at};
 ghost use Rattle.sk_places.specs.RowFilter.{selects};
 
 use crate::row::{Place, RowKey};
+use crate::tagged_payload::TaggedPayload;
 use sk_base::Score;
 use sk_payload::Payload;
 use sk_resp::Word;
@@ -50,14 +51,13 @@ impl<'a, 'b> Predicate<(RowKey, Payload)> for Selection<'a, 'b> {
 
 /// Whether an item of a place's deque is wanted.
 #[tactic(auto, using(crate::proofs::Parted::at_itself))]
-pub fn picks_item(place: &Place, wanted: &RowFilter, entry: &(Score, Payload)) -> bool
+pub fn picks_item(place: &Place, wanted: &RowFilter, entry: &(Score, TaggedPayload)) -> bool
     ensures { result ≡ selects place.now wanted.now (listed place.now entry.now) }
 {
+    let own = entry.1.payload().text();
     match wanted {
-        RowFilter::Member(text) => text.bytes() == entry.1.text().bytes(),
-        RowFilter::Copies(text) => {
-            0 == entry.0.micros() && text.bytes() == entry.1.text().bytes()
-        }
+        RowFilter::Member(text) => text.bytes() == own.bytes(),
+        RowFilter::Copies(text) => 0 == entry.0.micros() && text.bytes() == own.bytes(),
     }
 }
 
@@ -68,10 +68,10 @@ pub struct PickedItem<'a, 'b> {
     pub wanted: &'a RowFilter<'b>,
 }
 
-impl<'a, 'b> Predicate<(Score, Payload)> for PickedItem<'a, 'b> {
+impl<'a, 'b> Predicate<(Score, TaggedPayload)> for PickedItem<'a, 'b> {
     ghost passes = { λ t e. selects t.place.now t.wanted.now (listed t.place.now e) };
 
-    fn test(&self, entry: &(Score, Payload)) -> bool {
+    fn test(&self, entry: &(Score, TaggedPayload)) -> bool {
         picks_item(self.place, self.wanted, entry)
     }
 }

@@ -26,8 +26,9 @@ ghost use Rattle.sk_places.specs.RowFilter.{selects};
 use crate::copies::{Pairs, Texts};
 use crate::row::{Place, RowKey};
 use crate::row_filter::{PickedItem, RowFilter, Selection};
-use crate::search::{AboveOf, Behind, Beyond, FromPair, Named, Passed, Reached, ReachedBy};
+use crate::search::{AboveOf, Behind, Beyond, FromPair, Named, Passed, Reached, ReachedBy, Tagged};
 use crate::spare::Spare;
+use crate::tagged_payload::{TaggedPayload, tag_of};
 use crate::{Ending, LiveJobs, Memory};
 use sk_base::{Bound, Score};
 use sk_cmd::{Scored, Side};
@@ -41,7 +42,7 @@ use std::alloc::Global;
 #[derive(Drop)]
 pub struct RowLists {
     pub names: UndoMap<Place, usize>,
-    pub deques: UndoDeques<Score, Payload>,
+    pub deques: UndoDeques<Score, TaggedPayload>,
     pub sets: UndoList<RowKey, Payload>,
     pub spare: Spare,
 }
@@ -54,7 +55,7 @@ pub fn number_of(names: &UndoMap<Place, usize>, place: &Place) -> Option<usize>
 }
 
 // Where in a deque an item comes to.
-fn place_in(deques: &UndoDeques<Score, Payload>, list: usize, end: Side) -> usize
+fn place_in(deques: &UndoDeques<Score, TaggedPayload>, list: usize, end: Side) -> usize
     requires { list < length deques.now.lists.current }
     ensures { result ≡ place_of end (list_at list deques.now.lists.current) }
 {
@@ -109,7 +110,7 @@ impl RowLists {
         match number_of(&self.names, place) {
             Some(list) => {
                 let entry = self.deques.get(list, at);
-                (entry.0, &entry.1)
+                (entry.0, entry.1.payload())
             }
             None => unreachable!(),
         }
@@ -144,7 +145,8 @@ impl RowLists {
         match number_of(&self.names, place) {
             Some(list) => {
                 let at = place_in(&self.deques, list, end);
-                self.deques.insert(list, at, (score, payload));
+                let item = (score, TaggedPayload::of(payload));
+                self.deques.insert(list, at, item);
             }
             None => unreachable!(),
         }
@@ -177,7 +179,10 @@ impl RowLists {
         ensures rows { rows_in self.new ≡ edited (remove (rows_in self.old).current (start_of place.now (rows_in self.old).current + at)) (rows_in self.old) }
     {
         match number_of(&self.names, place) {
-            Some(list) => self.deques.take(list, at),
+            Some(list) => {
+                let (score, tagged) = self.deques.take(list, at);
+                (score, tagged.into_payload())
+            }
             None => unreachable!(),
         }
     }
@@ -403,7 +408,7 @@ impl RowLists {
 // Where in the deque `onto` an item comes to once the item at an index of the deque `list`, which may be the same, is taken out.
 #[tactic(auto, using(crate::proofs::Shifts::behind_same, crate::proofs::Shifts::behind_other))]
 fn place_behind(
-    deques: &UndoDeques<Score, Payload>,
+    deques: &UndoDeques<Score, TaggedPayload>,
     list: usize,
     at: usize,
     onto: usize,
@@ -535,6 +540,24 @@ impl RowLists {
             Some(list) => {
                 let len = self.deques.len(list);
                 self.deques.position_in(list, 0, len, &Named { text })
+            }
+            None => 0,
+        }
+    }
+
+    /// The same of a payload's text. Reads the texts of the rows with its tag alone.
+    pub fn position_of_payload(&self, place: &Place, payload: &Payload) -> usize
+        requires lists { AreLists self.now }
+        requires list { is_list place.now ≡ true }
+        ensures { result ≡ position_or_len (is_text payload.now) (rows_at place.now (rows_in self.now).current) }
+    {
+        match number_of(&self.names, place) {
+            Some(list) => {
+                let len = self.deques.len(list);
+                let tag = tag_of(payload);
+                let text = payload.text().bytes();
+                self.deques
+                    .position_in(list, 0, len, &Tagged { tag, text })
             }
             None => 0,
         }
@@ -830,7 +853,7 @@ impl RowLists {
         let len = self.deques.len(list);
         let mut at = 0;
         while at < len {
-            jobs.end(&self.deques.get(list, at).1, Ending::Deleted);
+            jobs.end(self.deques.get(list, at).1.payload(), Ending::Deleted);
             at += 1;
         }
     }

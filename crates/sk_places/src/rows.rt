@@ -183,6 +183,16 @@ impl Rows {
         }
     }
 
+    /// The same of a payload's text. In a queue or a private list it reads the texts of the rows with its tag alone.
+    pub fn position_of_payload(&self, place: &Place, payload: &Payload) -> usize
+        ensures { result ≡ position_or_len (is_text payload.now) (rows_at place.now self.now.current) }
+    {
+        match place {
+            Place::Set(set) => self.position_in_set(*set, payload.text().bytes()),
+            _ => self.lists.position_of_payload(place, payload),
+        }
+    }
+
     // What `position_wanted` answers, by a look-up: where a text is wanted in a set, and doesn't stand before the index `first`.
     fn look_up_wanted(
         &self,

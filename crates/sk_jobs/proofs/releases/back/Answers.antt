@@ -34,9 +34,9 @@ returns c =
     let way : way_of (ident_in phase) (head text) ≡ Some (c.in-Some.ident, c.in-Some.queue) = ap (λ ph. way_of (ident_in ph) (head text)) (sym c.get-2.ensures.is) ∙ sym c.in_ok-way.ensures ∙ c.in-Some.is in
     let p = s.places.current in
     let row = λ (t : Bytes). row_of t (rows_at (Private c.in-Some.ident) p.rows) in
-    let was = c.in_ok-was.ensures.answer ∙ ap (λ t. is_some (row t)) c.bytes.ensures in
-    let new = ap (λ s. s.current) c.in_ok-was.ensures.ok ∙ ap₂ (λ t score. moved_if Left (row t) (Queue c.in-Some.queue) score Right p) c.bytes.ensures c.of_moment.ensures in
+    let was = c.in_ok-was.ensures.answer ∙ ap (λ t. is_some (row t)) c.held_payload-payload.ensures in
+    let new = ap (λ s. s.current) c.in_ok-was.ensures.ok ∙ ap₂ (λ t score. moved_if Left (row t) (Queue c.in-Some.queue) score Right p) c.held_payload-payload.ensures c.of_moment.ensures in
     rw c.one_if.ensures (
-      back_comes (world s) c.in_ok-was.was' p c.shift_text.new.self.current s.seats c.release.new.self c.args.seat text c.in-Ok.at (c.in-Some.ident, c.in-Some.queue) found way was new (c.release.ensures ∙ ap (λ ph. turned c.args.seat ph s.seats) (releasing_is (is_held_as text) phase c.in-Ok.at found.is)),
-      seated_ready (record s { places = c.shift_text.new.self }) c.release.new.self (placed_ready s c.shift_text.new.self c.requires (ap (λ s. s.saved) c.in_ok-was.ensures.ok)),
+      back_comes (world s) c.in_ok-was.was' p c.shift_payload.new.self.current s.seats c.release.new.self c.args.seat text c.in-Ok.at (c.in-Some.ident, c.in-Some.queue) found way was new (c.release.ensures ∙ ap (λ ph. turned c.args.seat ph s.seats) (releasing_is (is_held_as text) phase c.in-Ok.at found.is)),
+      seated_ready (record s { places = c.shift_payload.new.self }) c.release.new.self (placed_ready s c.shift_payload.new.self c.requires (ap (λ s. s.saved) c.in_ok-was.ensures.ok)),
     )

@@ -8,7 +8,7 @@ pub loop-at-init : goal.loop-at-init
 loop-at-init c = record { within = omega arith; closed = c.requires.closed; ends = refl }
 
 pub loop-at-preserved : goal.loop-at-preserved
-loop-at-preserved c = rw (c.end.ensures) (record {
+loop-at-preserved c = rw (c.end.ensures, c.payload.ensures) (record {
   within = omega (arith, c.loop-at-test.true);
   closed = c.loop-at.invariant.closed;
   ends = ends_more (λ item. item.1) Deleted (list_at c.args.list c.args.self.now.deques.lists.current) c.loop-at.at c.get.result.now c.loop-at.jobs.current c.get.ensures ∙ c.loop-at.invariant.ends;
