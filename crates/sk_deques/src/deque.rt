@@ -65,9 +65,18 @@ impl<T: Drop> Deque<T> {
         ensures is { result ≡ first + position_or_len (F.passes test.now) (drop first (take end self.now.items)) }
         ensures within { result ≤ end }
     {
+        let (front, back) = self.ring.as_slices();
+        let turn = front.len();
+        let stop = end.min(turn);
         let mut at = first;
+        while at < stop {
+            if test.test(&front[at]) {
+                return at;
+            }
+            at += 1;
+        }
         while at < end {
-            if test.test(self.get(at)) {
+            if test.test(&back[at - turn]) {
                 return at;
             }
             at += 1;
