@@ -4,7 +4,7 @@ use Rattle.sk_places.specs.Entries.{as_row}
 use Rattle.sk_places.specs.Rows.{place_cmp}
 use Rattle.sk_places.proofs.Entries.{position_map, partitioned_map}
 use Rattle.sk_places.proofs.Rising.{partitioned_passed}
-use Rattle.sk_places.proofs.row_lists.end_of.Goals as goal
+use Rattle.sk_places.proofs.set_rows.end_of.Goals as goal
 
 pub partition_point-requires : goal.partition_point-requires
 partition_point-requires c = partitioned_map as_row (λ row. is_lt (place_cmp c.args.place.now row.place)) c.args.sets.now.list.current ∙ partitioned_passed c.args.place.now _ c.requires
