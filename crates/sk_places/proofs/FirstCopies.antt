@@ -1,6 +1,6 @@
 -- The first row of a text at a place, and the first copy of the text there.
-use Rattle.std.proofs.Common.{◌≡◌, ◌+◌, ℕ, pos, Bool, true, false, List, [], ◌∷◌, Option, Some, None, slice_get, arith, refl, sym, ap, ap₂, ◌∙◌}
-use Rattle.std.specs.List.{filter, remove}
+use Rattle.std.proofs.Common.{◌≡◌, ◌+◌, ℕ, pos, Bool, true, false, List, [], ◌∷◌, Some, None, slice_get, arith, refl, sym, ap, ap₂, ◌∙◌}
+use Rattle.std.specs.List.{remove}
 use Rattle.std.specs.Str.{bytes_eq}
 use Rattle.std.proofs.lemmas.Slice.Eq.{bytes_eq-Decides}
 use Rattle.sk_resp.specs.Spelling.{Bytes}

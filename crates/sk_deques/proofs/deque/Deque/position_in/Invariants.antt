@@ -1,4 +1,4 @@
-use Rattle.std.proofs.Common.{◌≡◌, ◌+◌, ◌-◌, ◌<◌, ◌≤◌, drop, length, take}
+use Rattle.std.proofs.Common.{◌≡◌, ◌+◌, ◌-◌, ◌<◌, ◌≤◌, drop, take}
 use Rattle.std.specs.List.{position_or_len}
 use Rattle.sk_deques.proofs.deque.Deque.position_in.Given as goal
 
