@@ -1,4 +1,5 @@
 pub mod Accounts
+pub mod AllDeleted
 pub mod AnyOrder
 pub mod FirstCopies
 pub mod Entries

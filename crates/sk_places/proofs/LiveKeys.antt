@@ -15,7 +15,7 @@ use Rattle.sk_undo.specs.Sorted.{is_sorted}
 use Rattle.sk_undo.proofs.Sorted.{before_rest}
 use Rattle.sk_places.proofs.Indexed.{same_word}
 
-none_before : (word : Bytes) (words : List Bytes) → all_pass (λ other. is_lt (text_cmp word other)) words ≡ true → list_any (is_at (text_cmp word)) words ≡ false
+pub none_before : (word : Bytes) (words : List Bytes) → all_pass (λ other. is_lt (text_cmp word other)) words ≡ true → list_any (is_at (text_cmp word)) words ≡ false
 none_before word [] h = refl
 none_before word (other ∷ words) h = grind (arith, h, none_before word words)
 

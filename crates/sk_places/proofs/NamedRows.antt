@@ -1,6 +1,5 @@
--- The rows of all deques, one place after another: how many are private, which identity comes next, and whose jobs end.
-use Rattle.std.proofs.Common.{◌≡◌, ◌+◌, ◌<◌, ◌≤◌, ℕ, zero, suc, Bool, true, false, cond, not, List, [], ◌∷◌, ◌++◌, Option, Some, None, drop, filter, length, map, slice_get, refl, sym, arith, ap, ap₂, append_assoc, subst, ◌∙◌}
-use Rattle.std.proofs.lemmas.List.{map-append}
+-- The rows of all deques, one place after another: how many are private, and which identity comes next.
+use Rattle.std.proofs.Common.{◌≡◌, ◌+◌, ◌<◌, ◌≤◌, ℕ, zero, suc, Bool, true, false, cond, not, List, [], ◌∷◌, ◌++◌, Option, Some, None, drop, filter, length, map, slice_get, refl, sym, arith, ap, append_assoc, subst, ◌∙◌}
 use Rattle.std.proofs.lemmas.List.Sums.{count_by-le-length, sum_by-append}
 use Rattle.std.specs.List.{AllByRecursion, count_by}
 use Rattle.std.specs.Map.{keys_of, values_of}
@@ -8,18 +7,14 @@ use Rattle.std.specs.Option.{is_some}
 use Rattle.std.specs.Ordering.{is_le}
 use Rattle.sk_resp.specs.Spelling.{Bytes}
 use Rattle.sk_deques.specs.DequeMoves.{list_at}
-use Rattle.sk_undo.specs.Versions.{Versions, edited}
 use Rattle.sk_undo.specs.Partitioned.{all_pass}
 use Rattle.sk_undo.specs.Sorted.{rank}
-use Rattle.sk_places.specs.declared.ending.Ending.{Ending}
 use Rattle.sk_places.specs.declared.row_lists.RowLists.{RowLists}
 use Rattle.sk_places.specs.declared.row.Place.{Place}
 use Rattle.sk_places.specs.declared.row.Place.TheVariants.{Queue, Private, Set}
 use Rattle.sk_places.specs.declared.row.Row.{Row}
-use Rattle.sk_places.specs.Ends.{texts_of}
 use Rattle.sk_places.specs.Beyond.{beyond_order, le_beyond}
 use Rattle.sk_places.specs.Entries.{Entry, as_rows}
-use Rattle.sk_places.specs.LiveJobs.{Lived, all_ended}
 use Rattle.sk_places.specs.Order.{is_beyond}
 use Rattle.sk_places.specs.RowLists.{AreLists, Item, all_rows, is_list, is_of_set, listed, rows_in, rows_in_lists}
 use Rattle.sk_places.specs.Rows.{first_row, ident_at, ident_of, is_past, is_private, next_ident}
@@ -168,40 +163,3 @@ next_sets after (row ∷ rows) h =
 
 pub next_none : (after : Option Bytes) (l : RowLists) (len : ℕ) → AreLists l → len ≡ length l.names.list.current → next_ident after (all_rows (drop len l.names.list.current) l.deques.lists.current l.sets.list.current) ≡ None
 next_none after l len a n = ap (λ es. next_ident after (all_rows es l.deques.lists.current l.sets.list.current)) (drop_all len l.names.list.current n) ∙ next_sets after (as_rows l.sets.list.current) a.sets.current
-
--- ## Whose jobs end
-
-ended_append : (how : Ending) (xs ys : List Bytes) (l : Lived) → all_ended how (xs ++ ys) l ≡ all_ended how ys (all_ended how xs l)
-ended_append how [] ys l = refl
-ended_append how (x ∷ xs) ys l = ended_append how xs ys (all_ended how (x ∷ []) l)
-
-texts_listed : (p : Place) (items : List Item) → texts_of (map (listed p) items) ≡ map (λ item. item.1) items
-texts_listed p [] = refl
-texts_listed p (item ∷ items) = ap (λ l. item.1 ∷ l) (texts_listed p items)
-
-pub ends_both : (how : Ending) (xs ys : List Row) (l : Lived) → all_ended how (texts_of (xs ++ ys)) l ≡ all_ended how (texts_of ys) (all_ended how (texts_of xs) l)
-ends_both how xs ys l = ap (λ texts. all_ended how texts l) (map-append (λ row. row.text) xs ys) ∙ ended_append how (texts_of xs) (texts_of ys) l
-
-pub ends_here : (how : Ending) (es : List (Place × ℕ)) (ls : List (List Item)) (at : ℕ) (e : Place × ℕ) (l : Lived) → slice_get es at ≡ Some e → all_ended how (texts_of (rows_in_lists (drop (at + 1) es) ls)) (all_ended how (map (λ item. item.1) (list_at e.1 ls)) l) ≡ all_ended how (texts_of (rows_in_lists (drop at es) ls)) l
-ends_here how es ls at e l h =
-    ap (λ texts. all_ended how (texts_of (rows_in_lists (drop (at + 1) es) ls)) (all_ended how texts l)) (sym (texts_listed e.0 (list_at e.1 ls)))
-    ∙ sym (ends_both how (map (listed e.0) (list_at e.1 ls)) (rows_in_lists (drop (at + 1) es) ls) l)
-    ∙ ap (λ rows. all_ended how (texts_of rows) l) (sym (from_here es ls at e h))
-
-pub ends_none : (how : Ending) (es : List (Place × ℕ)) (ls : List (List Item)) (len : ℕ) (l : Lived) → len ≡ length es → all_ended how (texts_of (rows_in_lists (drop len es) ls)) l ≡ l
-ends_none how es ls len l n = ap (λ fs. all_ended how (texts_of (rows_in_lists fs ls)) l) (drop_all len es n)
-
-ends_next : {X : Type 0} (f : X → Bytes) (how : Ending) (xs : List X) (at : ℕ) (x : X) (l : Lived) → slice_get xs at ≡ Some x → all_ended how (map f (drop (suc at) xs)) (all_ended how (f x ∷ []) l) ≡ all_ended how (map f (drop at xs)) l
-ends_next f how [] at x l h = absurd (cc h)
-ends_next f how (y ∷ xs) zero x l h = let s : y ≡ x = cc h in ap (λ z. all_ended how (map f xs) (all_ended how (f z ∷ []) l)) (sym s)
-ends_next f how (y ∷ xs) (suc at) x l h = ends_next f how xs at x l h
-
--- one text after another
-pub ends_more : {X : Type 0} (f : X → Bytes) (how : Ending) (xs : List X) (at : ℕ) (x : X) (l : Lived) → slice_get xs at ≡ Some x → all_ended how (map f (drop (at + 1) xs)) (all_ended how (f x ∷ []) l) ≡ all_ended how (map f (drop at xs)) l
-ends_more f how xs at x l h = sym (ap (λ k. all_ended how (map f (drop k xs)) (all_ended how (f x ∷ []) l)) (more at)) ∙ ends_next f how xs at x l h
-
-pub ends_over : {X : Type 0} (f : X → Bytes) (how : Ending) (xs : List X) (len : ℕ) (l : Lived) → len ≡ length xs → all_ended how (map f (drop len xs)) l ≡ l
-ends_over f how xs len l n = ap (λ ys. all_ended how (map f ys) l) (drop_all len xs n)
-
-pub ended_so : (s old : Versions Lived) (x : Lived) → s.current ≡ x → s.saved ≡ None → old.saved ≡ None → s ≡ edited x old
-ended_so s old x is closed was_closed = ap₂ {C = Versions Lived} (λ l o. record { current = l; saved = o }) is (closed ∙ sym was_closed)

@@ -1,4 +1,5 @@
 pub mod Beyond
+pub mod Cleared
 pub mod Ends
 pub mod Entries
 pub mod Index

@@ -6,6 +6,7 @@ ghost use Rattle.sk_resp.specs.WordOrder.{text_cmp};
 ghost use Rattle.sk_undo.specs.Sorted.{is_sorted};
 ghost use Rattle.sk_undo.specs.Versions.{begun, closed, committed, edited, undone};
 ghost use Rattle.sk_payload.specs.Head.{jid_of};
+ghost use Rattle.sk_places.specs.Cleared.{every_deleted};
 ghost use Rattle.sk_places.specs.LiveJobs.{ended, is_among, job_pushed, no_jobs, one_if, pushed, without_jid};
 ghost use Rattle.sk_places.specs.Totals.{accounted, count_end, last_push, pushes_in, IsCountable, last_outside};
 
@@ -98,6 +99,20 @@ impl LiveJobs {
         ensures outside { self.now.current.totals.outside ≤ last_outside }
     {
         self.totals.pushes()
+    }
+
+    /// Where each job that lives ends as deleted: none is live, and these are counted. Takes no memory.
+    pub fn all_deleted(&self, alloc: Global) -> LiveJobs
+        ensures is { result ≡ closed (every_deleted self.now.current) }
+        ensures order { is_sorted text_cmp self.now.current.live ≡ true }
+    {
+        let mut totals = self.totals;
+        totals.count_deleted(self.live.len() as u64);
+        LiveJobs {
+            live: UndoSet::new(alloc),
+            totals,
+            totals_then: totals,
+        }
     }
 
     // A row without a job is pushed.

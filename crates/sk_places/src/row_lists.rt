@@ -5,22 +5,18 @@ ghost use Rattle.std.specs.BTreeMap.{is_at as is_key};
 ghost use Rattle.std.specs.List.{position_or_len, remove};
 ghost use Rattle.std.specs.Map.{lookup};
 ghost use Rattle.std.specs.Option.{is_some};
-ghost use Rattle.sk_deques.specs.DequeMoves.{list_at};
 ghost use Rattle.sk_undo.specs.Versions.{begun, closed, committed, edited, undone};
-ghost use Rattle.sk_places.specs.Entries.{as_row, as_rows, shifted};
-ghost use Rattle.sk_places.specs.LiveJobs.{all_ended};
-ghost use Rattle.sk_places.specs.declared.ending.Ending.TheVariants.{Deleted};
-ghost use Rattle.sk_places.specs.Ends.{texts_of};
-ghost use Rattle.sk_places.specs.RowLists.{AreLists, IsOneLess, IsReady, is_list, listed, rows_in, rows_in_lists, start_of};
+ghost use Rattle.sk_places.specs.Entries.{as_row, shifted};
+ghost use Rattle.sk_places.specs.RowLists.{AreLists, IsOneLess, IsReady, is_list, listed, rows_in, start_of};
 ghost use Rattle.sk_places.specs.Order.{is_ordered};
 ghost use Rattle.sk_places.specs.Rows.{place_cmp, put_row, rows_at};
 ghost use Rattle.sk_places.specs.RowFilter.{selects};
 
+use crate::Memory;
 use crate::row::{Place, RowKey};
 use crate::row_filter::RowFilter;
 use crate::spare::Spare;
 use crate::tagged_payload::TaggedPayload;
-use crate::{Ending, LiveJobs, Memory};
 use sk_base::Score;
 use sk_cmd::Side;
 use sk_deques::UndoDeques;
@@ -267,62 +263,5 @@ impl RowLists {
         } else {
             self.texts_in_set(alloc, place, start, end)
         }
-    }
-}
-
-impl RowLists {
-    // The jobs of a deque's rows end.
-    fn end_deque(&self, list: usize, jobs: &mut LiveJobs)
-        requires list { list < length self.now.deques.lists.current }
-        requires closed { jobs.old.saved ≡ None }
-        ensures { jobs.new ≡ edited (all_ended Deleted (map (λ item. item.1) (list_at list self.now.deques.lists.current)) jobs.old.current) jobs.old }
-    {
-        let len = self.deques.len(list);
-        let mut at = 0;
-        while at < len {
-            jobs.end(self.deques.get(list, at).1.payload(), Ending::Deleted);
-            at += 1;
-        }
-    }
-
-    // The same by the index of its place among those that have a deque.
-    fn end_named(&self, at: usize, jobs: &mut LiveJobs)
-        requires lists { AreLists self.now }
-        requires closed { jobs.old.saved ≡ None }
-        ensures ends { all_ended Deleted (texts_of (rows_in_lists (drop (at + 1) self.now.names.list.current) self.now.deques.lists.current)) jobs.new.current ≡ all_ended Deleted (texts_of (rows_in_lists (drop at self.now.names.list.current) self.now.deques.lists.current)) jobs.old.current }
-        ensures closed { jobs.new.saved ≡ None }
-    {
-        match self.names.at(at) {
-            Some((_, list)) => self.end_deque(*list, jobs),
-            None => {}
-        }
-    }
-
-    // The jobs of the sets' rows end.
-    fn end_sets(&self, jobs: &mut LiveJobs)
-        requires { jobs.old.saved ≡ None }
-        ensures { jobs.new ≡ edited (all_ended Deleted (texts_of (as_rows self.now.sets.list.current)) jobs.old.current) jobs.old }
-    {
-        let len = self.sets.len();
-        let mut at = 0;
-        while at < len {
-            jobs.end(&self.sets.get(at).1, Ending::Deleted);
-            at += 1;
-        }
-    }
-
-    /// The jobs of all rows end, if they are live.
-    pub fn end_all(&self, jobs: &mut LiveJobs)
-        requires lists { AreLists self.now }
-        requires closed { jobs.old.saved ≡ None }
-        ensures { jobs.new ≡ edited (all_ended Deleted (texts_of (rows_in self.now).current) jobs.old.current) jobs.old }
-    {
-        let len = self.names.len();
-        let mut at = 0;
-        while at < len {
-            self.end_named(at, jobs);
-            at += 1;
-        }
-        self.end_sets(jobs);
     }
 }

@@ -5,10 +5,9 @@ ghost use Rattle.std.specs.List.{count_by, position_or_len, remove};
 ghost use Rattle.std.specs.Option.{is_some};
 ghost use Rattle.sk_undo.specs.Balance.{most};
 ghost use Rattle.sk_undo.specs.Versions.{begun, closed, committed, edited, undone};
-ghost use Rattle.sk_places.specs.LiveJobs.{all_ended, pushed};
-ghost use Rattle.sk_places.specs.declared.ending.Ending.TheVariants.{Deleted};
+ghost use Rattle.sk_places.specs.LiveJobs.{pushed};
 ghost use Rattle.sk_places.specs.Totals.{IsCountable};
-ghost use Rattle.sk_places.specs.Ends.{ended_of, texts_of};
+ghost use Rattle.sk_places.specs.Ends.{ended_of};
 ghost use Rattle.sk_places.specs.Entries.{as_row, shifted};
 ghost use Rattle.sk_places.specs.RowLists.{is_list, listed, rows_in, start_of};
 ghost use Rattle.sk_places.specs.Order.{bytes_of, is_ordered};
@@ -46,7 +45,6 @@ pub struct Size {
 /// and what stood at the begin of an open step.
 #[derive(Drop)]
 pub struct Rows {
-    alloc: Global,
     lists: RowLists,
     size: Size,
     // At the begin of an open step.
@@ -106,7 +104,6 @@ impl Rows {
     {
         let none = Size { rows: 0, bytes: 0 };
         Rows {
-            alloc,
             lists: RowLists::new(alloc),
             size: none,
             size_then: none,
@@ -498,21 +495,5 @@ impl Rows {
         ensures order { is_ordered self.now.current ≡ true }
     {
         self.lists.next_ident(after)
-    }
-
-    /// Takes all rows out, and gives their memory back. Their jobs end, if they are live.
-    pub fn clear(&mut self, jobs: &mut LiveJobs)
-        requires closed { self.old.saved ≡ None }
-        requires jobs { jobs.old.saved ≡ None }
-        ensures rest { self.new ≡ edited [] self.old }
-        ensures jobs { jobs.new ≡ edited (all_ended Deleted (texts_of self.old.current) jobs.old.current) jobs.old }
-    {
-        self.lists.end_all(jobs);
-        let none = Size { rows: 0, bytes: 0 };
-        self.size = none;
-        self.size_then = none;
-        self.lists = RowLists::new(self.alloc);
-        self.index = UndoMultiset::new(self.alloc);
-        self.text_index = UndoMultiset::new(self.alloc);
     }
 }
