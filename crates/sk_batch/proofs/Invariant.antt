@@ -8,16 +8,16 @@ use Rattle.sk_batch.specs.Along.{along, retag}
 use Rattle.sk_batch.specs.Batched.{BatchEntry, MemberEntry, has_bid, is_job, is_there}
 use Rattle.sk_batch.specs.Events.{members_of}
 use Rattle.sk_batch.specs.Fires.{after_fires, retagged, with_kind}
-use Rattle.sk_batch.specs.Ancestors.{is_under, ancestors}
+use Rattle.sk_batch.specs.Ancestors.{is_under}
 use Rattle.sk_batch.specs.Numbers.{changed, gained, no_numbers, numbers_in}
 use Rattle.sk_batch.specs.Open.{with_mark}
 use Rattle.sk_batch.specs.Order.{is_ordered, put, put_all}
 use Rattle.sk_batch.specs.Places.{each_once}
 use Rattle.sk_batch.specs.States.{BatchInvariant, StateEntry, all_fired, seen_of, with_change, with_fired, with_numbers}
-use Rattle.sk_batch.proofs.Along.{along_is, any_retag, ancestors_retag, not_there, other_bid, retag_within, under_retag}
+use Rattle.sk_batch.proofs.Along.{along_is, any_retag, not_there, other_bid, retag_within, under_retag}
 use Rattle.sk_batch.proofs.Counted.{Comes, came_comes, got_comes, left_within, none_left, none_members, numbers_come}
 use Rattle.sk_batch.proofs.Repeats.{bytes_eq-sym}
-use Rattle.sk_batch.proofs.Listed.{bared, length_bare}
+use Rattle.sk_batch.proofs.Listed.{bared}
 use Rattle.sk_batch.proofs.Order.{ordered_put_all, ordered_retagged}
 use Rattle.sk_batch.specs.declared.batch.Batch.{Batch}
 use Rattle.sk_batch.specs.declared.batch.Fired.{Fired}
@@ -93,16 +93,9 @@ under_fired fs bs x o = sym (under_retag bare (after_fires fs bs) x o) ∙ ap (�
 there_fired : (fs : List Firing) (bs : List BatchEntry) (x : Bytes) → is_there x (after_fires fs bs) ≡ is_there x bs
 there_fired fs bs x = sym (any_retag bare (after_fires fs bs) x) ∙ ap (λ (l : List (Unit {0} × Batch)). list_any (has_bid x) l) (bare_fired fs bs) ∙ any_retag bare bs x
 
-ancestors_bare : {K : Type 0} (bs : List (K × Batch)) (bid : Bytes) → length (ancestors (bared bs) bid) ≡ length (ancestors bs bid)
-ancestors_bare {K} bs bid = let nothing : K × Batch → Unit {0} = λ b. tt in ap length (ancestors_retag nothing bs bid) ∙ length_bare (ancestors bs bid)
-
-bare_all_fired : (fs : List Firing) (bs : List StateEntry) → bared (all_fired fs bs) ≡ bared bs
+pub bare_all_fired : (fs : List Firing) (bs : List StateEntry) → bared (all_fired fs bs) ≡ bared bs
 bare_all_fired [] bs = refl
 bare_all_fired (f ∷ fs) bs = bare_all_fired fs (retagged (has_bid f.bid) (with_fired f.kind) bs) ∙ bare_retagged (has_bid f.bid) (with_fired f.kind) bs
-
--- what is fired makes no line longer
-pub length_fired : (fs : List Firing) (bs : List StateEntry) (bid : Bytes) → length (ancestors (all_fired fs bs) bid) ≡ length (ancestors bs bid)
-length_fired fs bs bid = sym (ancestors_bare (all_fired fs bs) bid) ∙ ap (λ (l : List (Unit {0} × Batch)). length (ancestors l bid)) (bare_all_fired fs bs) ∙ ancestors_bare bs bid
 
 all_same : (p q : MemberEntry → Bool) → ((m : MemberEntry) → p m ≡ q m) → (ms : List MemberEntry) → list_all p ms ≡ list_all q ms
 all_same p q same [] = refl

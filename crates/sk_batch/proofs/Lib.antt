@@ -1,4 +1,5 @@
 pub mod Along
+pub mod Climbs
 pub mod Counted
 pub mod Indexed
 pub mod Invariant

@@ -30,7 +30,7 @@ once_bare : {K : Type 0} (bs : List (K × Batch)) → each_once (bared bs) ≡ e
 once_bare [] = refl
 once_bare {K} (b ∷ bs) = let bare : K × Batch → Unit {0} = λ c. tt in ap₂ (λ n r. not n && r) (any_retag bare bs b.1.bid) (once_bare bs)
 
-moved_bare : {K : Type 0} (bs : List (K × Batch)) (at : ℕ) (tag : K) → at < length bs → bared (moved at at tag bs) ≡ bared bs
+pub moved_bare : {K : Type 0} (bs : List (K × Batch)) (at : ℕ) (tag : K) → at < length bs → bared (moved at at tag bs) ≡ bared bs
 moved_bare [] at tag h = absurd (omega (arith, h))
 moved_bare (b ∷ bs) zero tag h = refl
 moved_bare (b ∷ bs) (suc n) tag h = ap bared (put_down_behind (slice_get bs n) n tag b (remove bs n)) ∙ ap (λ l. (tt, b.1) ∷ l) (moved_bare bs n tag (omega (arith, h)))

@@ -6,7 +6,7 @@ use Rattle.std.proofs.lemmas.Slice.Eq.{bytes_eq-Decides}
 use Rattle.sk_resp.specs.Spelling.{Bytes}
 use Rattle.sk_batch.specs.Along.{along, retag}
 use Rattle.sk_batch.specs.Batched.{Batched, BatchEntry, MemberEntry, has_bid, is_job, is_member}
-use Rattle.sk_batch.specs.Due.{completes_by, dies_yet, due, fires_along, later_due, settles_by}
+use Rattle.sk_batch.specs.Due.{completes_by, dies_yet, due, fires_where, later_due, settles_by}
 use Rattle.sk_batch.specs.Events.{marked}
 use Rattle.sk_batch.specs.Fires.{after_fires, complete_fires, completes, death_fires, dies, firing, retagged, succeeds, success_fires}
 use Rattle.sk_batch.specs.Ancestors.{ancestors, is_under}
@@ -69,7 +69,7 @@ module _ (batches : List StateEntry) (ms : List MemberEntry) (kept : BatchInvari
   full b = record { fired = b.0; numbers = numbers_in seen ms b.1 }
 
   -- a test of the numbers, of the batches of a line
-  fires_notified : (kind : Kind) (p : StateEntry → Bool) (q : BatchEntry → Bool) (bid : Bytes) → ((b : BatchEntry) → is_under seen bid b.1.bid ≡ true → p (full b, b.1) ≡ q b) → fires_along kind p batches bid ≡ map (λ b. firing kind b.1) (filter q (ancestors seen bid))
+  fires_notified : (kind : Kind) (p : StateEntry → Bool) (q : BatchEntry → Bool) (bid : Bytes) → ((b : BatchEntry) → is_under seen bid b.1.bid ≡ true → p (full b, b.1) ≡ q b) → fires_where kind p (ancestors batches bid) ≡ map (λ b. firing kind b.1) (filter q (ancestors seen bid))
   fires_notified kind p q bid same =
       ap (λ (l : List StateEntry). map (λ b. firing kind b.1) (filter p (ancestors l bid))) kept.counted
       ∙ ap (λ (l : List StateEntry). map (λ b. firing kind b.1) (filter p l)) (ancestors_retag full seen bid)
@@ -95,13 +95,13 @@ module _ (batches : List StateEntry) (ms : List MemberEntry) (kept : BatchInvari
     settled_before : (b : BatchEntry) → nat_eq (left_of (λ x. is_under seen x b.1.bid) ms).unreturned 0 ≡ is_settled before b.1.bid
     settled_before b = count_none (lacks Returned seen b.1.bid) ms
 
-    completes_notified : fires_along Complete (completes_by gain) batches bid ≡ complete_fires after bid
+    completes_notified : fires_where Complete (completes_by gain) (ancestors batches bid) ≡ complete_fires after bid
     completes_notified = fires_notified Complete (completes_by gain) (completes after) bid (λ b u. ap (λ t. not b.0.complete && t) (reported_now b u))
 
-    success_notified : fires_along Success (settles_by gain) batches bid ≡ success_fires before after bid
+    success_notified : fires_where Success (settles_by gain) (ancestors batches bid) ≡ success_fires before after bid
     success_notified = fires_notified Success (settles_by gain) (succeeds before after) bid (λ b u. ap₂ (λ s t. s && not t) (settled_now b u) (settled_before b))
 
-    deaths_notified : fires_along Death dies_yet batches bid ≡ death_fires before bid
+    deaths_notified : fires_where Death dies_yet (ancestors batches bid) ≡ death_fires before bid
     deaths_notified = fires_notified Death dies_yet dies bid (λ b u. refl)
 
 -- ## All of it
@@ -113,24 +113,24 @@ module _ (e : Event) (batches : List StateEntry) (ms : List MemberEntry) (kept :
   comes : Comes (Got gain) bid ms (retagged (is_job bid jid) (with_mark (mark_of e)) ms)
   comes = got_comes bid jid ms at d place within (mark_of e)
 
-  later_notified : (f : Event) → Comes (Got gain) bid ms (retagged (is_job bid jid) (with_mark (mark_of f)) ms) → later_due f gain batches bid ≡ later_fires f bid jid (of_lists (seen_of batches) ms)
+  later_notified : (f : Event) → Comes (Got gain) bid ms (retagged (is_job bid jid) (with_mark (mark_of f)) ms) → later_due f gain (ancestors batches bid) ≡ later_fires f bid jid (of_lists (seen_of batches) ms)
   later_notified event.Reported c = refl
   later_notified event.Returned c = success_notified batches ms kept bid jid Returned gain c
   later_notified event.Died c = deaths_notified batches ms kept bid jid Reported gain c
 
-  pub due_notified : due e gain batches bid ≡ fires_of e bid jid (of_lists (seen_of batches) ms)
+  pub due_notified : due e gain (ancestors batches bid) ≡ fires_of e bid jid (of_lists (seen_of batches) ms)
   due_notified =
       let member = any_position (is_job bid jid) ms at place within in
       ap₂ (λ l k. l ++ k) (completes_notified batches ms kept bid jid (mark_of e) gain comes) (later_notified e comes) ∙ sym (fires_parts e bid jid (of_lists (seen_of batches) ms) member)
 
   abbrev end : List StateEntry
-  end = along (with_change (Got gain) bid) (all_fired (due e gain batches bid) batches) bid
+  end = along (with_change (Got gain) bid) (all_fired (due e gain (ancestors batches bid)) batches) bid
 
-  pub kept_notified : each_once (all_fired (due e gain batches bid) batches) ≡ true → BatchInvariant end (retagged (is_job bid jid) (with_mark (mark_of e)) ms)
-  kept_notified once = kept_got (all_fired (due e gain batches bid) batches) ms bid jid (mark_of e) at d (kept_fired batches ms kept (due e gain batches bid)) once place within
+  pub kept_notified : each_once (all_fired (due e gain (ancestors batches bid)) batches) ≡ true → BatchInvariant end (retagged (is_job bid jid) (with_mark (mark_of e)) ms)
+  kept_notified once = kept_got (all_fired (due e gain (ancestors batches bid)) batches) ms bid jid (mark_of e) at d (kept_fired batches ms kept (due e gain (ancestors batches bid))) once place within
 
-  pub seen_notified : each_once (all_fired (due e gain batches bid) batches) ≡ true → seen_of end ≡ after_fires (fires_of e bid jid (of_lists (seen_of batches) ms)) (seen_of batches)
+  pub seen_notified : each_once (all_fired (due e gain (ancestors batches bid)) batches) ≡ true → seen_of end ≡ after_fires (fires_of e bid jid (of_lists (seen_of batches) ms)) (seen_of batches)
   seen_notified once =
-      seen_changed (all_fired (due e gain batches bid) batches) (Got gain) bid once
-      ∙ seen_fired batches ms kept (due e gain batches bid)
+      seen_changed (all_fired (due e gain (ancestors batches bid)) batches) (Got gain) bid once
+      ∙ seen_fired batches ms kept (due e gain (ancestors batches bid))
       ∙ ap (λ fs. after_fires fs (seen_of batches)) due_notified

@@ -1,8 +1,6 @@
 -- What is due when a member gets marks, as the numbers of the batches tell before they change.
 use Rattle.std.specs.Prelude.{Bool, not, ◌&&◌, List, [], ◌++◌, filter, map, nat_eq}
-use Rattle.sk_resp.specs.Spelling.{Bytes}
 use Rattle.sk_batch.specs.Fires.{firing}
-use Rattle.sk_batch.specs.Ancestors.{ancestors}
 use Rattle.sk_batch.specs.Numbers.{left_after}
 use Rattle.sk_batch.specs.States.{StateEntry}
 use Rattle.sk_batch.specs.declared.event.Event.{Event}
@@ -25,14 +23,15 @@ settles_by gained b = nat_eq (left_after (Got gained) b.0.numbers.under).unretur
 abbrev pub dies_yet : StateEntry → Bool
 dies_yet b = not b.0.fired.death
 
--- one kind, of the batches that pass, from one batch outwards
-abbrev pub fires_along : Kind → (StateEntry → Bool) → List StateEntry → Bytes → List Firing
-fires_along kind test batches bid = map (λ b. firing kind b.1) (filter test (ancestors batches bid))
+-- one kind, of the batches that pass, in their order
+abbrev pub fires_where : Kind → (StateEntry → Bool) → List StateEntry → List Firing
+fires_where kind test ancestors = map (λ b. firing kind b.1) (filter test ancestors)
 
-abbrev pub later_due : Event → Progress → List StateEntry → Bytes → List Firing
-later_due event.Reported gained batches bid = []
-later_due event.Returned gained batches bid = fires_along Success (settles_by gained) batches bid
-later_due event.Died gained batches bid = fires_along Death dies_yet batches bid
+abbrev pub later_due : Event → Progress → List StateEntry → List Firing
+later_due event.Reported gained ancestors = []
+later_due event.Returned gained ancestors = fires_where Success (settles_by gained) ancestors
+later_due event.Died gained ancestors = fires_where Death dies_yet ancestors
 
-abbrev pub due : Event → Progress → List StateEntry → Bytes → List Firing
-due event gained batches bid = fires_along Complete (completes_by gained) batches bid ++ later_due event gained batches bid
+-- of a batch and those that it is in
+abbrev pub due : Event → Progress → List StateEntry → List Firing
+due event gained ancestors = fires_where Complete (completes_by gained) ancestors ++ later_due event gained ancestors

@@ -1,11 +1,11 @@
-// The way from a batch outwards: its parent, the parent's parent and so on. Parents stand behind their children in the list.
-ghost use Rattle.std.specs.Prelude.{◌≡◌, ◌++◌, ◌≤◌, IfOk, OnOk, filter, length, map, true};
-ghost use Rattle.sk_undo.specs.Balance.{most};
+// The way from a batch outwards: its parent, the parent's parent and so on. Parents stand behind their children in the list. The way is walked once,
+// by the bids; what is done on it goes by the places that were found.
+ghost use Rattle.std.specs.Prelude.{◌≡◌, ◌++◌, ◌≤◌, IfOk, OnOk, length, true};
 ghost use Rattle.sk_undo.specs.Versions.{edited};
 ghost use Rattle.sk_batch.specs.Along.{along};
+ghost use Rattle.sk_batch.specs.Due.{fires_where};
 ghost use Rattle.sk_batch.specs.Fires.{firing};
-ghost use Rattle.sk_batch.specs.Ancestors.{ancestors};
-ghost use Rattle.sk_batch.specs.Places.{each_once};
+ghost use Rattle.sk_batch.specs.Places.{AreAncestors, Climb, climbed, each_once};
 ghost use Rattle.sk_batch.specs.States.{with_change};
 
 use crate::batch_list::BatchList;
@@ -14,22 +14,20 @@ use crate::state::State;
 use crate::{Batch, Firing, Kind, Memory};
 use sk_payload::Payload;
 use sk_undo::Predicate;
+use std::alloc::Global;
 
-/// How many batches there are from one batch outwards, itself among them.
-#[tactic(auto, using(crate::proofs::Walks::ancestors_end, crate::proofs::Walks::ancestors_begins))]
-pub fn depth(batches: &BatchList, bid: &[u8]) -> usize
-    ensures is { result ≡ length (ancestors batches.now.list.current bid.now) }
-    ensures small { result ≤ most }
+/// The places of a batch and of those that it is in, the inner first. Each parent is looked up once.
+pub fn ancestor_places(alloc: Global, batches: &BatchList, bid: &[u8]) -> Result<Vec<usize>, Memory>
+    ensures { IfOk result (λ places. AreAncestors bid.now places.items batches.now.list.current) }
 {
-    let end = batches.len();
+    let mut places = Vec::new(alloc);
     let mut at = batches.find(bid);
-    let mut depth = 0;
-    'outwards: while at < end {
+    'outwards: while at < batches.len() {
+        places.push(at)?;
         let (_, above) = batches.climb(at);
-        depth += 1;
         at = above;
     }
-    depth
+    Ok(places)
 }
 
 /// What is fired of a batch, with a copy of its callback.
@@ -48,24 +46,22 @@ pub fn firing(kind: Kind, batch: &Batch) -> Result<Firing, Memory>
     })
 }
 
-/// Adds the firings of this kind of the batches that pass, from one batch outwards.
-#[tactic(auto, using(crate::proofs::Walks::ancestors_end, crate::proofs::Walks::ancestors_begins))]
+/// Adds the firings of this kind of the batches that pass, of a batch and those that it is in.
 pub fn fire_where<F: Predicate<(State, Batch)>>(
     batches: &BatchList,
-    bid: &[u8],
+    places: &[usize],
     kind: Kind,
     test: &F,
     firings: &mut Vec<Firing>,
 ) -> Result<(), Memory>
-    ensures { OnOk result (firings.new.items ≡ firings.old.items ++ map (λ b. firing kind b.1) (filter (F.passes test.now) (ancestors batches.now.list.current bid.now))) }
+    requires { Climb places.now batches.now.list.current }
+    ensures { OnOk result (firings.new.items ≡ firings.old.items ++ fires_where kind (F.passes test.now) (climbed places.now batches.now.list.current)) }
 {
-    let mut at = batches.find(bid);
-    'outwards: while at < batches.len() {
-        let (entry, above) = batches.climb(at);
+    for place in places {
+        let entry = batches.get(*place);
         if test.test(entry) {
             firings.push(firing(kind, &entry.1)?)?;
         }
-        at = above;
     }
     Ok(())
 }
@@ -81,19 +77,16 @@ fn with_change(change: Change, bid: &[u8], entry: &(State, Batch)) -> State
     }
 }
 
-/// Changes the numbers of a batch and of those that it is in.
-#[tactic(auto, using(crate::proofs::Walks::ancestors_end, crate::proofs::Walks::ancestors_begins))]
-pub fn change_ancestors(batches: &mut BatchList, bid: &[u8], change: Change)
-    requires { length (ancestors batches.old.list.current bid.now) ≤ batches.old.room }
+/// Changes the numbers of the batch of this bid and of those that it is in, which stand at these places.
+pub fn change_ancestors(batches: &mut BatchList, bid: &[u8], places: &[usize], change: Change)
+    requires places { AreAncestors bid.now places.now batches.old.list.current }
+    requires room { length places.now ≤ batches.old.room }
     ensures list { batches.new.list ≡ edited (along (with_change change bid.now) batches.old.list.current bid.now) batches.old.list }
     ensures once { each_once batches.old.list.current ≡ true }
 {
-    let end = batches.len();
-    let mut at = batches.find(bid);
-    'outwards: while at < end {
-        let (entry, above) = batches.climb(at);
-        let state = with_change(change, bid, entry);
-        batches.set_state(at, state);
-        at = above;
+    let _len = batches.len(); // its contract says that each bid stands once
+    for place in places {
+        let state = with_change(change, bid, batches.get(*place));
+        batches.set_state(*place, state);
     }
 }

@@ -1,7 +1,8 @@
-// What is due where a member gets marks, told by the numbers of its batch and of those that this one is in.
+// What is due where a member gets marks, told by the numbers of its batch and of those that this one is in, whose places are given.
 ghost use Rattle.std.specs.Prelude.{◌≡◌, ◌++◌, IfOk, OnOk};
 ghost use Rattle.sk_batch.specs.Due.{due, later_due};
 ghost use Rattle.sk_batch.specs.Numbers.{left_after};
+ghost use Rattle.sk_batch.specs.Places.{Climb, climbed};
 ghost use Rattle.sk_batch.specs.declared.numbers.Change.TheVariants.{Got};
 
 use crate::ancestors::fire_where;
@@ -69,33 +70,35 @@ impl Predicate<(State, Batch)> for Dies {
 // Adds what is fired behind the completes.
 fn add_later(
     batches: &BatchList,
-    bid: &[u8],
+    places: &[usize],
     event: Event,
     gained: Progress,
     firings: &mut Vec<Firing>,
 ) -> Result<(), Memory>
-    ensures { OnOk result (firings.new.items ≡ firings.old.items ++ later_due event gained batches.now.list.current bid.now) }
+    requires { Climb places.now batches.now.list.current }
+    ensures { OnOk result (firings.new.items ≡ firings.old.items ++ later_due event gained (climbed places.now batches.now.list.current)) }
 {
     match event {
         Event::Reported => Ok(()),
-        Event::Returned => fire_where(batches, bid, Kind::Success, &Settles { gained }, firings),
-        Event::Died => fire_where(batches, bid, Kind::Death, &Dies, firings),
+        Event::Returned => fire_where(batches, places, Kind::Success, &Settles { gained }, firings),
+        Event::Died => fire_where(batches, places, Kind::Death, &Dies, firings),
     }
 }
 
-/// What is fired where a member of this batch gets these marks by an event.
+/// What is fired where a member of a batch, at the first of these places, gets these marks by an event.
 pub fn due(
     alloc: Global,
     batches: &BatchList,
-    bid: &[u8],
+    places: &[usize],
     event: Event,
     gained: Progress,
 ) -> Result<Vec<Firing>, Memory>
-    ensures { IfOk result (λ firings. firings.items ≡ due event gained batches.now.list.current bid.now) }
+    requires { Climb places.now batches.now.list.current }
+    ensures { IfOk result (λ firings. firings.items ≡ due event gained (climbed places.now batches.now.list.current)) }
 {
     let mut firings = Vec::new(alloc);
     let completes = Completes { gained };
-    fire_where(batches, bid, Kind::Complete, &completes, &mut firings)?;
-    add_later(batches, bid, event, gained, &mut firings)?;
+    fire_where(batches, places, Kind::Complete, &completes, &mut firings)?;
+    add_later(batches, places, event, gained, &mut firings)?;
     Ok(firings)
 }

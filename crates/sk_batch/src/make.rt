@@ -1,17 +1,17 @@
 // Batches and members that come.
-ghost use Rattle.std.specs.Prelude.{◌≡◌, ◌≤◌, ◌∷◌, false, true, IfOk, List, OnErr, OnOk, length, vec_len};
+ghost use Rattle.std.specs.Prelude.{◌≡◌, ◌^◌, ◌<◌, ◌≤◌, ◌∷◌, false, true, IfOk, List, OnErr, OnOk, length, vec_len};
 ghost use Rattle.std.specs.List.{list_any};
 ghost use Rattle.sk_resp.specs.Spelling.{Bytes};
 ghost use Rattle.sk_batch.specs.Batched.{has_bid, is_there};
 ghost use Rattle.sk_batch.specs.Events.{made_fires, members_of, unfired};
 ghost use Rattle.sk_batch.specs.Fires.{after_fires};
-ghost use Rattle.sk_batch.specs.Ancestors.{ancestors};
 ghost use Rattle.sk_batch.specs.Order.{put_all};
+ghost use Rattle.sk_batch.specs.Places.{AreAncestors, Climb, first_place, parent_place};
 ghost use Rattle.sk_batch.specs.States.{AreEdited, BatchInvariant, new_state, seen_of};
 ghost use Rattle.sk_undo.specs.Balance.{most};
 ghost use Rattle.sk_undo.specs.Versions.{edited};
 
-use crate::ancestors::{change_ancestors, depth, firing};
+use crate::ancestors::{ancestor_places, change_ancestors, firing};
 use crate::batch_list::BatchList;
 use crate::edits::add_members;
 use crate::numbers::{Change, Numbers};
@@ -46,9 +46,11 @@ fn enter(
     batches: &mut BatchList,
     members: &mut UndoList<Progress, Member>,
     bid: &[u8],
+    places: &[usize],
     news: Vec<(Progress, Member)>,
 )
-    requires batches { length (ancestors batches.old.list.current bid.now) ≤ batches.old.room }
+    requires places { AreAncestors bid.now places.now batches.old.list.current }
+    requires batches { length places.now ≤ batches.old.room }
     requires members { vec_len news ≤ members.old.room }
     requires kept { BatchInvariant batches.old.list.current members.old.list.current }
     requires there { is_there bid.now (seen_of batches.old.list.current) ≡ true }
@@ -57,7 +59,7 @@ fn enter(
     ensures kept { (jids : List Bytes) → news.items ≡ members_of bid.now jids → vec_len news ≤ most → BatchInvariant batches.new.list.current members.new.list.current }
 {
     let _len = members.len(); // its contract says that there are no more than 2^60
-    change_ancestors(batches, bid, Change::Came(news.len() as u64));
+    change_ancestors(batches, bid, places, Change::Came(news.len() as u64));
     add_members(members, news);
 }
 
@@ -78,10 +80,10 @@ pub fn join(
     ensures err_members { OnErr result (members.new.list ≡ members.old.list) }
 {
     let news = new_members(alloc, bid, jids)?;
-    let depth = depth(batches, bid);
-    batches.reserve(depth)?;
+    let places = ancestor_places(alloc, batches, bid)?;
+    batches.reserve(places.len())?;
     members.reserve(news.len())?;
-    enter(batches, members, bid, news);
+    enter(batches, members, bid, &places, news);
     Ok(())
 }
 
@@ -111,27 +113,54 @@ fn new_state(empty: bool) -> State
     }
 }
 
-// Puts in a new batch with its state, and takes all memory for it and for this many members.
+// The places of a parent and of those that it is in, where there is one.
+fn parent_places(
+    alloc: Global,
+    batches: &BatchList,
+    parent: &Option<Word>,
+) -> Result<Vec<usize>, Memory>
+    ensures first { IfOk result (λ places. first_place places.items batches.now.list.current ≡ parent_place parent.now batches.now.list.current) }
+    ensures climb { IfOk result (λ places. Climb places.items batches.now.list.current) }
+{
+    match parent {
+        Some(parent) => ancestor_places(alloc, batches, parent.bytes()),
+        None => Ok(Vec::new(alloc)),
+    }
+}
+
+// The places of a new batch and of those that it is in, once it stands before the others.
+fn new_places(alloc: Global, batches: &BatchList, batch: &Batch) -> Result<Vec<usize>, Memory>
+    ensures { IfOk result (λ places. (state : State) → AreAncestors batch.now.bid places.items ((state, batch.now) ∷ batches.now.list.current)) }
+{
+    let _len = batches.len(); // its contract says that there are no more than 2^60
+    let above = parent_places(alloc, batches, &batch.parent)?;
+    let mut places = Vec::new(alloc);
+    places.push(0)?;
+    for place in &above {
+        places.push(*place + 1)?;
+    }
+    Ok(places)
+}
+
+// Puts in a new batch with its state, and takes all memory for it, for this many changes behind it and for this many members.
 fn add_batch(
     batches: &mut BatchList,
     members: &mut UndoList<Progress, Member>,
-    state: State,
-    batch: Batch,
+    entry: (State, Batch),
+    changes: usize,
     count: usize,
 ) -> Result<(), Memory>
-    requires { list_any (has_bid batch.bid) batches.old.list.current ≡ false }
-    ensures batches { OnOk result (batches.new.list ≡ edited ((state, batch) ∷ batches.old.list.current) batches.old.list) }
-    ensures room { OnOk result (length (ancestors batches.new.list.current batch.bid) ≤ batches.new.room) }
+    requires new { list_any (has_bid entry.1.bid) batches.old.list.current ≡ false }
+    requires few { changes < 2 ^ 63 }
+    ensures batches { OnOk result (batches.new.list ≡ edited (entry ∷ batches.old.list.current) batches.old.list) }
+    ensures room { OnOk result (changes ≤ batches.new.room) }
     ensures members { OnOk result (count ≤ members.new.room) }
     ensures same { members.new.list ≡ members.old.list }
     ensures err { OnErr result (batches.new.list ≡ batches.old.list) }
 {
-    let depth = match &batch.parent {
-        None => 0,
-        Some(parent) => depth(batches, parent.bytes()),
-    };
+    let (state, batch) = entry;
     let bid = batch.bid.copy()?;
-    batches.reserve(depth + 2)?;
+    batches.reserve(changes + 1)?;
     members.reserve(count)?;
     batches.put_first(bid, state, batch);
     Ok(())
@@ -159,7 +188,8 @@ pub fn make(
     let state = new_state(jids.is_empty());
     let bid = batch.bid.copy()?;
     let news = new_members(alloc, bid.bytes(), jids)?;
-    add_batch(batches, members, state, batch, news.len())?;
-    enter(batches, members, bid.bytes(), news);
+    let places = new_places(alloc, batches, &batch)?;
+    add_batch(batches, members, (state, batch), places.len(), news.len())?;
+    enter(batches, members, bid.bytes(), &places, news);
     Ok(firings)
 }

@@ -4,13 +4,13 @@ ghost use Rattle.sk_batch.specs.Along.{along};
 ghost use Rattle.sk_batch.specs.Batched.{is_job};
 ghost use Rattle.sk_batch.specs.Fires.{after_fires, retagged};
 ghost use Rattle.sk_batch.specs.Open.{with_mark};
-ghost use Rattle.sk_batch.specs.Places.{each_once};
+ghost use Rattle.sk_batch.specs.Places.{AreAncestors, each_once};
 ghost use Rattle.sk_batch.specs.States.{AreEdited, BatchInvariant, all_fired, of_lists, seen_of, with_change};
 ghost use Rattle.sk_batch.specs.declared.numbers.Change.TheVariants.{Got};
 ghost use Rattle.sk_batch.specs.Notify.{fires_of, mark_of};
 ghost use Rattle.sk_undo.specs.Versions.{edited};
 
-use crate::ancestors::{change_ancestors, depth};
+use crate::ancestors::{ancestor_places, change_ancestors};
 use crate::batch_list::BatchList;
 use crate::due::due;
 use crate::edits::{mark_fired, mark_member};
@@ -31,10 +31,10 @@ fn mark_of(event: Event) -> Mark
 }
 
 // How many edits these are. No list has room for more than there are numbers.
-fn edits_of(depth: usize, fires: usize) -> Result<usize, Memory>
-    ensures { IfOk result (λ edits. edits ≡ depth + fires) }
+fn edits_of(changes: usize, fires: usize) -> Result<usize, Memory>
+    ensures { IfOk result (λ edits. edits ≡ changes + fires) }
 {
-    match depth.checked_add(fires) {
+    match changes.checked_add(fires) {
         Some(edits) => Ok(edits),
         None => Err(Memory),
     }
@@ -44,18 +44,19 @@ fn edits_of(depth: usize, fires: usize) -> Result<usize, Memory>
 fn keep_fires(
     batches: &mut BatchList,
     bid: &[u8],
+    places: &[usize],
     gained: Progress,
     firings: &[Firing],
 ) -> Result<(), Memory>
+    requires { AreAncestors bid.now places.now batches.old.list.current }
     ensures ok { OnOk result (batches.new.list ≡ edited (along (with_change (Got gained) bid.now) (all_fired firings.now batches.old.list.current) bid.now) batches.old.list) }
     ensures once { OnOk result (each_once (all_fired firings.now batches.old.list.current) ≡ true) }
     ensures err { OnErr result (batches.new.list ≡ batches.old.list) }
 {
-    let depth = depth(batches, bid);
-    let edits = edits_of(depth, firings.len())?;
+    let edits = edits_of(places.len(), firings.len())?;
     batches.reserve(edits)?;
     mark_fired(batches, firings);
-    change_ancestors(batches, bid, Change::Got(gained));
+    change_ancestors(batches, bid, places, Change::Got(gained));
     Ok(())
 }
 
@@ -83,9 +84,10 @@ pub fn notify(
     }
     let mark = mark_of(event);
     let gained = gained(mark, members.get(at).0);
-    let firings = due(alloc, batches, bid, event, gained)?;
+    let places = ancestor_places(alloc, batches, bid)?;
+    let firings = due(alloc, batches, &places, event, gained)?;
     members.reserve(1)?;
-    keep_fires(batches, bid, gained, &firings)?;
+    keep_fires(batches, bid, &places, gained, &firings)?;
     mark_member(members, at, mark);
     Ok(firings)
 }
