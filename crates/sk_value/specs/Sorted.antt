@@ -15,6 +15,11 @@ use Rattle.sk_value.specs.declared.write_op.WriteOp.TheVariants as edit
 use Rattle.sk_value.specs.Answer.{Answer, AndThen, counted, texts, text_or_null}
 use Rattle.sk_value.specs.Lists.{first_index, end_index, range_of}
 
+-- what a set has that may not be there yet
+abbrev pub pairs_in : {B : Type 0} → (B → List Pair) → Option B → List Pair
+pairs_in pairs None = []
+pairs_in pairs (Some set) = pairs set
+
 -- ## Reading
 
 -- the members in order, each followed by its score's text where the scores are asked for

@@ -1,6 +1,6 @@
 // Sorted sets (Redis, "Sorted sets"): pairs of a score and a member over `ZSet`, with no open step. A ZADD of several pairs is one step, which
 // is taken back where memory runs out; what takes pairs out takes no memory.
-ghost use Rattle.std.specs.Prelude.{◌≡◌, ◌<◌, ◌^◌, [], None, length, OnErr, OnOk};
+ghost use Rattle.std.specs.Prelude.{◌≡◌, ◌<◌, ◌^◌, [], None, length, IfOk, OnErr, OnOk};
 ghost use Rattle.sk_undo.specs.Versions.{edited};
 ghost use Rattle.sk_value.specs.Answer.{AnswersWith, UpdatesTo};
 ghost use Rattle.sk_value.specs.Sorted.{all_added, all_without, edit_sorted, look_sorted, without_range};
@@ -15,21 +15,62 @@ use sk_zset::ZSet;
 use std::alloc::Global;
 use std::marker::Model;
 
-/// A sorted set. Contracts see the list of its pairs of a score, in millionths, and a member, by score and then by the members' bytes.
+/// A sorted set, in a block of its own: so a key without one takes a fraction of its bytes. Contracts see the list of its pairs of a score, in millionths,
+/// and a member, by score and then by the members' bytes.
 #[derive(Drop)]
 pub struct Sorted {
-    set: ZSet,
+    alloc: Global,
+    // None: it never had a pair.
+    set: Option<Box<ZSet>>,
 }
 
 impl Model for Sorted {
-    ghost use Rattle.std.specs.Prelude.{◌≡◌, List, None};
+    ghost use Rattle.std.specs.Prelude.{◌≡◌, IfSome, List, None};
     ghost use Rattle.sk_zset.specs.Pair.{Pair};
+    ghost use Rattle.sk_value.specs.Sorted.{pairs_in};
 
     ghost Value = { List Pair };
 
-    ghost view = { λ sorted. sorted.set.current };
+    ghost view = { λ sorted. pairs_in (λ b. b.value.current) sorted.set };
 
-    ghost invariant = { λ sorted. sorted.set.saved ≡ None };
+    ghost invariant = { λ sorted. IfSome sorted.set (λ b. b.value.saved ≡ None) };
+}
+
+// Puts a set into a block of its own.
+fn boxed(alloc: Global, set: ZSet) -> Result<Box<ZSet>, Memory>
+    ensures { IfOk result (λ b. b.value ≡ set) }
+{
+    Ok(Box::new(alloc, set)?)
+}
+
+// Edits a set. An edit of a set that isn't there yet takes the memory of its block.
+#[tactic(auto, unfolding(crate::specs::Sorted::edit_sorted))]
+fn edit_set(set: &mut ZSet, edit: WriteOp) -> Result<Reply, KeysFault>
+    requires { set.old.saved ≡ None }
+    ensures done { UpdatesTo (edit_sorted edit set.old.current) result set.new.current }
+    ensures closed { set.new.saved ≡ None }
+    ensures err { OnErr result (set.new ≡ set.old) }
+{
+    let before = set.len();
+    match edit {
+        WriteOp::Zadd(more) => {
+            add_all(set, more.into_list())?;
+            Ok(counted(set.len().saturating_sub(before) as usize))
+        }
+        WriteOp::Zrem(members) => {
+            remove_all(set, &members);
+            Ok(counted(before.saturating_sub(set.len()) as usize))
+        }
+        WriteOp::Zremrangebyrank(first, last) => {
+            remove_range(set, first, last);
+            Ok(counted(before.saturating_sub(set.len()) as usize))
+        }
+        WriteOp::Zremrangebyscore(least, greatest) => {
+            set.remove_scores(least, greatest);
+            Ok(counted(before.saturating_sub(set.len()) as usize))
+        }
+        _ => Err(KeysFault::WrongType),
+    }
 }
 
 impl Sorted {
@@ -37,16 +78,17 @@ impl Sorted {
     pub fn new(alloc: Global) -> Sorted
         ensures { result ≡ [] }
     {
-        Sorted {
-            set: ZSet::new(alloc),
-        }
+        Sorted { alloc, set: None }
     }
 
     pub fn len(&self) -> usize
         ensures is { result ≡ length self.now }
         ensures small { result < 2 ^ 63 }
     {
-        self.set.len() as usize
+        match &self.set {
+            Some(set) => set.len() as usize,
+            None => 0,
+        }
     }
 
     /// What `ZCARD key`, `ZSCORE key member`, `ZRANGE key first last [WITHSCORES]` and `ZRANGEBYSCORE key min max [WITHSCORES] [LIMIT skip count]`
@@ -54,35 +96,37 @@ impl Sorted {
     pub fn look(&self, alloc: Global, look: &ReadOp) -> Result<Reply, KeysFault>
         ensures { AnswersWith (look_sorted look.now self.now) result }
     {
-        look_sorted(alloc, &self.set, look)
+        match &self.set {
+            Some(set) => look_sorted(alloc, &**set, look),
+            None => look_sorted(alloc, &ZSet::new(alloc), look),
+        }
+    }
+
+    // What an edit of a set without a block answers. The set gets one where it has pairs then.
+    fn edit_first(&mut self, edit: WriteOp) -> Result<Reply, KeysFault>
+        requires { self.old ≡ [] }
+        ensures done { UpdatesTo (edit_sorted edit self.old) result self.new }
+        ensures err { OnErr result (self.new ≡ self.old) }
+    {
+        let mut set = ZSet::new(self.alloc);
+        let reply = edit_set(&mut set, edit)?;
+        if set.len() == 0 {
+            self.set = None;
+        } else {
+            self.set = Some(boxed(self.alloc, set)?);
+        }
+        Ok(reply)
     }
 
     /// What `ZADD key score member ..`, `ZREM key member ..`, `ZREMRANGEBYRANK key first last` and `ZREMRANGEBYSCORE key min max` answer, and the
     /// sorted set afterwards. Another command is `WrongType`. All but ZADD take no memory.
-    #[tactic(auto, unfolding(crate::specs::Sorted::edit_sorted))]
     pub fn edit(&mut self, edit: WriteOp) -> Result<Reply, KeysFault>
         ensures done { UpdatesTo (edit_sorted edit self.old) result self.new }
         ensures err { OnErr result (self.new ≡ self.old) }
     {
-        let before = self.len();
-        match edit {
-            WriteOp::Zadd(more) => {
-                add_all(&mut self.set, more.into_list())?;
-                Ok(counted(self.len().saturating_sub(before)))
-            }
-            WriteOp::Zrem(members) => {
-                remove_all(&mut self.set, &members);
-                Ok(counted(before.saturating_sub(self.len())))
-            }
-            WriteOp::Zremrangebyrank(first, last) => {
-                remove_range(&mut self.set, first, last);
-                Ok(counted(before.saturating_sub(self.len())))
-            }
-            WriteOp::Zremrangebyscore(least, greatest) => {
-                self.set.remove_scores(least, greatest);
-                Ok(counted(before.saturating_sub(self.len())))
-            }
-            _ => Err(KeysFault::WrongType),
+        match &mut self.set {
+            Some(set) => edit_set(&mut **set, edit),
+            None => self.edit_first(edit),
         }
     }
 }
