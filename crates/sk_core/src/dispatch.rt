@@ -5,6 +5,7 @@ ghost use Rattle.sk_model.specs.Seats.{releases};
 ghost use Rattle.sk_model.specs.Step.{run};
 ghost use Rattle.sk_model.specs.World.{phase_of};
 ghost use Rattle.sk_jobs.specs.Callbacks.{AreCovered};
+ghost use Rattle.sk_places.specs.Cleared.{AllStand};
 ghost use Rattle.sk_store.specs.Stored.{IsReady, Executes, world};
 ghost use Rattle.sk_core.specs.Whole.{AnswersCommand, sent_by};
 
@@ -21,7 +22,8 @@ use sk_value::{Action, action_of, refused};
 
 // Does what a seat's command on keys does. Where memory runs out it was no release.
 fn run_plain(store: &mut Store, seat: u32, reads: bool, action: Action) -> Result<Reply, Memory>
-    requires { IsReady store.old }
+    requires ready { IsReady store.old }
+    requires standing { AllStand (world store.old).rows (world store.old).live }
     ensures ran { Executes store.old (sent_by (world store.old) seat (phase_of (world store.old) seat) reads action) result store.new }
     ensures release { OnErr result (releases (phase_of (world store.old) seat) action ≡ false) }
 {
@@ -37,7 +39,8 @@ fn run_plain(store: &mut Store, seat: u32, reads: bool, action: Action) -> Resul
 
 // Does it at a moment.
 fn step_plain(store: &mut Store, seat: u32, now: u64, command: PlainCommand) -> Reply
-    requires { IsReady store.old }
+    requires ready { IsReady store.old }
+    requires standing { AllStand (world store.old).rows (world store.old).live }
     ensures served { AnswersCommand store.old seat now (Command.Plain command) result store.new }
     ensures ready { IsReady store.new }
 {
@@ -104,9 +107,11 @@ fn step_script(store: &mut Store, seat: u32, now: u64, script: ScriptCommand) ->
     }
 }
 
-/// Does a command that a seat hands in at a moment, in milliseconds since 1970. Where memory runs out time alone has gone on.
+/// Does a command that a seat hands in at a moment, in milliseconds since 1970. Where memory runs out time alone has gone on. Some row names each live
+/// job.
 pub fn step(store: &mut Store, seat: u32, now: u64, command: Command) -> Reply
     requires ready { IsReady store.old }
+    requires standing { AllStand (world store.old).rows (world store.old).live }
     requires covered { AreCovered store.old }
     ensures served { AnswersCommand store.old seat now command result store.new }
     ensures ready { IsReady store.new }

@@ -5,4 +5,5 @@ mod dispatch;
 mod rights;
 mod store;
 
+pub use sk_store::Removed;
 pub use store::Core;

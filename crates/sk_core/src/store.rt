@@ -17,7 +17,7 @@ use sk_model::Limits;
 use sk_resp::{Memory, Reply};
 use sk_seats::Phase;
 use sk_status::{Numbers, Tally};
-use sk_store::Store;
+use sk_store::{Removed, Store};
 use std::alloc::Global;
 use std::marker::Model;
 
@@ -58,7 +58,16 @@ impl Core {
     pub fn step(&mut self, seat: u32, now: u64, command: Command) -> Reply
         ensures { (o : Outcome) × MayComeTo self.old seat now command o × Realizes self.old o result self.new }
     {
+        self.store.free_removed();
         step(&mut self.store, seat, now, command)
+    }
+
+    /// Hands out the rows and keys that a FLUSHALL took out in the last step, to be freed where that holds nobody up. The next step frees what wasn't
+    /// handed out. None where there is nothing. Constant time, and takes no memory.
+    pub fn take_removed(&mut self) -> Option<Removed>
+        ensures { self.new ≡ self.old }
+    {
+        self.store.take_removed()
     }
 
     /// The seat is cut off: it is Plain from then on, and nothing else changes. Not even time goes on. Takes no memory.

@@ -10,12 +10,14 @@ ghost use Rattle.sk_keys.specs.Index.{IsIndexed};
 use crate::apply::act;
 use crate::delete;
 use crate::expiries::{Expiries, has_expired};
+use crate::removed::RemovedKeys;
 use sk_cmd::PlainCommand;
 use sk_resp::{Reply, Word};
 use sk_value::{Action, Entry, KeysFault, action_of};
 use std::alloc::Global;
 use std::collections::{BTreeMap, BTreeSet};
 use std::marker::Model;
+use std::mem;
 
 /// What stands under each name.
 pub type Entries = BTreeMap<Word, Entry>;
@@ -26,6 +28,8 @@ pub struct Keys {
     alloc: Global,
     entries: Entries,
     expiries: Expiries,
+    // What was removed at once and isn't freed yet. No contract speaks of it.
+    removed: Option<RemovedKeys>,
 }
 
 impl Model for Keys {
@@ -64,6 +68,7 @@ impl Keys {
             alloc,
             entries: BTreeMap::new(alloc),
             expiries: BTreeSet::new(alloc),
+            removed: None,
         }
     }
 
@@ -89,11 +94,21 @@ impl Keys {
         delete::remove(&mut self.entries, &mut self.expiries, name)
     }
 
-    /// Removes all keys. Takes no memory.
+    /// Removes all keys, in constant time: their memory is kept aside until [`Keys::take_removed`]. Takes no memory.
     pub fn clear(&mut self)
         ensures { self.new ≡ [] }
     {
-        delete::clear(&mut self.entries, &mut self.expiries);
+        self.removed = Some(RemovedKeys {
+            entries: mem::replace(&mut self.entries, BTreeMap::new(self.alloc)),
+            expiries: mem::replace(&mut self.expiries, BTreeSet::new(self.alloc)),
+        });
+    }
+
+    /// Hands out what the last `clear` kept aside, to be freed. Takes no memory.
+    pub fn take_removed(&mut self) -> Option<RemovedKeys>
+        ensures { self.new ≡ self.old }
+    {
+        self.removed.take()
     }
 
     /// Does what Redis's command does at the moment `now`, in milliseconds since 1970, and gives its reply. A key whose deadline is over still

@@ -10,6 +10,8 @@ mod keys;
 mod look;
 mod move_list;
 mod put;
+mod removed;
 mod set;
 
 pub use keys::Keys;
+pub use removed::RemovedKeys;

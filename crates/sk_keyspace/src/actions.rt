@@ -1,5 +1,6 @@
 // Every action on keys, handed to what does it.
 ghost use Rattle.sk_model.specs.Step.{act};
+ghost use Rattle.sk_places.specs.Cleared.{AllStand};
 ghost use Rattle.sk_store.specs.Stored.{IsReady, Executes, world};
 
 use crate::deletes::{delete, flush};
@@ -11,9 +12,10 @@ use sk_resp::{Memory, Reply, Say};
 use sk_store::Store;
 use sk_value::Action;
 
-/// Does what a command does that is no worker's. Where memory runs out nothing has changed.
+/// Does what a command does that is no worker's. Where memory runs out nothing has changed. Some row names each live job.
 pub fn act(store: &mut Store, action: Action) -> Result<Reply, Memory>
-    requires { IsReady store.old }
+    requires ready { IsReady store.old }
+    requires standing { AllStand (world store.old).rows (world store.old).live }
     ensures { Executes store.old (act (world store.old) action) result store.new }
 {
     match action {

@@ -6,6 +6,7 @@ ghost use Rattle.sk_model.specs.Change.{perform};
 ghost use Rattle.sk_model.specs.Deletes.{delete, delete_as, delete_each, flush, may_go};
 ghost use Rattle.sk_model.specs.Outcome.{Realizes};
 ghost use Rattle.sk_key.specs.declared.key_class.KeyClass.TheVariants as class;
+ghost use Rattle.sk_places.specs.Cleared.{AllStand};
 ghost use Rattle.sk_store.specs.Stored.{IsReady, world};
 ghost use Rattle.sk_keyspace.specs.Deleted.{Deletes};
 
@@ -85,14 +86,16 @@ pub fn delete(store: &mut Store, names: Words) -> Reply
     counted(delete_all(store, names.into_list()))
 }
 
-/// Deletes all jobs, the names of the queues and all plain keys. Batches, heartbeats and counters stay, and so does what the seats have.
+/// Deletes all jobs, the names of the queues and all plain keys, in constant time: the store keeps them aside to be freed. Batches, heartbeats and
+/// counters stay, and so does what the seats have. Some row names each live job.
 #[tactic(auto, using(crate::proofs::Deleting::flush_comes))]
 pub fn flush(store: &mut Store) -> Reply
-    requires { IsReady store.old }
+    requires ready { IsReady store.old }
+    requires standing { AllStand (world store.old).rows (world store.old).live }
     ensures done { Realizes (world store.old) (flush (world store.old)) result (world store.new) }
     ensures ready { IsReady store.new }
 {
-    store.places.clear();
+    store.places.clear(store.alloc);
     store.keys.clear();
     Reply::Say(Say::Ok)
 }

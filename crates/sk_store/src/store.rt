@@ -6,6 +6,7 @@ ghost use Rattle.sk_model.specs.Room.{bytes_of, is_full};
 ghost use Rattle.sk_model.specs.World.{first};
 ghost use Rattle.sk_store.specs.Stored.{IsOpen, IsReady, begun_in, committed_in, undone_in, world};
 
+use crate::Removed;
 use crate::room::have_no_bytes;
 use sk_base::limits::{LAST_MOMENT, MOST_PUSHES};
 use sk_batch::Batches;
@@ -69,6 +70,26 @@ impl Store {
         self.moment = self.moment.max(now.min(LAST_MOMENT));
         self.keys.purge(self.moment);
         self.leases.purge(self.moment);
+    }
+
+    /// Hands out what the last FLUSHALL took out, to be freed. None where there is nothing. Constant time, and takes no memory.
+    pub fn take_removed(&mut self) -> Option<Removed>
+        ensures { self.new ≡ self.old }
+    {
+        if !self.places.has_removed() {
+            return None;
+        }
+        Some(Removed {
+            rows: self.places.take_removed(),
+            keys: self.keys.take_removed(),
+        })
+    }
+
+    /// Frees it, in time for each row and each key. Takes no memory.
+    pub fn free_removed(&mut self)
+        ensures { self.new ≡ self.old }
+    {
+        self.take_removed();
     }
 
     /// With so many texts of so many bytes, all counted as new, there would be more than the store takes. Takes no memory.

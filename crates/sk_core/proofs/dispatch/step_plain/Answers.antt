@@ -3,7 +3,8 @@ use Rattle.sk_value.specs.Action.{action_of}
 use Rattle.sk_model.specs.Outcome.{Realizes}
 use Rattle.sk_model.specs.Seats.{releases}
 use Rattle.sk_model.specs.Step.{plain_outcome, starves}
-use Rattle.sk_model.specs.World.{phase_of}
+use Rattle.sk_model.specs.World.{World, phase_of}
+use Rattle.sk_places.specs.Cleared.{AllStand}
 use Rattle.sk_store.specs.Stored.{IsReady, world}
 use Rattle.sk_core.specs.Whole.{sent_by}
 use Rattle.sk_core.proofs.Stepping.{plain_comes}
@@ -34,3 +35,6 @@ returns-in-Err-clause-served c =
 
 pub returns-in-Err-clause-ready : goal.returns-in-Err-clause-ready
 returns-in-Err-clause-ready c = subst IsReady (sym c.in-Err.ensures.ran) c.pass.ensures.ready
+
+pub run_plain-requires-clause-standing : goal.run_plain-requires-clause-standing
+run_plain-requires-clause-standing c = subst (λ (w : World). AllStand w.rows w.live) (sym c.pass.ensures.world) c.requires.standing
