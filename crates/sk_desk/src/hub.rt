@@ -97,7 +97,7 @@ impl<I: HubId, B: Book> Hub<I, B> {
         self.state.lock(rt).enter(seat)
     }
 
-    // One command of a seat. The lock is held for that alone.
+    // One command of a seat. The lock is held for that alone: what a FLUSHALL took out is freed behind it.
     pub(crate) fn ask<R: Wait>(
         &self,
         rt: &R,
@@ -114,7 +114,12 @@ impl<I: HubId, B: Book> Hub<I, B> {
         ensures acked { Acknowledges command result share.old.counts.rows share.new.counts.rows }
         ensures asked { CountsAsk result share.old.counts.asks share.new.counts.asks }
     {
-        self.state.lock(rt).ask(share, seat, now, words, command)
+        let mut state = self.state.lock(rt);
+        let reply = state.ask(share, seat, now, words, command);
+        let removed = state.take_removed();
+        drop(state);
+        drop(removed);
+        reply
     }
 
     // The cut of a seat.

@@ -9,7 +9,7 @@ ghost use Rattle.sk_desk.specs.State.{Asks, IsKept, Quits};
 
 use crate::{Book, Effect, HubId, HubShare, HubTotal, Outbox, Stamp};
 use sk_cmd::Command;
-use sk_core::Core;
+use sk_core::{Core, Removed};
 use sk_resp::{Memory, Reply, Say, Words};
 use std::marker::Model;
 
@@ -93,6 +93,13 @@ impl<I: HubId, B: Book> State<I, B> {
         self.book.note(&stamp, &reply);
         self.total.add(share, added);
         reply
+    }
+
+    // Hands out what the store has taken out and not freed. Constant time, and takes no memory.
+    pub(crate) fn take_removed(&mut self) -> Option<Removed>
+        ensures { self.new ≡ self.old }
+    {
+        self.core.take_removed()
     }
 
     /// Cuts the seat off, enters that at the place, and counts it in the share and in the total. Takes no memory.
