@@ -14,7 +14,7 @@ use Rattle.sk_places.specs.Order.{is_first, is_ordered}
 use Rattle.sk_places.specs.Rows.{ident_at, is_at, is_past, next_ident, place_cmp, row_cmp, rows_at}
 use Rattle.sk_model.specs.Rescue.{is_left, left_rows}
 use Rattle.sk_model.specs.World.{World}
-use Rattle.sk_jobs.specs.Rescuing.{IsFront, IsPassed}
+use Rattle.sk_jobs.specs.Rescuing.{IsFront, IsPassed, others_left}
 use Rattle.sk_jobs.proofs.Fronts.{fails_at}
 
 -- the row is of an identity behind this one
@@ -213,13 +213,27 @@ own_left test place (row ∷ rows) e = by_at (is_at place row) refl (own_left te
   by_at true at more = let passes_ : not (test row.place) ≡ false = fails_at (λ p. not (test p)) place row (ap not e) at in grind (arith, at, passes_, more)
   by_at false away more = grind (arith, away, more)
 
+-- ## What stands behind a process
+
+goes_by : (w : World) (ident : Bytes) (row : Row) → is_left w row.place ≡ true → from ident row ≡ true → is_at (Private ident) row ≡ false → past (Some ident) row ≡ true
+goes_by w ident row left here away = by_place row.place left here away where
+  by_place : (place : Place) → is_left w place ≡ true → is_le (place_cmp (Private ident) place) ≡ true → is_eq (place_cmp (Private ident) place) ≡ false → is_past (Some ident) (ident_at place) ≡ true
+  by_place (Queue queue) l h n = absurd (cc l)
+  by_place (Private other) l h n = grind (arith, h, n)
+  by_place (Set set) l h n = absurd (cc l)
+
+others_by : (w : World) (ident : Bytes) (rows : List Row) → list_all (from ident) (filter (λ row. is_left w row.place) rows) ≡ true → list_all (past (Some ident)) (filter (λ row. not (is_at (Private ident) row)) (filter (λ row. is_left w row.place) rows)) ≡ true
+others_by w ident [] e = refl
+others_by w ident (row ∷ rows) e = grind (arith, e, goes_by w ident row, others_by w ident rows)
+
 -- a process without a heartbeat has its rows in front of all that are left
 pub is_front : (w : World) (after : Option Bytes) (ident : Bytes) → is_ordered w.rows ≡ true → next_ident after w.rows ≡ Some ident → IsPassed after w → is_left w (Private ident) ≡ true → IsFront ident w
 is_front w after ident o e passed left =
     let all : list_all (from ident) (left_rows w) ≡ true = all_through (λ row. is_left w row.place) (past after) (from ident) w.rows passed (past_from after ident w.rows o e) in
     record {
       some = next_some after ident w.rows e;
-      front = in_front ident (left_rows w) (order_kept (λ row. is_left w row.place) w.rows o) all ∙ ap (λ own. own ++ filter (λ row. not (is_at (Private ident) row)) (left_rows w)) (own_left (is_left w) (Private ident) w.rows left);
+      front = in_front ident (left_rows w) (order_kept (λ row. is_left w row.place) w.rows o) all ∙ ap (λ own. own ++ others_left ident w) (own_left (is_left w) (Private ident) w.rows left);
+      behind = others_by w ident w.rows all;
     }
 
 -- ## A process that is alive goes by
@@ -230,16 +244,9 @@ not_its w ident row alive left = by_at (is_at (Private ident) row) refl where
   by_at true at = let no : true ≡ false = sym left ∙ fails_at (is_left w) (Private ident) row alive at in absurd (cc no)
   by_at false at = refl
 
-goes_by : (w : World) (ident : Bytes) (row : Row) → is_left w (Private ident) ≡ false → is_left w row.place ≡ true → from ident row ≡ true → past (Some ident) row ≡ true
-goes_by w ident row alive left here = by_place row.place left here (not_its w ident row alive left) where
-  by_place : (place : Place) → is_left w place ≡ true → is_le (place_cmp (Private ident) place) ≡ true → is_eq (place_cmp (Private ident) place) ≡ false → is_past (Some ident) (ident_at place) ≡ true
-  by_place (Queue queue) l h n = absurd (cc l)
-  by_place (Private other) l h n = grind (arith, h, n)
-  by_place (Set set) l h n = absurd (cc l)
-
 all_by : (w : World) (ident : Bytes) (rows : List Row) → is_left w (Private ident) ≡ false → list_all (from ident) (filter (λ row. is_left w row.place) rows) ≡ true → list_all (past (Some ident)) (filter (λ row. is_left w row.place) rows) ≡ true
 all_by w ident [] alive e = refl
-all_by w ident (row ∷ rows) alive e = grind (arith, e, goes_by w ident row alive, all_by w ident rows alive)
+all_by w ident (row ∷ rows) alive e = grind (arith, e, goes_by w ident row, not_its w ident row alive, all_by w ident rows alive)
 
 pub passed_by : (w : World) (after : Option Bytes) (ident : Bytes) → is_ordered w.rows ≡ true → next_ident after w.rows ≡ Some ident → IsPassed after w → is_left w (Private ident) ≡ false → IsPassed (Some ident) w
 passed_by w after ident o e passed alive = all_by w ident w.rows alive (all_through (λ row. is_left w row.place) (past after) (from ident) w.rows passed (past_from after ident w.rows o e))

@@ -145,10 +145,6 @@ left_after now next others at e f = filter_agree (λ row. is_left next row.place
 pub left_aside : (w : World) → IsAside (is_left w)
 left_aside w = record { queues = λ queue. refl; dead = refl }
 
-some_pass : (one other : Row → Bool) (rows : List Row) → list_all one rows ≡ true → list_all one (filter other rows) ≡ true
-some_pass one other [] e = refl
-some_pass one other (row ∷ rows) e = grind (arith, e, some_pass one other rows)
-
 some_left : (w : World) → length (left_rows w) ≤ length w.rows
 some_left w = fewer (λ row. is_left w row.place) w.rows where
   fewer : (test : Row → Bool) (rows : List Row) → length (filter test rows) ≤ length rows
@@ -181,7 +177,3 @@ all_listed w (row ∷ rows) = grind (arith, all_listed w rows, listed w row.plac
 
 pub none_passed : (w : World) → IsPassed None w
 none_passed w = all_listed w w.rows
-
--- the rows of one process were rescued
-pub passed_on : (after : Option Bytes) (ident : Bytes) (now next : World) → left_rows next ≡ filter (λ row. not (is_at (Private ident) row)) (left_rows now) → IsPassed after now → IsPassed after next
-passed_on after ident now next e passed = ap (list_all (λ row. is_past after (ident_at row.place))) e ∙ some_pass (λ row. is_past after (ident_at row.place)) (λ row. not (is_at (Private ident) row)) (left_rows now) passed

@@ -21,10 +21,15 @@ own_rows ident w = rows_at (Private ident) w.rows
 abbrev pub IsPassed : Option Bytes → World → Type 0
 IsPassed after w = list_all (λ row. is_past after (ident_at row.place)) (left_rows w) ≡ true
 
--- The process has rows, and of all that are left they stand in front.
+-- the rows that are left of other processes
+abbrev pub others_left : Bytes → World → List Row
+others_left ident w = filter (λ row. not (is_at (Private ident) row)) (left_rows w)
+
+-- The process has rows, and of all that are left they stand in front; the others are of identities behind it.
 pub record IsFront (ident : Bytes) (w : World) : Type 0 where
   pub some : 0 < length (own_rows ident w)
-  pub front : left_rows w ≡ own_rows ident w ++ filter (λ row. not (is_at (Private ident) row)) (left_rows w)
+  pub front : left_rows w ≡ own_rows ident w ++ others_left ident w
+  pub behind : list_all (λ row. is_past (Some ident) (ident_at row.place)) (others_left ident w) ≡ true
 
 -- the process that a rescue comes to next, or none where no row is left
 abbrev pub IsNext : Option Bytes → World → Type 0

@@ -1,5 +1,5 @@
 // SK.RESCUE: the jobs of processes that are gone go back to their queues (Sidekiq's wiki, "Reliability").
-ghost use Rattle.std.specs.Prelude.{◌≡◌, ◌∷◌, [], ◌<◌, ◌≤◌, ◌+◌, ◌^◌, false, IfOk, OnOk, length};
+ghost use Rattle.std.specs.Prelude.{◌≡◌, ◌∷◌, [], ◌<◌, ◌≤◌, ◌+◌, ◌^◌, false, IfOk, OnOk, length, option_map};
 ghost use Rattle.std.specs.Ordering.{is_eq};
 ghost use Rattle.sk_base.specs.Score.{last_moment};
 ghost use Rattle.sk_cmd.specs.declared.argument.Scored.TheVariants.{Dead};
@@ -94,19 +94,18 @@ fn rescue_list(store: &mut Store, ident: Word) -> Result<Report, Memory>
     Ok(report)
 }
 
-// The first process without a heartbeat, by its identity, that has a private list with a job. Its identity stands behind `after`, which goes on
-// past the living that stand before it.
-fn next_gone(store: &Store, after: &mut Option<Word>) -> Result<Option<Word>, Memory>
-    requires { IsPassed after.old (world store.now) }
-    ensures next { IfOk result (λ ident. IsNext ident (world store.now)) }
-    ensures passed { OnOk result (IsPassed after.new (world store.now)) }
+// A copy of the first identity behind this one, by its bytes, of a process without a heartbeat that has a private list with a job.
+fn next_gone(store: &Store, after: Option<&Word>) -> Result<Option<Word>, Memory>
+    requires { IsPassed (option_map (λ word. word.now) after) (world store.now) }
+    ensures { IfOk result (λ ident. IsNext ident (world store.now)) }
 {
-    while let Some(ident) = store.places.next_ident(after.as_ref()) {
-        let ident = ident.copy()?;
-        if !store.leases.alive(&ident, store.moment) {
-            return Ok(Some(ident));
+    let mut passed = after;
+    while let Some(ident) = store.places.next_ident(passed) {
+        if !store.leases.alive(ident, store.moment) {
+            let gone = ident.copy()?;
+            return Ok(Some(gone));
         }
-        *after = Some(ident);
+        passed = Some(ident);
     }
     Ok(None)
 }
@@ -121,10 +120,12 @@ fn rescue_all(store: &mut Store) -> Result<Report, Memory>
 {
     let _count = store.places.row_count(); // for what it says of their number
     let mut report = Report::nothing(store.alloc);
-    let mut after = None;
-    while let Some(ident) = next_gone(store, &mut after)? {
+    let mut after: Option<Word> = None;
+    while let Some(ident) = next_gone(store, after.as_ref())? {
+        let passed = ident.copy()?;
         let more = rescue_list(store, ident)?;
         report.append(more)?;
+        after = Some(passed);
     }
     Ok(report)
 }

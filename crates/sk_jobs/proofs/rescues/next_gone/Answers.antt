@@ -1,45 +1,28 @@
-use Rattle.std.proofs.Common.{◌≡◌, ◌∙◌, true, false, ap, not, sym}
-use Rattle.std.specs.Prelude.{None}
-use Rattle.sk_places.specs.Rows.{next_ident}
+use Rattle.std.proofs.Common.{◌≡◌, ◌∙◌, true, false, ap, not, subst, sym}
+use Rattle.std.specs.Prelude.{option_map}
 use Rattle.sk_places.specs.declared.row.Place.TheVariants.{Private}
 use Rattle.sk_model.specs.Rescue.{is_left}
+use Rattle.sk_resp.specs.Spelling.{Bytes}
 use Rattle.sk_store.specs.Stored.{world}
-use Rattle.sk_jobs.proofs.Passing.{is_front, looked_up, none_left, passed_by, passes_one}
+use Rattle.sk_jobs.specs.Rescuing.{IsFront}
+use Rattle.sk_jobs.proofs.Passing.{is_front, none_left, passed_by, passes_one}
 use Rattle.sk_jobs.proofs.rescues.next_gone.Goals as goal
 
-pub returns-clause-next : goal.returns-clause-next
-returns-clause-next c =
-    let none : next_ident c.loop-ident.after (world c.args.store.now).rows ≡ None = ap (λ o. next_ident o (world c.args.store.now).rows) (sym c.as_ref.ensures.value) ∙ sym c.in_default.ensures.is in
-    none_left (world c.args.store.now) c.loop-ident.after none c.loop-ident.invariant.passed
+pub returns : goal.returns
+returns c = none_left (world c.args.store.now) (option_map (λ word. word.now) c.loop-ident.passed) (sym c.in_default.ensures.is) c.loop-ident.invariant.passed
 
-pub returns-then-not-alive-clause-next : goal.returns-then-not-alive-clause-next
-returns-then-not-alive-clause-next c =
-    let there = looked_up c.loop-ident.after _ c.in-Some.ident.now c.in_ok-ident.ident (world c.args.store.now).rows c.as_ref.ensures.value c.in-Some.ensures.is c.in_ok-ident.ensures in
-    let gone : is_left (world c.args.store.now) (Private c.in_ok-ident.ident) ≡ true = ap not (sym c.alive.ensures ∙ c.if-not-alive.true) in
-    is_front (world c.args.store.now) c.loop-ident.after c.in_ok-ident.ident c.next_ident.ensures.order there c.loop-ident.invariant.passed gone
-
-pub loop-ident-smaller-else-not-alive : goal.loop-ident-smaller-else-not-alive
-loop-ident-smaller-else-not-alive c =
-    let there = looked_up c.loop-ident.after _ c.in-Some.ident.now c.in_ok-ident.ident (world c.args.store.now).rows c.as_ref.ensures.value c.in-Some.ensures.is c.in_ok-ident.ensures in
-    passes_one c.loop-ident.after c.in_ok-ident.ident (world c.args.store.now).rows there
+pub returns-then-not-alive : goal.returns-then-not-alive
+returns-then-not-alive c =
+    let gone : is_left (world c.args.store.now) (Private c.in-Some.ident.now) ≡ true = ap not (sym c.alive.ensures ∙ c.if-not-alive.true) in
+    let front = is_front (world c.args.store.now) (option_map (λ word. word.now) c.loop-ident.passed) c.in-Some.ident.now c.next_ident.ensures.order (sym c.in-Some.ensures.is) c.loop-ident.invariant.passed gone in
+    subst (λ (ident : Bytes). IsFront ident (world c.args.store.now)) (sym c.in_ok-gone.ensures) front
 
 pub loop-ident-smaller : goal.loop-ident-smaller
-loop-ident-smaller c =
-    let there = looked_up c.loop-ident.after _ c.in-Some.ident.now c.in_ok-ident.ident (world c.args.store.now).rows c.as_ref.ensures.value c.in-Some.ensures.is c.in_ok-ident.ensures in
-    passes_one c.loop-ident.after c.in_ok-ident.ident (world c.args.store.now).rows there
-
-pub loop-ident-preserved-else-not-alive : goal.loop-ident-preserved-else-not-alive
-loop-ident-preserved-else-not-alive c = record {
-  passed =
-      let there = looked_up c.loop-ident.after _ c.in-Some.ident.now c.in_ok-ident.ident (world c.args.store.now).rows c.as_ref.ensures.value c.in-Some.ensures.is c.in_ok-ident.ensures in
-      let alive : is_left (world c.args.store.now) (Private c.in_ok-ident.ident) ≡ false = ap not (sym c.alive.ensures ∙ c.if-not-alive.false) in
-      passed_by (world c.args.store.now) c.loop-ident.after c.in_ok-ident.ident c.next_ident.ensures.order there c.loop-ident.invariant.passed alive;
-}
+loop-ident-smaller c = passes_one (option_map (λ word. word.now) c.loop-ident.passed) c.in-Some.ident.now (world c.args.store.now).rows (sym c.in-Some.ensures.is)
 
 pub loop-ident-preserved : goal.loop-ident-preserved
 loop-ident-preserved c = record {
   passed =
-      let there = looked_up c.loop-ident.after _ c.in-Some.ident.now c.in_ok-ident.ident (world c.args.store.now).rows c.as_ref.ensures.value c.in-Some.ensures.is c.in_ok-ident.ensures in
-      let alive : is_left (world c.args.store.now) (Private c.in_ok-ident.ident) ≡ false = ap not (sym c.alive.ensures ∙ c.if-not-alive.false) in
-      passed_by (world c.args.store.now) c.loop-ident.after c.in_ok-ident.ident c.next_ident.ensures.order there c.loop-ident.invariant.passed alive;
+      let alive : is_left (world c.args.store.now) (Private c.in-Some.ident.now) ≡ false = ap not (sym c.alive.ensures ∙ c.if-not-alive.false) in
+      passed_by (world c.args.store.now) (option_map (λ word. word.now) c.loop-ident.passed) c.in-Some.ident.now c.next_ident.ensures.order (sym c.in-Some.ensures.is) c.loop-ident.invariant.passed alive;
 }

@@ -1,4 +1,5 @@
 use Rattle.std.proofs.Common.{filter, length}
+use Rattle.std.specs.Prelude.{option_map}
 use Rattle.sk_store.specs.Stored.{world}
 use Rattle.sk_jobs.specs.Rescuing.{IsPassed}
 use Rattle.sk_jobs.proofs.Passing.{past}
@@ -6,7 +7,7 @@ use Rattle.sk_jobs.proofs.rescues.next_gone.Given as goal
 
 -- the rows behind the identities that were passed
 abbrev pub decreases-loop-ident : goal.decreases-loop-ident
-decreases-loop-ident l = length (filter (past l.after) (world l.store).rows)
+decreases-loop-ident l = length (filter (past (option_map (λ word. word.now) l.passed)) (world l.store).rows)
 
 abbrev pub invariant-loop-ident : goal.invariant-loop-ident
-invariant-loop-ident l = record { passed : IsPassed l.after (world l.store) }
+invariant-loop-ident l = record { passed : IsPassed (option_map (λ word. word.now) l.passed) (world l.store) }

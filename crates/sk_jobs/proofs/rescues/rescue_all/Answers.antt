@@ -1,14 +1,16 @@
-use Rattle.std.proofs.Common.{◌≡◌, ◌∙◌, List, ap, arith, filter, not, refl, subst, sym}
+use Rattle.std.proofs.Common.{◌≡◌, ◌∙◌, List, ap, arith, refl, subst, sym}
+use Rattle.std.specs.Prelude.{Option, Some}
+use Rattle.std.specs.List.{list_all}
 use Rattle.sk_model.specs.Rescue.{is_left, left_rows, rescue_row}
 use Rattle.sk_model.specs.World.{World}
-use Rattle.sk_places.specs.Rows.{is_at}
-use Rattle.sk_places.specs.declared.row.Place.TheVariants.{Private}
+use Rattle.sk_places.specs.Rows.{ident_at, is_past}
 use Rattle.sk_places.specs.declared.row.Row.{Row}
+use Rattle.sk_resp.specs.Spelling.{Bytes}
 use Rattle.sk_store.proofs.Steps.{joined}
 use Rattle.sk_store.specs.Stored.{world}
-use Rattle.sk_jobs.specs.Rescuing.{IsFront, own_rows}
+use Rattle.sk_jobs.specs.Rescuing.{IsFront, IsPassed, others_left, own_rows}
 use Rattle.sk_jobs.proofs.Beating.{beats_of, rescue_beats}
-use Rattle.sk_jobs.proofs.Rescuing.{front_of, left_after, left_aside, many_sent, none_more, none_of_all, none_passed, passed_on, room}
+use Rattle.sk_jobs.proofs.Rescuing.{front_of, left_after, left_aside, many_sent, none_more, none_of_all, none_passed, room}
 use Rattle.sk_jobs.proofs.Routing.{IsLeft, all_sent, none_sent}
 use Rattle.sk_jobs.proofs.rescues.rescue_all.Goals as goal
 
@@ -22,22 +24,25 @@ loop-after-init c =
       step = record { places = refl; leases = refl; batches = refl; counters = refl; limits = refl; moment = refl; seats = refl; keys = refl };
     }
 
+pub next_gone-requires : goal.next_gone-requires
+next_gone-requires c = subst (λ (after : Option Bytes). IsPassed after (world c.loop-after.store)) (sym c.as_ref.ensures.value) c.loop-after.invariant.passed
+
 pub append-requires-clause-moved : goal.append-requires-clause-moved
 append-requires-clause-moved c =
     let now = world c.loop-after.store in
-    let few = room (world c.args.store.now) now c.loop-after.report c.in-Some.ident c.loop-after.invariant.sent (front_of c.in_ok-ident.field-0 c.in-Some.ident now c.in-Some.is c.in_ok-ident.ensures.next) in
+    let few = room (world c.args.store.now) now c.loop-after.report c.in-Some.ident c.loop-after.invariant.sent (front_of c.in_ok-ident.field-0 c.in-Some.ident now c.in-Some.is c.in_ok-ident.ensures) in
     omega (arith, few, c.in_ok-more.ensures.few, c.row_count-count.ensures)
 
 pub append-requires-clause-buried : goal.append-requires-clause-buried
 append-requires-clause-buried c =
     let now = world c.loop-after.store in
-    let few = room (world c.args.store.now) now c.loop-after.report c.in-Some.ident c.loop-after.invariant.sent (front_of c.in_ok-ident.field-0 c.in-Some.ident now c.in-Some.is c.in_ok-ident.ensures.next) in
+    let few = room (world c.args.store.now) now c.loop-after.report c.in-Some.ident c.loop-after.invariant.sent (front_of c.in_ok-ident.field-0 c.in-Some.ident now c.in-Some.is c.in_ok-ident.ensures) in
     omega (arith, few, c.in_ok-more.ensures.few, c.row_count-count.ensures)
 
 pub loop-after-smaller : goal.loop-after-smaller
 loop-after-smaller c =
     let now = world c.loop-after.store in
-    let next = front_of c.in_ok-ident.field-0 c.in-Some.ident now c.in-Some.is c.in_ok-ident.ensures.next in
+    let next = front_of c.in_ok-ident.field-0 c.in-Some.ident now c.in-Some.is c.in_ok-ident.ensures in
     let few = room (world c.args.store.now) now c.loop-after.report c.in-Some.ident c.loop-after.invariant.sent next in
     omega (arith, few, next.some, c.in_ok-more.ensures.few, c.append.ensures)
 
@@ -48,15 +53,15 @@ loop-after-preserved c =
     let old : World = world c.args.store.now in
     let now : World = world c.loop-after.store in
     let next : World = world c.rescue_list.new.store in
-    let others : List Row = filter (λ row. not (is_at (Private ident) row)) (left_rows now) in
-    let front : IsFront ident now = front_of c.in_ok-ident.field-0 ident now c.in-Some.is c.in_ok-ident.ensures.next in
+    let others : List Row = others_left ident now in
+    let front : IsFront ident now = front_of c.in_ok-ident.field-0 ident now c.in-Some.is c.in_ok-ident.ensures in
     let beats : next.leases.beats ≡ now.leases.beats = ap beats_of c.in_ok-more.ensures.ok.world ∙ rescue_beats now (own_rows ident now) in
     let left : left_rows next ≡ others = left_after now next others c.in_ok-more.ensures.step.moment beats (c.in_ok-more.ensures.left (is_left now) others (left_aside now) front.front) in
     record {
       sent = subst (λ rows. IsLeft rescue_row old next c.append.new.self (left_rows old) rows) (sym left)
           (many_sent (left_rows old) (own_rows ident now) others (left_rows now) old now next c.loop-after.report c.in_ok-more.more c.append.new.self
           front.front was.sent c.in_ok-more.ensures.ok c.append.ensures.moved c.append.ensures.buried c.in_ok-append.ensures.fired c.in_ok-append.ensures.trimmed);
-      passed = passed_on c.next_gone.new.after ident now next left c.in_ok-ident.ensures.passed;
+      passed = subst (λ (word : Bytes). IsPassed (Some word) next) (sym c.in_ok-passed.ensures) (ap (list_all (λ row. is_past (Some ident) (ident_at row.place))) left ∙ front.behind);
       covered = c.in_ok-more.ensures.covered;
       step = joined c.args.store.now c.loop-after.store c.rescue_list.new.store was.step c.in_ok-more.ensures.step;
     }
@@ -65,7 +70,7 @@ pub returns-clause-ok : goal.returns-clause-ok
 returns-clause-ok c =
     let old : World = world c.args.store.now in
     let now : World = world c.loop-after.store in
-    all_sent rescue_row old now c.loop-after.report (left_rows old) (left_rows now) (none_of_all c.in_ok-ident.field-0 now c.in_default.is c.in_ok-ident.ensures.next) c.loop-after.invariant.sent
+    all_sent rescue_row old now c.loop-after.report (left_rows old) (left_rows now) (none_of_all c.in_ok-ident.field-0 now c.in_default.is c.in_ok-ident.ensures) c.loop-after.invariant.sent
 
 pub returns-clause-few : goal.returns-clause-few
 returns-clause-few c =
