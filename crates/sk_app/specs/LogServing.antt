@@ -11,7 +11,7 @@ use Rattle.sk_base.specs.declared.source.Source as a_source
 use Rattle.sk_disk.specs.Shelves.{Gives}
 use Rattle.sk_disk.specs.declared.disk.Disk as a_disk
 use Rattle.sk_disk.specs.declared.shelf.Shelf as a_shelf
-use Rattle.sk_durable.specs.Serving.{KeptServerEnds, OutlivesCrashes, Waited}
+use Rattle.sk_durable.specs.Serving.{KeptServerEnds, OutlivesCrashes, Waited, is_always}
 use Rattle.sk_durable.specs.declared.server.KeptFault.{KeptFault}
 use Rattle.sk_durable.specs.declared.server.KeptFault.TheVariants as kept
 use Rattle.sk_edge.specs.declared.door.Door as a_door
@@ -83,13 +83,14 @@ module _ {H D : Type 0} (Shelf : a_shelf.Ghosts H D) (Disk : a_disk.Ghosts D) wh
 
 module _ {N C E K D : Type 0} (Door : a_door.Ghosts N C E) (Ear : an_ear.Ghosts E C) (Source : a_source.Ghosts C) (Sink : a_sink.Ghosts C)
     (Clock : a_clock.Ghosts K) (Disk : a_disk.Ghosts D) where
-  -- A server by the line, over the store that was made ready of the file, ended so, and gave this back. Its replies waited for a settler. Whatever a
-  -- crash meanwhile left is a log of what the file was and, behind that, of what a log keeps of a run of the store.
+  -- A server by the line, over the store that was made ready of the file, ended so, and gave this back. Its replies waited for a settler: where the line
+  -- says always, until all that was logged was in the file. Whatever a crash meanwhile left is a log of what the file was and, behind that, of what a log
+  -- keeps of a run of the store.
   pub record ServesFile (line : LogServeLine) (disk : D) (net net' : N) (back : Option D) (end : Result Served KeptFault) : Type 0 where
     pub store : ℕ × World
     pub begun : D
     pub ready : IsReady Disk.reads Disk.may_leave Disk.moment Disk.left_since shipped disk store begun
-    pub ended : KeptServerEnds Disk.may_leave Disk.disk_faults Ear (Waited Source Sink Clock)
+    pub ended : KeptServerEnds Disk.may_leave Disk.disk_faults Ear (Waited (is_always line.sync_every) store.1 Source Sink Clock)
         (λ events. IsAt events store.0 (Disk.may_leave begun)) store.1 (Disk.disk_faults begun) Door line.sessions line.loops net net' end back
     pub left : OutlivesCrashes Disk store.0 store.1 begun back
     pub later : Disk.disk_faults disk ≤ Disk.disk_faults begun

@@ -1,5 +1,6 @@
 -- What a shared log keeps under its two locks: what waits for a leader, and what its file has.
 use Rattle.std.specs.Prelude.{ℕ, ◌≡◌, ◌<◌, ◌≤◌, ◌+◌, ◌^◌, List, [], ◌∷◌, ◌++◌, Option, None, Some, length}
+use Rattle.sk_base.specs.Outside.{Rose}
 use Rattle.sk_disk.specs.Images.{Images, Narrows}
 use Rattle.sk_log.specs.File.{Body, IsAt, IsGroup, Stood, place, records}
 
@@ -57,6 +58,13 @@ module _ {D : Type 0} (moment : D → ℕ) (left_since : D → ℕ → Images) w
   -- whatever bodies the file may have had at first
   abbrev pub KeepsSome : (List Body → Type 0) → (List Body → Type 0) → ℕ → D → Type 0
   KeepsSome starts Holds since disk = (events : List Body) → starts events → LeavesSome events Holds since disk
+
+-- ## An end
+
+-- A disk of a log has failed: its count of faults rose above the first.
+pub record HasFailed {D : Type 0} (faults : D → ℕ) (first : ℕ) : Type 0 where
+  pub disk : D
+  pub rose : Rose first (faults disk)
 
 -- ## A full file
 

@@ -1,7 +1,7 @@
 // A file to which nothing more is written.
 ghost use Rattle.std.specs.Prelude.{◌≡◌};
 ghost use Rattle.sk_base.specs.Outside.{Rose};
-ghost use Rattle.sk_commit.specs.Shared.{KeepsSome, Overflows};
+ghost use Rattle.sk_commit.specs.Shared.{HasFailed, KeepsSome, Overflows};
 
 use crate::LogId;
 use sk_disk::Disk;
@@ -55,6 +55,15 @@ impl<D: Disk + Drop, I: LogId> Broken<D, I> {
             why,
             of: PhantomData,
         }
+    }
+
+    /// Why the log ended.
+    pub(crate) fn why(&self) -> Halt
+        ensures why { result ≡ self.now }
+        ensures cause { result ≡ Halt.Disk → HasFailed D.disk_faults I.faults }
+        ensures full { result ≡ Halt.Full → Overflows I.starts I.holds }
+    {
+        self.why
     }
 
     /// The disk, and why the log ended. Where the disk failed, its count of faults rose since it was handed over; where the file is full, the next

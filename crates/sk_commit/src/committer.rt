@@ -1,9 +1,9 @@
 // Who writes: one of those that wait for the file leads, and the others sleep until it has stored what they wait for, or the log has ended. They sleep in
 // two crowds by turns: those whose records the leader has, who wake once it is done, and those whose records come next, of whom one leads then.
-ghost use Rattle.std.specs.Prelude.{IfSome};
+ghost use Rattle.std.specs.Prelude.{IfOk, IfSome};
 ghost use mathlib.Core.List.{IsPrefix};
 
-use crate::{Backlog, Broken, Durable, LogId, Prefix, Stored};
+use crate::{Backlog, Broken, Durable, HaltToken, LogId, Prefix, Stored};
 use sk_disk::Disk;
 use sk_log::Group;
 use std::sync::atomic::{AtomicBool, AtomicU64, Ordering};
@@ -46,7 +46,7 @@ enum Turn<D: Disk + Drop, I: LogId> {
     /// or sleeps in a crowd that has been woken so often, modulo 2^32,
     Sleeps { second: bool, woken: u32 },
     /// or the log has ended.
-    Ended,
+    Ended(HaltToken<D, I>),
 }
 
 /// A log that many threads share. A leader takes the file out of its lock, and holds none while it writes.
@@ -141,8 +141,8 @@ impl<D: Disk + Drop, I: LogId> Committer<D, I> {
     // What who waits for so many records does next.
     fn turn<R: Wait>(&self, rt: &R, records: u64) -> Turn<D, I> {
         let mut slot = self.slot.lock(rt);
-        if slot.broken.is_some() {
-            return Turn::Ended;
+        if let Some(broken) = &slot.broken {
+            return Turn::Ended(HaltToken::of(broken));
         }
         if let Some(idle) = slot.file.take() {
             return Turn::Leads(idle);
@@ -168,41 +168,46 @@ impl<D: Disk + Drop, I: LogId> Committer<D, I> {
         }
     }
 
-    /// Waits until all that was seen is in the file, and leads where nobody does. Answers what is in the file then. None where the log has ended, as it
-    /// does where the disk fails or nothing can be logged any more, or where what was seen has never waited in this backlog.
+    /// Waits until all that was seen is in the file, and leads where nobody does. Answers what is in the file then, or why the log has ended: the disk
+    /// failed, the file is full, or nothing can be logged any more. Waits for ever for what has never waited in this backlog.
     pub fn settle<R: Wait, B: Backlog<I>>(
         &self,
         rt: &R,
         backlog: &B,
         me: &Prefix<I>,
-    ) -> Option<Durable<I>>
-        ensures has { IfSome result (λ durable. IsPrefix me.now durable) }
-        ensures holds { IfSome result (λ durable. I.holds durable) }
+    ) -> Result<Durable<I>, HaltToken<D, I>>
+        ensures has { IfOk result (λ durable. IsPrefix me.now durable) }
+        ensures holds { IfOk result (λ durable. I.holds durable) }
     {
         for _ in rt.forever() {
             if let Some(durable) = self.found(rt, me) {
-                return Some(durable);
+                return Ok(durable);
             }
             match self.turn(rt, me.len()) {
-                Turn::Leads(idle) => {
-                    self.lead(rt, backlog, idle);
-                    return self.found(rt, me);
-                }
+                Turn::Leads(idle) => self.lead(rt, backlog, idle),
                 Turn::Sleeps { second, woken } => self.crowd(second).park(rt, woken),
-                Turn::Ended => return None,
+                Turn::Ended(end) => return Err(end),
             }
         }
         unreachable!()
     }
 
-    /// What is in the file just now. None where the log has ended.
-    pub fn stored<R: Wait>(&self, rt: &R) -> Option<Durable<I>>
-        ensures { IfSome result (λ durable. I.holds durable) }
-    {
-        if self.ended.load(Ordering::SeqCst) {
+    // Why the log has ended. None where it goes on.
+    fn end_of<R: Wait>(&self, rt: &R) -> Option<HaltToken<D, I>> {
+        if !self.ended.load(Ordering::SeqCst) {
             return None;
         }
-        Some(self.durable.lock(rt).again())
+        self.slot.lock(rt).broken.as_ref().map(HaltToken::of)
+    }
+
+    /// What is in the file just now, or why the log has ended.
+    pub fn stored<R: Wait>(&self, rt: &R) -> Result<Durable<I>, HaltToken<D, I>>
+        ensures { IfOk result (λ durable. I.holds durable) }
+    {
+        match self.end_of(rt) {
+            Some(end) => Err(end),
+            None => Ok(self.durable.lock(rt).again()),
+        }
     }
 
     /// The file, once nobody shares the log; or the one that takes no more, where the log has ended. Neither is there only where a leader has it, and no

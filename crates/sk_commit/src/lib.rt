@@ -5,6 +5,7 @@
 mod backlog;
 mod broken;
 mod committer;
+mod halt_token;
 mod history;
 mod log_id;
 mod pending;
@@ -14,6 +15,7 @@ mod stored;
 pub use backlog::{Backlog, PlainBacklog};
 pub use broken::{Broken, Halt};
 pub use committer::Committer;
+pub use halt_token::HaltToken;
 pub use history::{History, NewHistory, Prefix};
 pub use log_id::LogId;
 pub use pending::{Pending, Taken};

@@ -1,5 +1,5 @@
 // The file of a shared log, which has a beginning of the history.
-ghost use Rattle.std.specs.Prelude.{◌≡◌, ◌≤◌, [], IfOk, length, true};
+ghost use Rattle.std.specs.Prelude.{◌≡◌, ◌⊎◌, ◌≤◌, [], IfOk, length, true};
 ghost use mathlib.Core.List.{IsPrefix};
 ghost use Rattle.sk_commit.specs.Shared.{HasBehind, IsStart, KeepsSome};
 
@@ -81,13 +81,14 @@ impl<I: LogId> Durable<I> {
 
 // Why a log ends that couldn't be appended to.
 fn halt_at(fault: LogFault) -> Halt
+    requires { (fault ≡ LogFault.Disk) ⊎ (fault ≡ LogFault.Full) }
     ensures disk { result ≡ Halt.Disk → fault ≡ LogFault.Disk }
     ensures full { result ≡ Halt.Full → fault ≡ LogFault.Full }
 {
     match fault {
         LogFault::Disk => Halt::Disk,
         LogFault::Full => Halt::Full,
-        _ => Halt::Astray,
+        _ => unreachable!(),
     }
 }
 

@@ -11,6 +11,7 @@ use Rattle.sk_commit.specs.contracts.pending.Pending as Pending
 use Rattle.sk_commit.specs.contracts.stored.Durable as Durable
 use Rattle.sk_durable.specs.contracts.flush_timer.FlushTimer as FlushTimer
 use Rattle.sk_durable.specs.contracts.log_book.LogBook as LogBook
+use Rattle.sk_durable.specs.contracts.hub_backlog.mark.Mark as Mark
 use Rattle.sk_durable.specs.contracts.hub_backlog.HubBacklog as HubBacklog
 use Rattle.sk_durable.specs.contracts.log_settler.LogSettler as LogSettler
 use Rattle.sk_durable.specs.contracts.log_settlers.LogSettlers as LogSettlers
@@ -36,17 +37,27 @@ durable_send_row J j send sync = search (sendable, crosses, durable_send) depth 
 committer_sync : (D J : RattleType) (d : _) (j : _) → IsSend D → IsSend J → IsSync J → IsSync (Committer.the_field D J d j).row
 committer_sync D J d j disk send sync = search (sendable, crosses, seen_send, durable_send_row) depth 100 fits 10000
 
-settler_send : (a : _) (R D L J : RattleType) (d : _) (l : _) (j : _) → IsSync R → IsSend D → IsSend J → IsSync J → IsSend (LogSettler.the_field a R D L J d l j).row
-settler_send a R D L J d l j r disk send sync = search (sendable, crosses, backlog_sync, committer_sync, durable_send) depth 60 fits 5000
+mark_send : (L J : RattleType) (l : _) (j : _) → IsSend L → IsSend J → IsSync J → IsSend (Mark.the_field L J l j).row
+mark_send L J l j hub send sync = search (sendable, crosses, seen_send) depth 60 fits 5000
 
-pub settler_send_row : (a : _) (R D L J : RattleType) (d : _) (l : _) (j : _) → IsSync R → IsSend D → IsSend J → IsSync J → IsSend (LogSettler.the_row a R D L J d l j)
-settler_send_row a R D L J d l j r disk send sync = search (sendable, crosses, settler_send) depth 60 fits 5000
+mark_send_row : (L J : RattleType) (l : _) (j : _) → IsSend L → IsSend J → IsSync J → IsSend (Mark.the_row L J l j)
+mark_send_row L J l j hub send sync = search (sendable, crosses, mark_send) depth 60 fits 5000
 
-settlers_sync : (a : _) (R D L J : RattleType) (d : _) (l : _) (j : _) → IsSync R → IsSend D → IsSend J → IsSync J → IsSync (LogSettlers.the_field a R D L J d l j).row
-settlers_sync a R D L J d l j r disk send sync = search (sendable, crosses, backlog_sync, committer_sync) depth 60 fits 5000
+settler_send : (a : _) (R D L J M : RattleType) (d : _) (l : _) (j : _) (m : _) → IsSync R → IsSend D → IsSend L → IsSend J → IsSync J → IsSync M
+    → IsSend (LogSettler.the_field a R D L J M d l j m).row
+settler_send a R D L J M d l j m r disk hub send sync mode = search (sendable, crosses, backlog_sync, committer_sync, durable_send, mark_send_row) depth 60 fits 5000
 
-pub settlers_sync_row : (a : _) (R D L J : RattleType) (d : _) (l : _) (j : _) → IsSync R → IsSend D → IsSend J → IsSync J → IsSync (LogSettlers.the_row a R D L J d l j)
-settlers_sync_row a R D L J d l j r disk send sync = search (sendable, crosses, settlers_sync) depth 60 fits 5000
+pub settler_send_row : (a : _) (R D L J M : RattleType) (d : _) (l : _) (j : _) (m : _) → IsSync R → IsSend D → IsSend L → IsSend J → IsSync J → IsSync M
+    → IsSend (LogSettler.the_row a R D L J M d l j m)
+settler_send_row a R D L J M d l j m r disk hub send sync mode = search (sendable, crosses, settler_send) depth 60 fits 5000
+
+settlers_sync : (a : _) (R D L J M : RattleType) (d : _) (l : _) (j : _) (m : _) → IsSync R → IsSend D → IsSend J → IsSync J → IsSync M
+    → IsSync (LogSettlers.the_field a R D L J M d l j m).row
+settlers_sync a R D L J M d l j m r disk send sync mode = search (sendable, crosses, backlog_sync, committer_sync) depth 60 fits 5000
+
+pub settlers_sync_row : (a : _) (R D L J M : RattleType) (d : _) (l : _) (j : _) (m : _) → IsSync R → IsSend D → IsSend J → IsSync J → IsSync M
+    → IsSync (LogSettlers.the_row a R D L J M d l j m)
+settlers_sync_row a R D L J M d l j m r disk send sync mode = search (sendable, crosses, settlers_sync) depth 60 fits 5000
 
 -- and what its thread that flushes gets
 

@@ -1,5 +1,6 @@
 -- How a server over a store that a file keeps ends.
-use Rattle.std.specs.Prelude.{◌≡◌, ◌⊎◌, ◌-◌, ◌/◌, ◌^◌, ◌+◌, ℕ, List, Option, None, Some, Result, Ok, Err, IfSome, IsSomeAnd, true, vec_len}
+use Rattle.std.specs.Prelude.{◌≡◌, ◌⊎◌, ◌-◌, ◌/◌, ◌^◌, ◌+◌, ℕ, Bool, not, List, Option, None, Some, Result, Ok, Err, IfSome, IsSomeAnd, true, vec_len}
+use Rattle.std.specs.Option.{is_some}
 use Rattle.std_alloc.specs.declared.vec.Vec.{Vec}
 use Rattle.sk_base.specs.Outside.{Rose}
 use Rattle.sk_base.specs.declared.clock.Clock as a_clock
@@ -27,19 +28,23 @@ use Rattle.sk_serve.specs.declared.serve_end.ServeFault.{ServeFault}
 use Rattle.sk_serve.specs.declared.serve_end.ServeFault.TheVariants as serve_fault
 use Rattle.sk_serve.specs.declared.serve_end.Served.{Served}
 use Rattle.sk_status.specs.declared.tally.Tally.{Tally}
-use Rattle.sk_durable.specs.Writes.{IsKeptLog, SettlerView, SpellsBody}
+use Rattle.sk_durable.specs.Writes.{IsKeptLog, IsStored, SettlerView, SpellsBody}
 use Rattle.sk_durable.specs.declared.server.KeptEnd.{KeptEnd}
 use Rattle.sk_durable.specs.declared.server.KeptFault.{KeptFault}
 use Rattle.sk_durable.specs.declared.server.KeptFault.TheVariants as fault
 use Rattle.sk_durable.specs.declared.server.KeptStore.{KeptStore}
 
--- what the counts of a settler are
-abbrev pub settling : a_settler.Ghosts SettlerView
-settling = record { settled = λ s. s.settled; settle_faults = λ s. s.faults }
+-- what a settler counts, and what it says is stored, where it always waits and where it doesn't
+abbrev pub settling : Bool → World → a_settler.Ghosts SettlerView
+settling waits start = record { settled = λ s. s.settled; settle_faults = λ s. s.faults; stored = λ s. IsStored waits start s }
 
--- The session's replies waited for a settler, each time until it had settled.
-abbrev pub Waited : {C K : Type 0} → a_source.Ghosts C → a_sink.Ghosts C → a_clock.Ghosts K → Attending C K
-Waited Source Sink Clock = Attends true true Source Sink Clock settling
+-- Replies always wait until all that was logged before them is stored.
+abbrev pub is_always : Option ℕ → Bool
+is_always sync_every = not (is_some sync_every)
+
+-- The session's replies waited for a settler, each time until it had settled. Where that always waits, all that was logged then was stored.
+abbrev pub Waited : {C K : Type 0} → (waits : Bool) → World → a_source.Ghosts C → a_sink.Ghosts C → a_clock.Ghosts K → Attending C K
+Waited waits start Source Sink Clock = Attends true true Source Sink Clock (settling waits start)
 
 -- what a fault of the loops is, where the file has all that was logged
 abbrev pub kept_fault : ServeFault → KeptFault
@@ -135,17 +140,17 @@ module _ {D E C K : Type 0} (may_leave : D → Images) (faults : D → ℕ) (Ear
 
 -- ## What is said of the calls
 
--- The loops of a server ended so, whose sessions' replies waited.
-abbrev pub WaitedEnded : {E C K Z : Type 0} → an_ear.Ghosts E C → a_source.Ghosts C → a_sink.Ghosts C → a_clock.Ghosts K → (bound rows : ℕ) → Vec E Z → Vec E Z → Result ℕ ServeFault → Type 0
-WaitedEnded Ear Source Sink Clock bound rows ears ears' result = LoopsEnded Ear (Waited Source Sink Clock) bound (vec_len ears) rows ears.items ears'.items result
+-- The loops of a server ended so, whose sessions came to this.
+abbrev pub WaitedEnded : {E C K Z : Type 0} → an_ear.Ghosts E C → Attending C K → (bound rows : ℕ) → Vec E Z → Vec E Z → Result ℕ ServeFault → Type 0
+WaitedEnded Ear Attended bound rows ears ears' result = LoopsEnded Ear Attended bound (vec_len ears) rows ears.items ears'.items result
 
 -- So did a server over a log that is named, from this world on.
-abbrev pub NamedEnds : {D E C J K Z : Type 0} → a_disk.Ghosts D → an_ear.Ghosts E C → a_source.Ghosts C → a_sink.Ghosts C → a_clock.Ghosts K → a_log_id.Ghosts J → World → (bound : ℕ) → Vec E Z → Vec E Z → KeptEnd D → Type 0
-NamedEnds Disk Ear Source Sink Clock Log start bound ears ears' e =
-    KeptEnds Disk.may_leave Disk.disk_faults Ear (Waited Source Sink Clock) Log.starts start Log.faults bound (vec_len ears) ears.items ears'.items e.end e.disk
+abbrev pub NamedEnds : {D E C J K Z : Type 0} → a_disk.Ghosts D → an_ear.Ghosts E C → Attending C K → a_log_id.Ghosts J → World → (bound : ℕ) → Vec E Z → Vec E Z → KeptEnd D → Type 0
+NamedEnds Disk Ear Attended Log start bound ears ears' e =
+    KeptEnds Disk.may_leave Disk.disk_faults Ear Attended Log.starts start Log.faults bound (vec_len ears) ears.items ears'.items e.end e.disk
 
--- So did a server over this store, whose door gave the ears.
-abbrev pub KeptServed : {D N E C K : Type 0} → a_disk.Ghosts D → an_ear.Ghosts E C → Attending C K → a_door.Ghosts N C E → KeptStore D → (bound loops : ℕ) → N → N → KeptEnd D → Type 0
-KeptServed Disk Ear Attended Door store bound loops old new e =
-    KeptServerEnds Disk.may_leave Disk.disk_faults Ear Attended (λ events. IsAt events store.log (Disk.may_leave store.disk)) store.core (Disk.disk_faults store.disk) Door
+-- So did a server over this store, whose door gave the ears. Its sessions' replies waited as the store says.
+abbrev pub KeptServed : {D N E C K : Type 0} → a_disk.Ghosts D → an_ear.Ghosts E C → a_source.Ghosts C → a_sink.Ghosts C → a_clock.Ghosts K → a_door.Ghosts N C E → KeptStore D → (bound loops : ℕ) → N → N → KeptEnd D → Type 0
+KeptServed Disk Ear Source Sink Clock Door store bound loops old new e =
+    KeptServerEnds Disk.may_leave Disk.disk_faults Ear (Waited (is_always store.sync_every) store.core Source Sink Clock) (λ events. IsAt events store.log (Disk.may_leave store.disk)) store.core (Disk.disk_faults store.disk) Door
     bound loops old new e.end e.disk

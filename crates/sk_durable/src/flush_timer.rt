@@ -1,7 +1,8 @@
 // When what is logged is stored at times of its own, and the thread that does so.
+ghost use Rattle.std.specs.Prelude.{false};
 ghost use Rattle.sk_durable.specs.Writes.{TellsOf};
 
-use crate::{HubBacklog, LogBook, LogSettler};
+use crate::{HubBacklog, LogBook, LogSettler, SyncMode};
 use sk_commit::{Committer, LogId};
 use sk_desk::{Hub, HubId};
 use sk_disk::Disk;
@@ -30,11 +31,6 @@ impl FlushTimer {
         }
     }
 
-    /// Whether a thread stores what is logged at these times.
-    pub fn is_running(&self) -> bool {
-        self.runs.load(Ordering::SeqCst)
-    }
-
     // A thread does so from now on, or no more.
     fn set_running(&self, runs: bool) {
         self.runs.store(runs, Ordering::SeqCst);
@@ -56,6 +52,15 @@ impl FlushTimer {
     }
 }
 
+impl SyncMode for FlushTimer {
+    ghost waits = { false };
+
+    /// Whether a thread stores what is logged at these times.
+    fn only_looks(&self) -> bool {
+        self.runs.load(Ordering::SeqCst)
+    }
+}
+
 /// Stores what is logged in the hub at the timer's times, until none comes any more or the log has ended. Replies don't wait meanwhile.
 pub(crate) fn flush<I: HubId, J: LogId, R: Wait + time::Clock, D: Disk + Drop>(
     rt: &R,
@@ -69,7 +74,7 @@ pub(crate) fn flush<I: HubId, J: LogId, R: Wait + time::Clock, D: Disk + Drop>(
     let settler = LogSettler::new(rt, &backlog, committer, timer);
     timer.set_running(true);
     for _ in rt.forever() {
-        if !timer.rest(rt) || settler.store().is_none() {
+        if !timer.rest(rt) || settler.store(0).is_none() {
             break;
         }
     }

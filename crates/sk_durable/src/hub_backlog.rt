@@ -1,10 +1,12 @@
 // A shared store as the place where a leader finds what waits to be stored.
 ghost use Rattle.std.specs.Prelude.{◌≡◌, IfSome};
-ghost use Rattle.sk_desk.specs.Writing.{WroteSome};
-ghost use Rattle.sk_durable.specs.Writes.{SpellsBody, TellsOf};
+ghost use Rattle.sk_durable.specs.Writes.{TellsOf};
+
+mod mark;
 
 use crate::LogBook;
-use sk_commit::{Backlog, LogId, Prefix, Taken};
+pub use mark::Mark;
+use sk_commit::{Backlog, LogId, Taken};
 use sk_desk::{Hub, HubId};
 use sk_log::Group;
 use std::marker::Model;
@@ -41,11 +43,12 @@ impl<'a, I: HubId, J: LogId> HubBacklog<'a, I, J> {
         let _ = &self.hub;
     }
 
-    /// All that was logged so far. None where nothing can be logged any more.
-    pub fn mark<R: Wait>(&self, rt: &R) -> Option<Prefix<J>>
-        ensures { IfSome result (λ mark. WroteSome SpellsBody I.start (λ bodies. mark ≡ bodies)) }
+    /// All that was logged so far, under this number. None where nothing can be logged any more.
+    pub fn mark<R: Wait>(&self, rt: &R, number: u64) -> Option<Mark<I, J>>
+        ensures { IfSome result (λ mark. mark.number ≡ number) }
     {
-        self.hub.mark(rt)
+        let prefix = self.hub.mark(rt)?;
+        Some(Mark::new(prefix, number))
     }
 }
 

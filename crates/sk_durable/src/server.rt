@@ -1,16 +1,16 @@
 // A server over a store that a file keeps: accept loops in threads over one store and one log, whose replies wait until what was done before them is in
 // the file, or a thread beside them that stores it from time to time. Once the loops have ended, what waits still is stored, and the store and the file
 // are closed.
-ghost use Rattle.std.specs.Prelude.{◌≡◌, ◌<◌, ◌≤◌, ◌+◌, ◌-◌, ◌^◌, [], Some, Ok, Err, IfOk, IfErr, IfSome, vec_len};
+ghost use Rattle.std.specs.Prelude.{◌≡◌, ◌<◌, ◌≤◌, ◌+◌, ◌-◌, ◌^◌, [], false, Some, Ok, Err, IfOk, IfErr, IfSome, vec_len};
 ghost use Rattle.sk_base.specs.Outside.{Rose};
 ghost use Rattle.sk_commit.specs.Shared.{IsStart, KeepsSome};
 ghost use Rattle.sk_desk.specs.Counts.{blank_share};
 ghost use Rattle.sk_desk.specs.Pass.{pass_of};
-ghost use Rattle.sk_durable.specs.Serving.{EndsSo, HasAll, IsHalted, IsToldAs, KeptServed, NamedEnds, OutlivesCrashes, Waited, WaitedEnded, unheard_fault};
+ghost use Rattle.sk_durable.specs.Serving.{EndsSo, HasAll, IsHalted, IsToldAs, KeptServed, NamedEnds, OutlivesCrashes, Waited, WaitedEnded, is_always, unheard_fault};
 ghost use Rattle.sk_durable.specs.Writes.{TellsOf};
 
 use crate::flush_timer::flush;
-use crate::{FlushTimer, HubBacklog, LogBook, LogSettlers};
+use crate::{FlushTimer, HubBacklog, LogBook, LogSettlers, SyncAlways, SyncMode};
 use sk_base::Clock;
 use sk_base::limits::MOST_LOOPS_SERVED;
 use sk_commit::{Broken, Committer, Halt, LogId, NewHistory, Pending, Stored};
@@ -143,13 +143,13 @@ fn halted<J: LogId, D: Disk + Drop>(broken: Option<Broken<D, J>>, starved: bool)
     }
 }
 
-// The loops, each of whose sessions has a settler of its own. No more times come for a flush once they have ended.
-fn run_loops<I, J, R, D, E, K, G>(
+// The loops, each of whose sessions has a settler of its own in this mode.
+fn run_loops<I, J, R, D, M, E, K, G>(
     rt: &R,
     alloc: Global,
     hub: &Hub<I, LogBook<J>>,
     committer: &Committer<D, J>,
-    timer: &FlushTimer,
+    mode: &M,
     pass: &mut Pass<I>,
     ears: &mut Vec<E>,
     sessions: u64,
@@ -161,6 +161,7 @@ where
     J: LogId + Send + Sync,
     R: Threads + Wait + Sync,
     D: Disk + Drop + Send,
+    M: SyncMode + Sync,
     E: Ear + Send,
     K: Clock + Send,
     G: Gate + Sync,
@@ -168,72 +169,22 @@ where
     requires pass { pass.old ≡ pass_of 0 (2 ^ 32 - 1) (blank_share (2 ^ 34)) }
     requires ears { (0 < vec_len ears.old) × (vec_len ears.old ≤ MOST_LOOPS_SERVED) }
     ensures parts { pass.new.parts ≡ pass.old.parts }
-    ensures ended { WaitedEnded E.Ear E.Conn.Source E.Conn.Sink K.Clock
+    ensures ended { WaitedEnded E.Ear (Waited M.waits I.start E.Conn.Source E.Conn.Sink K.Clock)
         sessions pass.new.amount ears.old ears.new result }
 {
     let others = ears.len() - 1;
     let backlog = HubBacklog::new(hub);
-    let settlers = LogSettlers::new(rt, &backlog, committer, timer);
-    let ended = serve_at(
+    let settlers = LogSettlers::new(rt, &backlog, committer, mode);
+    serve_at(
         &Shared::new(rt, alloc, hub, &settlers, gate, others, sessions),
         pass,
         ears,
         clock,
-    );
-    timer.end(rt);
-    ended
+    )
 }
 
-// The loops, and beside them a thread that stores what is logged at the timer's times. Where none can be made, replies wait.
-fn run_beside<I, J, R, D, E, K, G>(
-    rt: &R,
-    alloc: Global,
-    hub: &Hub<I, LogBook<J>>,
-    committer: &Committer<D, J>,
-    timer: &FlushTimer,
-    pass: &mut Pass<I>,
-    ears: &mut Vec<E>,
-    sessions: u64,
-    clock: &K,
-    gate: &G,
-) -> Result<u64, ServeFault>
-where
-    I: HubId + Send + Sync,
-    J: LogId + Send + Sync,
-    R: Threads + Wait + time::Clock + Sync,
-    D: Disk + Drop + Send,
-    E: Ear + Send,
-    K: Clock + Send,
-    G: Gate + Sync,
-    requires tells { TellsOf I.start J.holds }
-    requires pass { pass.old ≡ pass_of 0 (2 ^ 32 - 1) (blank_share (2 ^ 34)) }
-    requires ears { (0 < vec_len ears.old) × (vec_len ears.old ≤ MOST_LOOPS_SERVED) }
-    ensures parts { pass.new.parts ≡ pass.old.parts }
-    ensures ended { WaitedEnded E.Ear E.Conn.Source E.Conn.Sink K.Clock
-        sessions pass.new.amount ears.old ears.new result }
-{
-    let (_, ended) = thread::join_mut(
-        rt,
-        &mut ||
-            requires { TellsOf I.start J.holds }
-        { flush(rt, hub, committer, timer) },
-        &mut ||
-            requires tells { TellsOf I.start J.holds }
-            requires pass { pass.now ≡ pass_of 0 (2 ^ 32 - 1) (blank_share (2 ^ 34)) }
-            requires ears { (0 < vec_len ears.now) × (vec_len ears.now ≤ MOST_LOOPS_SERVED) }
-            ensures parts { pass.exit.now.parts ≡ pass.entry.now.parts }
-            ensures ended { WaitedEnded E.Ear E.Conn.Source E.Conn.Sink K.Clock
-                sessions pass.exit.now.amount ears.entry.now ears.exit.now result }
-        {
-            run_loops(
-                rt, alloc, hub, committer, timer, pass, ears, sessions, clock, gate,
-            )
-        },
-    );
-    ended
-}
-
-// The loops over this store and this log. What is logged is stored so many milliseconds after one another, where that isn't None.
+// The loops over this store and this log. Each session's settles wait, unless what is logged is stored so many milliseconds after one another: then a
+// thread beside the loops stores it, until they have ended. Where that thread can't be made, they wait, too.
 fn run_all<I, J, R, D, E, K, G>(
     rt: &R,
     alloc: Global,
@@ -258,18 +209,45 @@ where
     requires pass { pass.old ≡ pass_of 0 (2 ^ 32 - 1) (blank_share (2 ^ 34)) }
     requires ears { (0 < vec_len ears.old) × (vec_len ears.old ≤ MOST_LOOPS_SERVED) }
     ensures parts { pass.new.parts ≡ pass.old.parts }
-    ensures ended { WaitedEnded E.Ear E.Conn.Source E.Conn.Sink K.Clock
+    ensures ended { WaitedEnded E.Ear (Waited (is_always sync_every) I.start E.Conn.Source E.Conn.Sink K.Clock)
         sessions pass.new.amount ears.old ears.new result }
 {
-    let timer = FlushTimer::new(sync_every.unwrap_or(0));
-    if sync_every.is_some() {
-        return run_beside(
-            rt, alloc, hub, committer, &timer, pass, ears, sessions, clock, gate,
+    let Some(millis) = sync_every else {
+        return run_loops(
+            rt,
+            alloc,
+            hub,
+            committer,
+            &SyncAlways,
+            pass,
+            ears,
+            sessions,
+            clock,
+            gate,
         );
-    }
-    run_loops(
-        rt, alloc, hub, committer, &timer, pass, ears, sessions, clock, gate,
-    )
+    };
+    let timer = FlushTimer::new(millis);
+    let (_, ended) = thread::join_mut(
+        rt,
+        &mut ||
+            requires { TellsOf I.start J.holds }
+        { flush(rt, hub, committer, &timer) },
+        &mut ||
+            requires tells { TellsOf I.start J.holds }
+            requires pass { pass.now ≡ pass_of 0 (2 ^ 32 - 1) (blank_share (2 ^ 34)) }
+            requires ears { (0 < vec_len ears.now) × (vec_len ears.now ≤ MOST_LOOPS_SERVED) }
+            ensures parts { pass.exit.now.parts ≡ pass.entry.now.parts }
+            ensures ended { WaitedEnded E.Ear (Waited false I.start E.Conn.Source E.Conn.Sink K.Clock)
+                sessions pass.exit.now.amount ears.entry.now ears.exit.now result }
+        {
+            let ended = run_loops(
+                rt, alloc, hub, committer, &timer, pass, ears, sessions, clock, gate,
+            );
+            timer.end(rt);
+            ended
+        },
+    );
+    ended
 }
 
 // The end of a server whose file has all that was logged.
@@ -333,7 +311,7 @@ where
     requires holds { J.holds [] }
     requires tells { TellsOf I.start J.holds }
     requires ears { (0 < vec_len ears.old) × (vec_len ears.old ≤ MOST_LOOPS_SERVED) }
-    ensures ended { NamedEnds D.Disk E.Ear E.Conn.Source E.Conn.Sink K.Clock J.LogId I.start
+    ensures ended { NamedEnds D.Disk E.Ear (Waited (is_always store.sync_every) I.start E.Conn.Source E.Conn.Sink K.Clock) J.LogId I.start
         sessions ears.old ears.new result }
     ensures left { IfSome result.disk (KeepsSome D.moment D.left_since J.starts J.holds J.since) }
 {
@@ -418,8 +396,9 @@ pub fn serve_kept<
 where
     N::Ear: Send,
     requires { (0 < loops) × (loops ≤ MOST_LOOPS_SERVED) }
-    // The door gave an ear to each loop, which gave its connections in order. What was done is in the file.
-    ensures ended { KeptServed D.Disk N.Ear.Ear (Waited N.Conn.Source N.Conn.Sink K.Clock) N.Door store
+    // The door gave an ear to each loop, which gave its connections in order. What was done is in the file. Where each reply waits, a connection took
+    // something only where all that was logged when its session last settled was in the file.
+    ensures ended { KeptServed D.Disk N.Ear.Ear N.Conn.Source N.Conn.Sink K.Clock N.Door store
         sessions loops door.old door.new result }
     // A crash at any moment of the call leaves a log of what the file was and, behind that, of what a log keeps of a run of the store.
     ensures left { OutlivesCrashes D.Disk store.log store.core store.disk result.disk }

@@ -1,9 +1,10 @@
 -- What follows from handing on a front of what was gathered.
 use Rattle.std.proofs.Common.{◌≡◌, ◌⊎◌, ℕ, ◌≤◌, [], ◌++◌, Option, Some, None, Result, Ok, Err, take, refl, sym, ap, ◌∙◌, arith, inl, inr, append_assoc, append-nil, is_some, subst}
-use Rattle.std.specs.Prelude.{IfOk, OnErr}
+use Rattle.std.specs.Prelude.{IfOk, OnErr, OnOk}
 use Rattle.sk_base.specs.Outside.{Rose, Takes}
 use Rattle.sk_base.specs.declared.sink.Sink as a_sink
 use Rattle.sk_base.proofs.OutsideLaws.{takes_more, takes_nothing}
+use Rattle.sk_held.specs.Counts.{HasSettled}
 use Rattle.sk_held.specs.Holding.{Bytes, Hands, IsSince, with_gathered}
 use Rattle.sk_held.specs.declared.settler.Settler as a_settler
 
@@ -20,24 +21,33 @@ rose_on a b c (inr last) le = inr (omega arith)
 -- ## What was taken since
 
 -- More was taken, behind a settle.
-pub since_on : (first : Option Bytes) (count : ℕ) (told : Option Bytes) (sent : Bytes) (told' : Option Bytes) (settled : ℕ)
-    → IsSince first count told settled → Takes told sent told' → Rose count settled → IsSince first count told' settled
-since_on first count told sent told' settled since took rose = record {
+pub since_on : (first : Option Bytes) (count : ℕ) (told : Option Bytes) (sent : Bytes) (told' : Option Bytes) (settled : ℕ) (stored : Type 0)
+    → IsSince first count told settled stored → Takes told sent told' → HasSettled count settled stored → IsSince first count told' settled stored
+since_on first count told sent told' settled stored since took has = record {
   later = since.later;
   sent = since.sent ++ sent;
   took = takes_more first since.sent told sent told' since.took took;
-  behind = inr rose;
+  behind = inr has;
 }
 
+-- A settle keeps what is stored, whether it passes or fails.
+kept : {E : Type 0} (stored stored' : Type 0) (result : Result (Unit {0}) E) → OnOk result stored' → OnErr result (stored → stored') → stored → stored'
+kept stored stored' (Ok x) ok err is = ok
+kept stored stored' (Err e) ok err is = err is
+
 -- The settler settled once more, or failed to.
-pub since_settled : (first : Option Bytes) (count : ℕ) (told : Option Bytes) (settled settled' : ℕ) → settled ≤ settled' → IsSince first count told settled → IsSince first count told settled'
-since_settled first count told settled settled' le since = record {
+pub since_settled : {E : Type 0} (first : Option Bytes) (count : ℕ) (told : Option Bytes) (settled settled' : ℕ) (stored stored' : Type 0) (result : Result (Unit {0}) E)
+    → settled ≤ settled' → OnOk result stored' → OnErr result (stored → stored') → IsSince first count told settled stored → IsSince first count told settled' stored'
+since_settled first count told settled settled' stored stored' result le ok err since = record {
   later = omega (arith, le, since.later);
   sent = since.sent;
   took = since.took;
-  behind = elim since.behind as (λ _. (since.sent ≡ []) ⊎ Rose count settled') [
+  behind = elim since.behind as (λ _. (since.sent ≡ []) ⊎ HasSettled count settled' stored') [
     | inl none ↦ inl none
-    | inr rose ↦ inr (rose_on count settled settled' rose le)
+    | inr has ↦ inr (record {
+      rose = rose_on count settled settled' has.rose le;
+      stored = kept stored stored' result ok err has.stored;
+    })
   ];
 }
 

@@ -7,3 +7,8 @@ pub record CountsOks {T E : Type 0} (before now : ℕ) (result : Result T E) : T
   pub later : before ≤ now
   pub rose : OnOk result (Rose before now)
   pub same : OnErr result (now ≡ before)
+
+-- It has settled since the count was this, and what it then found stored is stored.
+pub record HasSettled (count settled : ℕ) (Stored : Type 0) : Type 0 where
+  pub rose : Rose count settled
+  pub stored : Stored

@@ -3,6 +3,7 @@ use Rattle.std.specs.Prelude.{◌≡◌, ◌≤◌, ◌⊎◌, ◌++◌, [], ℕ
 use Rattle.sk_base.specs.Outside.{Rose, Takes}
 use Rattle.sk_base.specs.declared.failed.Failed.{Failed}
 use Rattle.sk_base.specs.declared.sink.Sink as a_sink
+use Rattle.sk_held.specs.Counts.{HasSettled}
 use Rattle.sk_held.specs.declared.settler.Settler as a_settler
 
 abbrev pub Bytes : Type 0
@@ -30,12 +31,13 @@ abbrev pub with_gathered : Option Bytes → Bytes → Option Bytes
 with_gathered None gathered = None
 with_gathered (Some told) gathered = Some (told ++ gathered)
 
--- Since the connection had taken so much, and its settler had settled so often, it took something only where the settler has settled again.
-pub record IsSince (first : Option Bytes) (count : ℕ) (told : Option Bytes) (settled : ℕ) : Type 0 where
+-- Since the connection had taken so much, and its settler had settled so often, it took something only where the settler has settled again, and
+-- what it found stored is stored.
+pub record IsSince (first : Option Bytes) (count : ℕ) (told : Option Bytes) (settled : ℕ) (Stored : Type 0) : Type 0 where
   pub later : count ≤ settled
   pub sent : Bytes
   pub took : Takes first sent told
-  pub behind : (sent ≡ []) ⊎ Rose count settled
+  pub behind : (sent ≡ []) ⊎ HasSettled count settled Stored
 
 module _ {C W : Type 0} (Sink : a_sink.Ghosts C) (Settler : a_settler.Ghosts W) where
   -- The connection took the front of what was due, and the rest is kept. It took something only behind a settle that passed.

@@ -3,6 +3,7 @@
 // failed: from then on all its calls fail, and nothing is handed on.
 ghost use Rattle.std.specs.Prelude.{◌≡◌, ◌⊎◌, ◌≤◌, ◌<◌, ◌++◌, [], length, take, true, false, Ok, IfOk, OnOk, OnErr, IfSome, MatchResult, refl};
 ghost use Rattle.sk_base.specs.Outside.{Gives, HasCause, Rose, Takes};
+ghost use Rattle.sk_held.specs.Counts.{HasSettled};
 ghost use Rattle.sk_held.specs.Holding.{Breaks, HandsBack, HandsOn, HandsWritten, IsBlamed, IsSince, with_gathered};
 
 use crate::outlet::Outlet;
@@ -51,7 +52,8 @@ impl<C: Holdable, W: Settler, I: HeldId> HeldConn<C, W, I> {
     fn release(&mut self) -> Result<(), Failed>
         ensures hands { HandsOn C.Sink W.Settler self.old self.old.gathered self.new }
         ensures all { OnOk result ((self.new.gathered ≡ []) × (self.old.broken ≡ false) × (self.new.broken ≡ false)) }
-        ensures settled { OnOk result (Rose (W.settled self.old.settler) (W.settled self.new.settler) × Rose I.count (W.settled self.new.settler)) }
+        ensures settled { OnOk result (Rose (W.settled self.old.settler) (W.settled self.new.settler)) }
+        ensures stored { OnOk result (HasSettled I.count (W.settled self.new.settler) (W.stored self.new.settler)) }
         ensures breaks { Breaks C.Sink W.Settler self.old self.new }
         ensures blamed { OnErr result (IsBlamed C.Sink W.Settler self.old self.new) }
         ensures beside { C.beside_write self.new.conn ≡ C.beside_write self.old.conn }
@@ -97,7 +99,7 @@ impl<C: Holdable, W: Settler, I: HeldId> HeldConn<C, W, I> {
 
     // Hands some of the bytes on, where nothing is gathered before them.
     fn pass(&mut self, bytes: &[u8]) -> Result<usize, Failed>
-        requires settled { Rose I.count (W.settled self.old.settler) }
+        requires settled { HasSettled I.count (W.settled self.old.settler) (W.stored self.old.settler) }
         ensures same { (self.new.settler ≡ self.old.settler) × (self.new.gathered ≡ self.old.gathered) }
         ensures counts { (self.new.reads ≡ self.old.reads) × (self.new.writes ≡ self.old.writes) }
         ensures within { IfOk result (λ n. n ≤ length bytes.now) }
@@ -156,7 +158,7 @@ impl<C: Holdable, W: Settler, I: HeldId> HeldConn<C, W, I> {
     /// Settles, and hands on what is still gathered. Answers the connection, the settler, and whether all was handed on.
     pub fn finish(self) -> (C, W, Result<(), Failed>)
         ensures hands { HandsBack C.Sink W.Settler self result.0 result.1 result.2 }
-        ensures since { IsSince I.first I.count (C.taken result.0) (W.settled result.1) }
+        ensures since { IsSince I.first I.count (C.taken result.0) (W.settled result.1) (W.stored result.1) }
         ensures whole { OnOk result.2 (self.broken ≡ false) }
         ensures blamed { OnErr result.2 (IsBlamed C.Sink W.Settler self (record self { conn = result.0; settler = result.1 })) }
         ensures beside { C.beside_write result.0 ≡ C.beside_write self.conn }

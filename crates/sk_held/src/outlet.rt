@@ -1,7 +1,7 @@
 // A connection that is handed something only behind a settle.
 ghost use Rattle.std.specs.Prelude.{◌≡◌, ◌≤◌, ◌<◌, ◌++◌, List, ℕ, [], length, take, IfOk, OnOk, OnErr, IfSome};
 ghost use Rattle.sk_base.specs.Outside.{Gives, HasCause, Rose, Takes};
-ghost use Rattle.sk_held.specs.Counts.{CountsOks};
+ghost use Rattle.sk_held.specs.Counts.{CountsOks, HasSettled};
 ghost use Rattle.sk_held.specs.Holding.{IsSince};
 
 use crate::{HeldId, Holdable, Settler};
@@ -23,7 +23,7 @@ impl<C: Holdable, W: Settler, I: HeldId> Model for Outlet<C, W, I> {
 
     ghost view = { λ o. record { conn = o.conn; settler = o.settler } };
 
-    ghost invariant = { λ o. IsSince I.first I.count (C.taken o.conn) (W.settled o.settler) };
+    ghost invariant = { λ o. IsSince I.first I.count (C.taken o.conn) (W.settled o.settler) (W.stored o.settler) };
 }
 
 // Takes so many bytes out, from their front.
@@ -65,7 +65,7 @@ impl<C: Holdable, W: Settler, I: HeldId> Outlet<C, W, I> {
     pub fn settle(&mut self) -> Result<(), Failed>
         ensures conn { self.new.conn ≡ self.old.conn }
         ensures counts { CountsOks (W.settled self.old.settler) (W.settled self.new.settler) result }
-        ensures since { OnOk result (Rose I.count (W.settled self.new.settler)) }
+        ensures since { OnOk result (HasSettled I.count (W.settled self.new.settler) (W.stored self.new.settler)) }
         ensures cause { HasCause (W.settle_faults self.old.settler) (W.settle_faults self.new.settler) result }
     {
         self.settler.settle()
@@ -73,7 +73,7 @@ impl<C: Holdable, W: Settler, I: HeldId> Outlet<C, W, I> {
 
     /// Hands the bytes on, behind a settle. What is handed on is taken out of them.
     pub fn hand_on(&mut self, bytes: &mut Vec<u8>) -> Result<(), Failed>
-        requires { Rose I.count (W.settled self.old.settler) }
+        requires { HasSettled I.count (W.settled self.old.settler) (W.stored self.old.settler) }
         ensures settler { self.new.settler ≡ self.old.settler }
         ensures took { (sent : List ℕ) × (bytes.old.items ≡ sent ++ bytes.new.items) × Takes (C.taken self.old.conn) sent (C.taken self.new.conn) }
         ensures all { OnOk result (bytes.new.items ≡ []) }
@@ -85,7 +85,7 @@ impl<C: Holdable, W: Settler, I: HeldId> Outlet<C, W, I> {
 
     /// Hands some of the bytes on, behind a settle.
     pub fn write(&mut self, bytes: &[u8]) -> Result<usize, Failed>
-        requires { Rose I.count (W.settled self.old.settler) }
+        requires { HasSettled I.count (W.settled self.old.settler) (W.stored self.old.settler) }
         ensures settler { self.new.settler ≡ self.old.settler }
         ensures within { IfOk result (λ n. n ≤ length bytes.now) }
         ensures some { 0 < length bytes.now → IfOk result (λ n. 0 < n) }
@@ -114,7 +114,7 @@ impl<C: Holdable, W: Settler, I: HeldId> Outlet<C, W, I> {
     /// The connection and the settler.
     pub fn into_parts(self) -> (C, W)
         ensures parts { (result.0 ≡ self.conn) × (result.1 ≡ self.settler) }
-        ensures since { IsSince I.first I.count (C.taken result.0) (W.settled result.1) }
+        ensures since { IsSince I.first I.count (C.taken result.0) (W.settled result.1) (W.stored result.1) }
     {
         let Outlet {
             conn,

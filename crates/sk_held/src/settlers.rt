@@ -31,6 +31,8 @@ impl Settler for NoSettler {
 
     ghost settle_faults = { λ _. 0 };
 
+    ghost stored = { λ _. Unit {0} };
+
     fn settle(&mut self) -> Result<(), Failed> {
         Ok(())
     }

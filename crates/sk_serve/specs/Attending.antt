@@ -21,13 +21,14 @@ module _ {D K C : Type 0} (Desk : a_desk.Ghosts D) (Source : a_source.Ghosts C) 
     pub write_fault : how.end ≡ end.WriteFault → Rose (Sink.write_faults conn) (Sink.write_faults conn')
     pub settled : how.unsettled ≡ false
 
-  -- They waited for a settler. The connection took something only where that settled; and it is unsettled where the settler failed, and only there.
+  -- They waited for a settler. The connection took something only where that settled, and what it found stored is stored; and it is unsettled where the
+  -- settler failed, and only there.
   pub record IsHeld {W : Type 0} (Settler : a_settler.Ghosts W) (desk : D) (clock : K) (conn : C) (how : Ending) (desk' : D) (clock' : K) (conn' : C) : Type 0 where
     pub handed : Result (Unit {0}) Failed
     pub session : IsHeldSession Desk Source Sink Clock desk clock conn how.end desk' clock' conn' handed
     pub settler : W
     pub settler' : W
-    pub since : IsSince (Sink.taken conn) (Settler.settled settler) (Sink.taken conn') (Settler.settled settler')
+    pub since : IsSince (Sink.taken conn) (Settler.settled settler) (Sink.taken conn') (Settler.settled settler') (Settler.stored settler')
     pub failed : how.unsettled ≡ true → Rose (Settler.settle_faults settler) (Settler.settle_faults settler')
     pub passed : how.unsettled ≡ false → Settler.settle_faults settler' ≡ Settler.settle_faults settler
 

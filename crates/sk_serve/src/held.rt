@@ -31,7 +31,7 @@ fn hold<D: Desk, C: Holdable, K: Clock, W: Settler, I: HeldId>(
     requires first { C.taken conn ≡ I.first }
     requires count { W.settled settler ≡ I.count }
     ensures session { IsHeldSession D.Desk C.Source C.Sink K.Clock desk.old clock.old conn result.end desk.new clock.new result.conn result.handed }
-    ensures since { IsSince I.first I.count (C.taken result.conn) (W.settled result.settler) }
+    ensures since { IsSince I.first I.count (C.taken result.conn) (W.settled result.settler) (W.stored result.settler) }
 {
     let mut held: HeldConn<C, W, I> = HeldConn::new(alloc, conn, settler);
     let end = session(alloc, desk, &mut held, clock);
@@ -56,8 +56,8 @@ pub fn held_session<D: Desk, C: Conn, K: Clock, W: Settler>(
     // The connection gave some bytes. What it took, and what is kept behind it, is what these call for.
     ensures session { IsHeldSession D.Desk C.Source C.Sink K.Clock desk.old clock.old conn result.end desk.new clock.new result.conn result.handed }
 
-    // It took something only where the settler has settled.
-    ensures since { IsSince (C.taken conn) (W.settled settler) (C.taken result.conn) (W.settled result.settler) }
+    // It took something only where the settler has settled, and what that found stored is stored.
+    ensures since { IsSince (C.taken conn) (W.settled settler) (C.taken result.conn) (W.settled result.settler) (W.stored result.settler) }
 {
     hold::<D, C, K, W, Brand>(alloc, desk, conn, clock, settler)
 }

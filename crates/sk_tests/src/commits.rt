@@ -50,7 +50,7 @@ fn log_one<I: LogId, D: Disk + Drop, R: Wait>(
     entry: Record,
 ) -> Result<bool, LogFault> {
     let me = backlog.log(rt, entry)?;
-    Ok(committer.settle(rt, backlog, &me).is_some())
+    Ok(committer.settle(rt, backlog, &me).is_ok())
 }
 
 // Two threads log a record each. Answers the file, if both found their records in it.

@@ -21,6 +21,8 @@ impl Settler for Passes {
 
     ghost settle_faults = { λ s. s.faults };
 
+    ghost stored = { λ _. Unit {0} };
+
     fn settle(&mut self) -> Result<(), Failed> {
         if self.left == 0 {
             self.faults = self.faults.saturating_add(1);

@@ -17,4 +17,4 @@ returns-in_err-n-clause-hands g c =
     subst (λ o. HandsWritten g.C.Sink g.W.Settler o c.args.bytes.now result new) still
     (subst (λ r. HandsWritten g.C.Sink g.W.Settler old c.args.bytes.now r new) (sym err.1)
     (hands_all g.C.Sink g.W.Settler old.conn mid.conn new.conn old.settler mid.settler new.settler old.gathered mid.gathered new.gathered
-    released.hands released.all.0 released.settled.0 passed.err passed.same.0 passed.same.1))
+    released.hands released.all.0 released.settled passed.err passed.same.0 passed.same.1))
