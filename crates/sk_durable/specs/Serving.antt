@@ -140,14 +140,15 @@ module _ {D E C K : Type 0} (may_leave : D → Images) (faults : D → ℕ) (Ear
 
 -- ## What is said of the calls
 
--- The loops of a server ended so, whose sessions came to this.
-abbrev pub WaitedEnded : {E C K Z : Type 0} → an_ear.Ghosts E C → Attending C K → (bound rows : ℕ) → Vec E Z → Vec E Z → Result ℕ ServeFault → Type 0
-WaitedEnded Ear Attended bound rows ears ears' result = LoopsEnded Ear Attended bound (vec_len ears) rows ears.items ears'.items result
+-- The loops of a server ended so, whose sessions' replies waited.
+abbrev pub WaitedEnded : {E C K Z : Type 0} → (waits : Bool) → World → an_ear.Ghosts E C → a_source.Ghosts C → a_sink.Ghosts C → a_clock.Ghosts K → (bound rows : ℕ) → Vec E Z → Vec E Z → Result ℕ ServeFault → Type 0
+WaitedEnded waits start Ear Source Sink Clock bound rows ears ears' result =
+    LoopsEnded Ear (Waited waits start Source Sink Clock) bound (vec_len ears) rows ears.items ears'.items result
 
 -- So did a server over a log that is named, from this world on.
-abbrev pub NamedEnds : {D E C J K Z : Type 0} → a_disk.Ghosts D → an_ear.Ghosts E C → Attending C K → a_log_id.Ghosts J → World → (bound : ℕ) → Vec E Z → Vec E Z → KeptEnd D → Type 0
-NamedEnds Disk Ear Attended Log start bound ears ears' e =
-    KeptEnds Disk.may_leave Disk.disk_faults Ear Attended Log.starts start Log.faults bound (vec_len ears) ears.items ears'.items e.end e.disk
+abbrev pub NamedEnds : {D E C J K Z : Type 0} → a_disk.Ghosts D → an_ear.Ghosts E C → a_source.Ghosts C → a_sink.Ghosts C → a_clock.Ghosts K → a_log_id.Ghosts J → (sync_every : Option ℕ) → World → (bound : ℕ) → Vec E Z → Vec E Z → KeptEnd D → Type 0
+NamedEnds Disk Ear Source Sink Clock Log sync_every start bound ears ears' e =
+    KeptEnds Disk.may_leave Disk.disk_faults Ear (Waited (is_always sync_every) start Source Sink Clock) Log.starts start Log.faults bound (vec_len ears) ears.items ears'.items e.end e.disk
 
 -- So did a server over this store, whose door gave the ears. Its sessions' replies waited as the store says.
 abbrev pub KeptServed : {D N E C K : Type 0} → a_disk.Ghosts D → an_ear.Ghosts E C → a_source.Ghosts C → a_sink.Ghosts C → a_clock.Ghosts K → a_door.Ghosts N C E → KeptStore D → (bound loops : ℕ) → N → N → KeptEnd D → Type 0

@@ -6,7 +6,7 @@ ghost use Rattle.sk_base.specs.Outside.{Rose};
 ghost use Rattle.sk_commit.specs.Shared.{IsStart, KeepsSome};
 ghost use Rattle.sk_desk.specs.Counts.{blank_share};
 ghost use Rattle.sk_desk.specs.Pass.{pass_of};
-ghost use Rattle.sk_durable.specs.Serving.{EndsSo, HasAll, IsHalted, IsToldAs, KeptServed, NamedEnds, OutlivesCrashes, Waited, WaitedEnded, is_always, unheard_fault};
+ghost use Rattle.sk_durable.specs.Serving.{EndsSo, HasAll, IsHalted, IsToldAs, KeptServed, NamedEnds, OutlivesCrashes, WaitedEnded, is_always, unheard_fault};
 ghost use Rattle.sk_durable.specs.Writes.{TellsOf};
 
 use crate::flush_timer::flush;
@@ -169,7 +169,7 @@ where
     requires pass { pass.old ≡ pass_of 0 (2 ^ 32 - 1) (blank_share (2 ^ 34)) }
     requires ears { (0 < vec_len ears.old) × (vec_len ears.old ≤ MOST_LOOPS_SERVED) }
     ensures parts { pass.new.parts ≡ pass.old.parts }
-    ensures ended { WaitedEnded E.Ear (Waited M.waits I.start E.Conn.Source E.Conn.Sink K.Clock)
+    ensures ended { WaitedEnded M.waits I.start E.Ear E.Conn.Source E.Conn.Sink K.Clock
         sessions pass.new.amount ears.old ears.new result }
 {
     let others = ears.len() - 1;
@@ -209,7 +209,7 @@ where
     requires pass { pass.old ≡ pass_of 0 (2 ^ 32 - 1) (blank_share (2 ^ 34)) }
     requires ears { (0 < vec_len ears.old) × (vec_len ears.old ≤ MOST_LOOPS_SERVED) }
     ensures parts { pass.new.parts ≡ pass.old.parts }
-    ensures ended { WaitedEnded E.Ear (Waited (is_always sync_every) I.start E.Conn.Source E.Conn.Sink K.Clock)
+    ensures ended { WaitedEnded (is_always sync_every) I.start E.Ear E.Conn.Source E.Conn.Sink K.Clock
         sessions pass.new.amount ears.old ears.new result }
 {
     let Some(millis) = sync_every else {
@@ -237,7 +237,7 @@ where
             requires pass { pass.now ≡ pass_of 0 (2 ^ 32 - 1) (blank_share (2 ^ 34)) }
             requires ears { (0 < vec_len ears.now) × (vec_len ears.now ≤ MOST_LOOPS_SERVED) }
             ensures parts { pass.exit.now.parts ≡ pass.entry.now.parts }
-            ensures ended { WaitedEnded E.Ear (Waited false I.start E.Conn.Source E.Conn.Sink K.Clock)
+            ensures ended { WaitedEnded false I.start E.Ear E.Conn.Source E.Conn.Sink K.Clock
                 sessions pass.exit.now.amount ears.entry.now ears.exit.now result }
         {
             let ended = run_loops(
@@ -311,7 +311,7 @@ where
     requires holds { J.holds [] }
     requires tells { TellsOf I.start J.holds }
     requires ears { (0 < vec_len ears.old) × (vec_len ears.old ≤ MOST_LOOPS_SERVED) }
-    ensures ended { NamedEnds D.Disk E.Ear (Waited (is_always store.sync_every) I.start E.Conn.Source E.Conn.Sink K.Clock) J.LogId I.start
+    ensures ended { NamedEnds D.Disk E.Ear E.Conn.Source E.Conn.Sink K.Clock J.LogId store.sync_every I.start
         sessions ears.old ears.new result }
     ensures left { IfSome result.disk (KeepsSome D.moment D.left_since J.starts J.holds J.since) }
 {
