@@ -13,8 +13,14 @@ use Rattle.sk_batch.specs.contracts.batches.Batches as Batches
 use Rattle.sk_batch.proofs.batch.Batch.TheSendSync.{the_send as batch_send}
 use Rattle.sk_counters.specs.contracts.counters.Counters as Counters
 use Rattle.sk_places.specs.contracts.places.Places as Places
+use Rattle.sk_places.specs.contracts.live_jobs.LiveJobs as LiveJobs
+use Rattle.sk_places.specs.contracts.removed.RemovedRows as RemovedRows
 use Rattle.sk_seats.specs.contracts.seats.Seats as Seats
 use Rattle.sk_keys.specs.contracts.keys.Keys as Keys
+use Rattle.sk_keys.specs.contracts.removed.RemovedKeys as RemovedKeys
+use Rattle.sk_value.specs.contracts.entry.Entry as Entry
+use Rattle.sk_value.specs.contracts.sorted.Sorted as Sorted
+use Rattle.sk_zset.specs.contracts.zset.ZSet as ZSet
 use Rattle.sk_store.specs.contracts.store.Store as Store
 use Rattle.sk_core.specs.contracts.store.Core as Core
 
@@ -40,14 +46,32 @@ batches_send = search (sendable, crosses, crosses_maps, list_send_field, batch_s
 counters_send : IsSend Counters.the_field.row
 counters_send = search (sendable, crosses, crosses_maps, list_send_field) depth 40 fits 5000
 
+jobs_send : IsSend LiveJobs.the_field.row
+jobs_send = search (sendable, crosses, list_send_field, payload_send_field) depth 100 fits 8000
+
+removed_send : IsSend RemovedRows.the_row
+removed_send = search (sendable, crosses, list_send_field, deques_send_field, payload_send_field, jobs_send) depth 100 fits 8000
+
 places_send : IsSend Places.the_field.row
-places_send = search (sendable, crosses, list_send_field, deques_send_field, payload_send_field) depth 100 fits 8000
+places_send = search (sendable, crosses, list_send_field, deques_send_field, payload_send_field, jobs_send, removed_send) depth 100 fits 8000
 
 seats_send : IsSend Seats.the_field.row
 seats_send = search (sendable, crosses, crosses_maps, payload_send_field) depth 100 fits 8000
 
+set_send : IsSend ZSet.the_field.row
+set_send = search (sendable, crosses, crosses_maps, list_send_field) depth 60 fits 5000
+
+sorted_send : IsSend Sorted.the_field.row
+sorted_send = search (sendable, crosses, set_send) depth 60 fits 5000
+
+entry_send : IsSend Entry.the_row
+entry_send = search (sendable, crosses, crosses_maps, sorted_send) depth 60 fits 5000
+
+removed_keys_send : IsSend RemovedKeys.the_row
+removed_keys_send = search (sendable, crosses, crosses_maps, entry_send) depth 60 fits 5000
+
 keys_send : IsSend Keys.the_field.row
-keys_send = search (sendable, crosses, crosses_maps, list_send_field) depth 40 fits 5000
+keys_send = search (sendable, crosses, crosses_maps, entry_send, removed_keys_send) depth 60 fits 5000
 
 store_send : IsSend Store.the_field.row
 store_send = search (sendable, crosses, leases_send, batches_send, counters_send, places_send, seats_send, keys_send) depth 60 fits 5000

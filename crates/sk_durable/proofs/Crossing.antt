@@ -51,13 +51,13 @@ pub settler_send_row : (a : _) (R D L J M : RattleType) (d : _) (l : _) (j : _) 
     → IsSend (LogSettler.the_row a R D L J M d l j m)
 settler_send_row a R D L J M d l j m r disk hub send sync mode = search (sendable, crosses, settler_send) depth 60 fits 5000
 
-settlers_sync : (a : _) (R D L J M : RattleType) (d : _) (l : _) (j : _) (m : _) → IsSync R → IsSend D → IsSend J → IsSync J → IsSync M
-    → IsSync (LogSettlers.the_field a R D L J M d l j m).row
-settlers_sync a R D L J M d l j m r disk send sync mode = search (sendable, crosses, backlog_sync, committer_sync) depth 60 fits 5000
+settlers_sync : (a : _) (R D L J M : RattleType) (d : _) (l : _) (j : _) → IsSync R → IsSend D → IsSend J → IsSync J → IsSync M
+    → IsSync (LogSettlers.the_field a R D L J M d l j).row
+settlers_sync a R D L J M d l j r disk send sync mode = search (sendable, crosses, backlog_sync, committer_sync) depth 60 fits 5000
 
-pub settlers_sync_row : (a : _) (R D L J M : RattleType) (d : _) (l : _) (j : _) (m : _) → IsSync R → IsSend D → IsSend J → IsSync J → IsSync M
-    → IsSync (LogSettlers.the_row a R D L J M d l j m)
-settlers_sync_row a R D L J M d l j m r disk send sync mode = search (sendable, crosses, settlers_sync) depth 60 fits 5000
+pub settlers_sync_row : (a : _) (R D L J M : RattleType) (d : _) (l : _) (j : _) → IsSync R → IsSend D → IsSend J → IsSync J → IsSync M
+    → IsSync (LogSettlers.the_row a R D L J M d l j)
+settlers_sync_row a R D L J M d l j r disk send sync mode = search (sendable, crosses, settlers_sync) depth 60 fits 5000
 
 -- and what its thread that flushes gets
 

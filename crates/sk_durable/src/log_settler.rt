@@ -1,5 +1,5 @@
 // The settler of one connection to a store whose events are logged.
-ghost use Rattle.std.specs.Prelude.{◌≡◌, ◌+◌, ◌-◌, ◌^◌, true, None, min, IfSome, OnOk};
+ghost use Rattle.std.specs.Prelude.{◌≡◌, ◌+◌, ◌-◌, ◌^◌, true, None, min, IfSome, OnErr, OnOk};
 ghost use mathlib.Core.List.{IsPrefix};
 ghost use Rattle.sk_base.specs.Outside.{HasCause};
 ghost use Rattle.sk_held.specs.Counts.{CountsOks};
@@ -122,6 +122,7 @@ impl<'a, R: Wait, D: Disk + Drop, I: HubId, J: LogId, M: SyncMode> Settler
         ensures counts { CountsOks self.old.settled self.new.settled result }
         ensures cause { HasCause self.old.faults self.new.faults result }
         ensures stored { OnOk result (IsStored M.waits I.start self.new) }
+        ensures kept { OnErr result (IsStored M.waits I.start self.old → IsStored M.waits I.start self.new) }
         ensures number { OnOk result (self.new.settled ≡ min (self.old.settled + 1) (2 ^ 64 - 1)) }
     {
         let number = self.settled.saturating_add(1);
