@@ -10,13 +10,13 @@ many jobs, 5 microseconds for each; and for DEL of one queue, 0.3 microseconds f
 status 1 only where a reply is an error. Wanted: python3, and the program, which bin/sidekiq builds; `SIDEKIQ` names another one.
 """
 import argparse
+import io
 import subprocess
 import sys
 from dataclasses import dataclass
 
 from client import PROGRAM, Pipe, command, job
 
-END = b'+PONG\r\n'
 MOMENT = 1_700_000_000_000
 AT_ONCE = 1_000         # jobs of one LPUSH that fills the store
 PUSHED = 60_000         # jobs of a push that is measured
@@ -31,6 +31,7 @@ class Hold:
     words: tuple
     least: float = BAR
     bytes_count: bool = False
+    moment: int = 0         # at which it comes, in milliseconds, where that isn't 0
 
     def bar(self, answered):
         return max(self.least, 20e-6 * answered) if self.bytes_count else self.least
@@ -73,11 +74,7 @@ def processes(count):
         ident = b'w%d' % n
         yield command(b'LPUSH', b'queue:default', job(n)) + command(b'SK.BEAT', ident) + command(b'SK.AS', b'%d' % (n + 1))
         yield command(b'SK.JOIN', ident) + command(b'LMOVE', b'queue:default', b'sq:' + ident, b'RIGHT', b'LEFT')
-
-
-def over(count):
-    yield from plain(count, (b'PX', b'1000'))
-    yield command(b'SK.AS', b'1')
+    yield command(b'SK.AS', b'%d' % (count + 1))
 
 
 def holds(rows):
@@ -97,7 +94,7 @@ def holds(rows):
     yield Hold('SK.DUE of 1,000', scheduled(rows), (b'SK.DUE', b'schedule', b'1000'))
     yield Hold('DEL of the schedule', scheduled(rows), (b'DEL', b'schedule'))
     yield Hold('FLUSHALL of plain keys', plain(rows), (b'FLUSHALL',))
-    yield Hold('PING behind the deadline of all keys', over(rows), (b'SK.NOW', b'%d' % (MOMENT + 2_000)))
+    yield Hold('GET behind the deadline of all keys', plain(rows, (b'PX', b'1000')), (b'GET', b'key-0'), moment=MOMENT + 2_000)
     yield Hold('ZREMRANGEBYRANK of a plain set', pairs(rows), (b'ZREMRANGEBYRANK', b'z', b'0', b'-1'))
     yield Hold('SMEMBERS of a tenth as many', members(few * 10), (b'SMEMBERS', b's'), BAR, True)
     yield Hold('DEL of a plain set', members(rows), (b'DEL', b's'))
@@ -106,31 +103,45 @@ def holds(rows):
     yield Hold('SISMEMBER of processes', processes(few), (b'SISMEMBER', b'processes', b'w0'))
 
 
-def last(pipe, commands):
-    """What is replied to some commands, but for the end that a PING marks."""
-    text = bytearray()
-    pipe.process.stdin.write(commands + command(b'PING'))
-    while not text.endswith(END) and (part := pipe.replies.read(1 << 20)):
-        text += part
-    return bytes(text[:-len(END)])
+def reply_of(replies):
+    """One whole reply."""
+    line = replies.readline()
+    kind, rest = line[:1], line[1:-2]
+    if kind == b'$' and rest != b'-1':
+        return line + replies.read(int(rest) + 2)
+    if kind == b'*' and rest != b'-1':
+        return line + b''.join(reply_of(replies) for _ in range(int(rest)))
+    return line
 
 
-def filled(pipe, hold):
-    batch = []
-    for commands in hold.filling:
-        batch.append(commands)
-        if sum(map(len, batch[-1:])) > 10_000 or len(batch) >= AT_ONCE:
-            last(pipe, b''.join(batch))
-            batch = []
-    last(pipe, b''.join(batch))
+def fill(pipe, replies, filling):
+    """Hands the commands in, many at a time, and reads what they are answered."""
+    batch = bytearray()
+    for commands in filling:
+        batch += commands
+        if len(batch) > 60_000:
+            settle(pipe, replies, batch)
+            batch = bytearray()
+    settle(pipe, replies, batch)
+
+
+def settle(pipe, replies, batch):
+    pipe.process.stdin.write(bytes(batch) + command(b'PING'))
+    while replies.readline() != b'+PONG\r\n':
+        pass
 
 
 def held(hold):
-    """The milliseconds that the command had a processor, and what it answered."""
+    """The milliseconds that the command had a processor until its reply was there, and the reply."""
     pipe = Pipe()
-    filled(pipe, hold)
+    replies = io.BufferedReader(pipe.replies, 1 << 20)
+    fill(pipe, replies, hold.filling)
+    if hold.moment:
+        pipe.process.stdin.write(command(b'SK.NOW', b'%d' % hold.moment))
+        reply_of(replies)
     began = pipe.seconds()
-    reply = last(pipe, command(*hold.words) + (command(b'PING') if hold.name.startswith('PING') else b''))
+    pipe.process.stdin.write(command(*hold.words))
+    reply = reply_of(replies)
     milliseconds = 1000 * (pipe.seconds() - began)
     pipe.process.kill()
     pipe.process.wait()
