@@ -1,0 +1,7 @@
+mod Addresses
+mod Buckets
+mod Edits
+mod Finds
+mod Growth
+pub mod Ordered
+mod Slots
