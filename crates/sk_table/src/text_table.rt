@@ -91,11 +91,12 @@ impl<K: TextKey, V> TextTable<K, V> {
     ghost use Rattle.std.specs.Borrow.{sem};
     ghost use Rattle.sk_table.specs.TableLends.{lends_at};
 
-    /// Lends what stands under a text.
-    pub fn get_mut(&mut self, text: &[u8]) -> Option<&mut V>
-        ensures* writes_back { sem 𝓛 (lends_at K.row V.row K.TextKey self.entry text.now result) }
-        ensures value { option_map (λ value. value.now) result ≡ at text.now self.old }
+    /// Lends what stands under the bytes of a key.
+    pub fn get_mut(&mut self, key: &K) -> Option<&mut V>
+        ensures* writes_back { sem 𝓛 (lends_at K.row V.row K.TextKey self.entry (K.text key.now) result) }
+        ensures value { option_map (λ value. value.now) result ≡ at (K.text key.now) self.old }
     {
+        let text = key.bytes();
         let hash = hash_of(text);
         let here = address_of(self.half, self.buckets.len(), hash);
         match self.buckets.get_mut(here) {
@@ -134,10 +135,11 @@ impl<K: TextKey + Drop, V: Drop> TextTable<K, V> {
         self.count = 0;
     }
 
-    /// What stands under a text.
-    pub fn get(&self, text: &[u8]) -> Option<&V>
-        ensures { option_map (λ value. value.now) result ≡ at text.now self.now }
+    /// What stands under the bytes of a key.
+    pub fn get(&self, key: &K) -> Option<&V>
+        ensures { option_map (λ value. value.now) result ≡ at (K.text key.now) self.now }
     {
+        let text = key.bytes();
         let hash = hash_of(text);
         let here = address_of(self.half, self.buckets.len(), hash);
         if here >= self.buckets.len() {
@@ -146,11 +148,11 @@ impl<K: TextKey + Drop, V: Drop> TextTable<K, V> {
         self.buckets[here].get(hash, text)
     }
 
-    /// Whether something stands under a text.
-    pub fn has(&self, text: &[u8]) -> bool
-        ensures { result ≡ is_some (at text.now self.now) }
+    /// Whether something stands under the bytes of a key.
+    pub fn has(&self, key: &K) -> bool
+        ensures { result ≡ is_some (at (K.text key.now) self.now) }
     {
-        self.get(text).is_some()
+        self.get(key).is_some()
     }
 
     /// Puts an entry in under a text that has none.
@@ -171,12 +173,13 @@ impl<K: TextKey + Drop, V: Drop> TextTable<K, V> {
         Ok(())
     }
 
-    /// Takes a text's entry out. Takes no memory.
-    pub fn remove(&mut self, text: &[u8]) -> Option<(K, V)>
-        ensures is { option_map (λ entry. entry.1) result ≡ at text.now self.old }
-        ensures text { IfSome result (λ entry. K.text entry.0 ≡ text.now) }
-        ensures rest { self.new ≡ without_text text.now self.old }
+    /// Takes out what stands under the bytes of a key. Takes no memory.
+    pub fn remove(&mut self, key: &K) -> Option<(K, V)>
+        ensures is { option_map (λ entry. entry.1) result ≡ at (K.text key.now) self.old }
+        ensures same { IfSome result (λ entry. K.text entry.0 ≡ K.text key.now) }
+        ensures rest { self.new ≡ without_text (K.text key.now) self.old }
     {
+        let text = key.bytes();
         let hash = hash_of(text);
         let here = address_of(self.half, self.buckets.len(), hash);
         if here >= self.buckets.len() {

@@ -12,11 +12,11 @@ returns-then-here-len g c =
     let half = c.self.inside.half in
     let here = c.address_of-here.result in
     let ok = c.self.inside.buckets.ok.0 in
-    let place = place_from half c.len.result (length buckets) here c.hash_of-hash.result c.args.text.now (c.len.ensures ∙ ok) c.hash_of-hash.ensures c.address_of-here.ensures in
+    let place = place_from half c.len.result (length buckets) here c.hash_of-hash.result c.bytes-text.result.now (c.len.ensures ∙ ok) c.hash_of-hash.ensures c.address_of-here.ensures in
     let past = c.if-here-len.true in
     let count = c.len-2.ensures in
     let beyond : length buckets ≤ here = grind (arith, past, count, ok) in
-    sym (none_beyond g.K.TextKey.text half buckets c.self.invariant c.args.text.now here place beyond) ∙ ap (at c.args.text.now) c.self.view_is
+    sym (none_beyond g.K.TextKey.text half buckets c.self.invariant c.bytes-text.result.now here place beyond) ∙ ap (at c.bytes-text.result.now) c.self.view_is ∙ ap (λ t. at t c.args.self.now) c.bytes-text.ensures
 
 pub get-requires-clause-hashed : goal.get-requires-clause-hashed
 get-requires-clause-hashed g c =
@@ -24,11 +24,11 @@ get-requires-clause-hashed g c =
     let half = c.self.inside.half in
     let here = c.address_of-here.result in
     let ok = c.self.inside.buckets.ok.0 in
-    let place = place_from half c.len.result (length buckets) here c.hash_of-hash.result c.args.text.now (c.len.ensures ∙ ok) c.hash_of-hash.ensures c.address_of-here.ensures in
+    let place = place_from half c.len.result (length buckets) here c.hash_of-hash.result c.bytes-text.result.now (c.len.ensures ∙ ok) c.hash_of-hash.ensures c.address_of-here.ensures in
     let before = c.if-here-len.false in
     let count = c.len-2.ensures in
     let within : here < length buckets = grind (arith, before, count, ok) in
-    (bucket_is g.K.TextKey.text half buckets c.self.invariant c.args.text.now here place c.index.result.now within c.index.ensures).hashed
+    (bucket_is g.K.TextKey.text half buckets c.self.invariant c.bytes-text.result.now here place c.index.result.now within c.index.ensures).hashed
 
 pub returns : goal.returns
 returns g c =
@@ -36,8 +36,8 @@ returns g c =
     let half = c.self.inside.half in
     let here = c.address_of-here.result in
     let ok = c.self.inside.buckets.ok.0 in
-    let place = place_from half c.len.result (length buckets) here c.hash_of-hash.result c.args.text.now (c.len.ensures ∙ ok) c.hash_of-hash.ensures c.address_of-here.ensures in
+    let place = place_from half c.len.result (length buckets) here c.hash_of-hash.result c.bytes-text.result.now (c.len.ensures ∙ ok) c.hash_of-hash.ensures c.address_of-here.ensures in
     let before = c.if-here-len.false in
     let count = c.len-2.ensures in
     let within : here < length buckets = grind (arith, before, count, ok) in
-    c.get.ensures ∙ table_read g.K.TextKey.text half buckets c.self.invariant c.args.text.now here place c.index.result.now within c.index.ensures ∙ ap (at c.args.text.now) c.self.view_is
+    c.get.ensures ∙ table_read g.K.TextKey.text half buckets c.self.invariant c.bytes-text.result.now here place c.index.result.now within c.index.ensures ∙ ap (at c.bytes-text.result.now) c.self.view_is ∙ ap (λ t. at t c.args.self.now) c.bytes-text.ensures

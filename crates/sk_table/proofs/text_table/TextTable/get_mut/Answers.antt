@@ -15,10 +15,10 @@ get_mut-requires-in-Some-clause-hashed g c =
     let half = c.self.inside.half in
     let here = c.address_of-here.result in
     let ok = c.self.inside.buckets.ok.0 in
-    let place = place_from half c.len.result (length buckets) here c.hash_of-hash.result c.args.text.now (c.len.ensures ∙ ok) c.hash_of-hash.ensures c.address_of-here.ensures in
+    let place = place_from half c.len.result (length buckets) here c.hash_of-hash.result c.bytes-text.result.now (c.len.ensures ∙ ok) c.hash_of-hash.ensures c.address_of-here.ensures in
     let told = c.in-Some.ensures in
     let within : here < length buckets = subst (λ n. here < n) ok (told.variant.0 refl) in
-    (bucket_is g.K.TextKey.text half buckets c.self.invariant c.args.text.now here place c.in-Some.bucket.now within told.value).hashed
+    (bucket_is g.K.TextKey.text half buckets c.self.invariant c.bytes-text.result.now here place c.in-Some.bucket.now within told.value).hashed
 
 pub invariant_of-self-lent : goal.invariant_of-self-lent
 invariant_of-self-lent g c = λ lent.
@@ -26,10 +26,10 @@ invariant_of-self-lent g c = λ lent.
     let half = c.self.inside.half in
     let here = c.address_of-here.result in
     let ok = c.self.inside.buckets.ok.0 in
-    let place = place_from half c.len.result (length buckets) here c.hash_of-hash.result c.args.text.now (c.len.ensures ∙ ok) c.hash_of-hash.ensures c.address_of-here.ensures in
+    let place = place_from half c.len.result (length buckets) here c.hash_of-hash.result c.bytes-text.result.now (c.len.ensures ∙ ok) c.hash_of-hash.ensures c.address_of-here.ensures in
     let told = c.in-Some.ensures in
     let within : here < length buckets = subst (λ n. here < n) ok (told.variant.0 refl) in
-    ((λ w. table_written g.K.TextKey.text half buckets c.self.invariant c.args.text.now here place c.in-Some.bucket.now within told.value w), table_as_was g.K.TextKey.text half buckets c.self.invariant c.args.text.now here place c.in-Some.bucket.now within told.value)
+    ((λ w. table_written g.K.TextKey.text half buckets c.self.invariant c.bytes-text.result.now here place c.in-Some.bucket.now within told.value w), table_as_was g.K.TextKey.text half buckets c.self.invariant c.bytes-text.result.now here place c.in-Some.bucket.now within told.value)
 
 pub returns-in-Some : goal.returns-in-Some
 returns-in-Some g c =
@@ -37,13 +37,13 @@ returns-in-Some g c =
     let half = c.self.inside.half in
     let here = c.address_of-here.result in
     let ok = c.self.inside.buckets.ok.0 in
-    let place = place_from half c.len.result (length buckets) here c.hash_of-hash.result c.args.text.now (c.len.ensures ∙ ok) c.hash_of-hash.ensures c.address_of-here.ensures in
+    let place = place_from half c.len.result (length buckets) here c.hash_of-hash.result c.bytes-text.result.now (c.len.ensures ∙ ok) c.hash_of-hash.ensures c.address_of-here.ensures in
     let told = c.in-Some.ensures in
     let within : here < length buckets = subst (λ n. here < n) ok (told.variant.0 refl) in
-    let written : (w : g.row.V.Denot) → table_in g.K.TextKey.text (slice_set buckets here (with_value c.in-Some.bucket.now (place_of g.K.TextKey.text c.args.text.now c.in-Some.bucket.now) w)) ≡ set_value (is_at (text_cmp c.args.text.now)) c.args.self.now w =
-        λ w. rest_written g.K.TextKey.text half buckets c.self.invariant c.args.text.now here place c.in-Some.bucket.now within told.value w ∙ ap (λ t. set_value (is_at (text_cmp c.args.text.now)) t w) c.self.view_is in
-    let as_was : table_in g.K.TextKey.text (slice_set buckets here c.in-Some.bucket.now) ≡ c.args.self.now = ap (table_in g.K.TextKey.text) (same_as_was g.K.TextKey.text half buckets c.self.invariant c.args.text.now here place c.in-Some.bucket.now within told.value) ∙ c.self.view_is in
-    let value = c.get_mut-in-Some.ensures.value ∙ table_read g.K.TextKey.text half buckets c.self.invariant c.args.text.now here place c.in-Some.bucket.now within told.value ∙ ap (at c.args.text.now) c.self.view_is in
+    let written : (w : g.row.V.Denot) → table_in g.K.TextKey.text (slice_set buckets here (with_value c.in-Some.bucket.now (place_of g.K.TextKey.text c.bytes-text.result.now c.in-Some.bucket.now) w)) ≡ set_value (is_at (text_cmp (g.K.TextKey.text c.args.key.now))) c.args.self.now w =
+        λ w. rest_written g.K.TextKey.text half buckets c.self.invariant c.bytes-text.result.now here place c.in-Some.bucket.now within told.value w ∙ ap (λ t. set_value (is_at (text_cmp c.bytes-text.result.now)) t w) c.self.view_is ∙ ap (λ t. set_value (is_at (text_cmp t)) c.args.self.now w) c.bytes-text.ensures in
+    let as_was : table_in g.K.TextKey.text (slice_set buckets here c.in-Some.bucket.now) ≡ c.args.self.now = ap (table_in g.K.TextKey.text) (same_as_was g.K.TextKey.text half buckets c.self.invariant c.bytes-text.result.now here place c.in-Some.bucket.now within told.value) ∙ c.self.view_is in
+    let value = c.get_mut-in-Some.ensures.value ∙ table_read g.K.TextKey.text half buckets c.self.invariant c.bytes-text.result.now here place c.in-Some.bucket.now within told.value ∙ ap (at c.bytes-text.result.now) c.self.view_is ∙ ap (λ t. at t c.args.self.now) c.bytes-text.ensures in
     (read_alike _ written as_was, record { writes_back = tt; value = value })
 
 pub returns-in-None : goal.returns-in-None
@@ -52,8 +52,8 @@ returns-in-None g c =
     let half = c.self.inside.half in
     let here = c.address_of-here.result in
     let ok = c.self.inside.buckets.ok.0 in
-    let place = place_from half c.len.result (length buckets) here c.hash_of-hash.result c.args.text.now (c.len.ensures ∙ ok) c.hash_of-hash.ensures c.address_of-here.ensures in
+    let place = place_from half c.len.result (length buckets) here c.hash_of-hash.result c.bytes-text.result.now (c.len.ensures ∙ ok) c.hash_of-hash.ensures c.address_of-here.ensures in
     let told = c.in-None.ensures in
     let past = told.variant.1 in
     let beyond : length buckets ≤ here = grind (arith, past, ok) in
-    (ap inr c.self.view_is, record { writes_back = tt; value = sym (none_beyond g.K.TextKey.text half buckets c.self.invariant c.args.text.now here place beyond) ∙ ap (at c.args.text.now) c.self.view_is })
+    (ap inr c.self.view_is, record { writes_back = tt; value = sym (none_beyond g.K.TextKey.text half buckets c.self.invariant c.bytes-text.result.now here place beyond) ∙ ap (at c.bytes-text.result.now) c.self.view_is ∙ ap (λ t. at t c.args.self.now) c.bytes-text.ensures })
