@@ -1,5 +1,5 @@
 -- Addresses as a table grows: by one bucket, whose entries come from one other.
-use Rattle.std.proofs.Common.{◌≡◌, ◌<◌, ◌≤◌, ◌+◌, ◌-◌, ◌*◌, ◌/◌, ◌%◌, ℕ, zero, suc, Bool, true, false, cond, nat_eq, nat_lt, refl, sym, ap, ◌∙◌, true≢false, arith}
+use Rattle.std.proofs.Common.{◌≡◌, ◌<◌, ◌≤◌, ◌+◌, ◌-◌, ◌*◌, ◌/◌, ◌%◌, ℕ, suc, Bool, true, false, nat_lt, refl, sym, ap, ◌∙◌, arith}
 use Rattle.std.proofs.lemmas.Nat.{div-add-mod', mod-mul-add, mod_below}
 use Rattle.sk_table.specs.Hashing.{address}
 
@@ -70,8 +70,10 @@ address_widens half hash some = by_test (nat_lt (hash % (m + m)) m) refl
   where
     m : ℕ
     m = half + half
+
     right : address half m hash ≡ hash % m
     right = address_low half m hash some (mod_below hash m (grind (arith, some)))
+
     by_test : (b : Bool) → nat_lt (hash % (m + m)) m ≡ b → address m m hash ≡ address half m hash
     by_test true h = address_low m m hash (grind (arith, some)) (grind (arith, h)) ∙ sym (low_half hash m (grind (arith, h))) ∙ sym right
     by_test false h = address_high m m hash (grind (arith, some)) (grind (arith, h)) ∙ sym (high_half hash m (grind (arith, some)) (grind (arith, h))) ∙ sym right

@@ -10,10 +10,9 @@ use Rattle.sk_resp.specs.WordOrder.{text_cmp}
 use Rattle.sk_table.specs.Entries.{at}
 use Rattle.sk_table.specs.Hashing.{address, hash_of}
 use Rattle.sk_table.specs.Slots.{AreHashed, IsBucket, entries_of, value_in}
-use Rattle.sk_table.specs.Table.{ArePlaced, IsTable, all_entries, table_in}
+use Rattle.sk_table.specs.Table.{ArePlaced, all_entries, table_in}
 use Rattle.sk_table.specs.declared.slot.Slot.{Slot}
 use Rattle.sk_table.proofs.Ordered.{at_in_order, same_text}
-
 
 module _ {V : Type 0} where
   -- the first of two lists counts
@@ -117,8 +116,10 @@ module _ {K V : Type 0} (text_of : K → Bytes) where
         where
           there : ℕ
           there = address half (length buckets) (hash_of other)
+
           after : at other (table_in text_of (slice_set buckets here new)) ≡ option_and_then (value_in text_of other) (slice_get (slice_set buckets here new) there)
           after = table_at half (slice_set buckets here new) placed_set other ∙ ap (λ n. option_and_then (value_in text_of other) (slice_get (slice_set buckets here new) (address half n (hash_of other)))) (length-set buckets here new)
+
           by_place : (b : Bool) → nat_eq there here ≡ b → at other (table_in text_of (slice_set buckets here new)) ≡ cond (is_at (text_cmp text) other) value (at other (table_in text_of buckets))
           by_place true e =
               let same : there ≡ here = grind (arith, e) in

@@ -1,8 +1,8 @@
 -- Edits of a bucket: what stands under each text afterwards, and that it stays one.
-use Rattle.std.proofs.Common.{◌≡◌, ◌<◌, ℕ, zero, suc, Bool, true, false, cond, not, List, [], ◌∷◌, ◌++◌, Option, Some, None, length, map, option_map, refl, sym, ap, subst, ◌∙◌, true≢false, arith}
+use Rattle.std.proofs.Common.{◌≡◌, ℕ, zero, suc, Bool, true, false, cond, List, [], ◌∷◌, ◌++◌, Some, None, option_map, refl, sym, ap, subst, ◌∙◌, true≢false, arith}
 use Rattle.std.specs.BTreeMap.{is_at}
 use Rattle.std.specs.Cmp.{eq_by_cmp_equiv}
-use Rattle.std.specs.List.{AllByRecursion, IsDistinct, list_any, position_or_len, remove}
+use Rattle.std.specs.List.{AllByRecursion, IsDistinct, remove}
 use Rattle.std.specs.Map.{keys_of, lookup, remove_entry, set_value}
 use Rattle.std.specs.Option.{is_some}
 use Rattle.std.specs.Ordering.{eq_by_cmp}
@@ -13,7 +13,7 @@ use Rattle.std.proofs.lemmas.Map.Made.{is_some-lookup}
 use Rattle.sk_resp.specs.Spelling.{Bytes}
 use Rattle.sk_resp.specs.WordOrder.{text_cmp}
 use Rattle.sk_table.specs.Hashing.{address, hash_of}
-use Rattle.sk_table.specs.Slots.{AreDistinct, AreHashed, IsBucket, entries_of, has_text, place_of, value_in, with_value}
+use Rattle.sk_table.specs.Slots.{AreDistinct, IsBucket, entries_of, has_text, place_of, value_in, with_value}
 use Rattle.sk_table.specs.declared.slot.Slot.{Slot}
 use Rattle.sk_table.proofs.Ordered.{at_other, at_set, same_text}
 
@@ -70,7 +70,8 @@ module _ {K V : Type 0} (text_of : K → Bytes) where
     bucket_with {half} {count} {here} slots place is = record {
       hashed = all_with (λ key hash. hash ≡ hash_of (text_of key)) slots place is.hashed;
       placed = all_with (λ key hash. address half count hash ≡ here) slots place is.placed;
-      distinct = subst (IsDistinct (eq_by_cmp text_cmp)) (sym (keys_with slots place)) is.distinct }
+      distinct = subst (IsDistinct (eq_by_cmp text_cmp)) (sym (keys_with slots place)) is.distinct;
+    }
 
   -- ## One more
 
@@ -94,6 +95,7 @@ module _ {K V : Type 0} (text_of : K → Bytes) where
           let elsewhere : is_at (text_cmp (text_of slot.key)) other ≡ false = ap (λ t. is_at (text_cmp (text_of slot.key)) t) (same_text other (text_of first.key) h) ∙ apart in
           grind (arith, h, elsewhere)
       by_first apart false h more = grind (arith, h, more)
+
       by_own : (b : Bool) → is_at (text_cmp (text_of slot.key)) (text_of first.key) ≡ b → value_in text_of (text_of slot.key) (first ∷ slots) ≡ None
           → (value_in text_of (text_of slot.key) slots ≡ None → value_in text_of other (slots ++ slot ∷ []) ≡ cond (is_at (text_cmp (text_of slot.key)) other) (Some slot.value) (value_in text_of other slots))
           → value_in text_of other (first ∷ slots ++ slot ∷ []) ≡ cond (is_at (text_cmp (text_of slot.key)) other) (Some slot.value) (value_in text_of other (first ∷ slots))
@@ -107,7 +109,8 @@ module _ {K V : Type 0} (text_of : K → Bytes) where
     placed = all_push _ slots slot is.placed place;
     distinct = subst (IsDistinct (eq_by_cmp text_cmp)) (sym (keys_push slots slot))
         (IsDistinct-push (eq_by_cmp_equiv nat_list_cmp_total) (keys_of (entries_of text_of slots)) (text_of slot.key) is.distinct
-        (sym (is_some-lookup (is_at (text_cmp (text_of slot.key))) (entries_of text_of slots)) ∙ ap is_some none)) }
+        (sym (is_some-lookup (is_at (text_cmp (text_of slot.key))) (entries_of text_of slots)) ∙ ap is_some none));
+  }
 
   -- ## One less
 
@@ -141,11 +144,12 @@ module _ {K V : Type 0} (text_of : K → Bytes) where
   distinct_remove (slot ∷ slots) (suc place) distinct =
       let keys = keys_of (entries_of text_of slots) in
       IsDistinct-cons (eq_by_cmp text_cmp) (text_of slot.key) (keys_of (entries_of text_of (remove slots place)))
-          (all_keys_remove (λ other. eq_by_cmp text_cmp (text_of slot.key) other ≡ false) slots place (IsDistinct-head (eq_by_cmp text_cmp) (text_of slot.key) keys distinct))
-          (distinct_remove slots place (IsDistinct-tail (eq_by_cmp text_cmp) (text_of slot.key) keys distinct))
+      (all_keys_remove (λ other. eq_by_cmp text_cmp (text_of slot.key) other ≡ false) slots place (IsDistinct-head (eq_by_cmp text_cmp) (text_of slot.key) keys distinct))
+      (distinct_remove slots place (IsDistinct-tail (eq_by_cmp text_cmp) (text_of slot.key) keys distinct))
 
   pub bucket_remove : {half count here : ℕ} (slots : List (Slot K V)) (place : ℕ) → IsBucket text_of half count here slots → IsBucket text_of half count here (remove slots place)
   bucket_remove slots place is = record {
     hashed = all_remove _ slots place is.hashed;
     placed = all_remove _ slots place is.placed;
-    distinct = distinct_remove slots place is.distinct }
+    distinct = distinct_remove slots place is.distinct;
+  }

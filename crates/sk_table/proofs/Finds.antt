@@ -1,5 +1,5 @@
 -- What the bucket at a text's address tells of the table, and what an edit of it makes of the table.
-use Rattle.std.proofs.Common.{◌≡◌, ◌<◌, ◌≤◌, ◌+◌, ℕ, zero, suc, Bool, true, false, cond, List, [], ◌∷◌, ◌++◌, Option, Some, None, length, slice_get, slice_set, slice_index_or, option_map, refl, sym, ap, subst, ◌∙◌, option_and_then, arith}
+use Rattle.std.proofs.Common.{◌≡◌, ◌<◌, ◌≤◌, ◌+◌, ℕ, zero, suc, cond, List, [], ◌∷◌, ◌++◌, Option, Some, None, length, slice_get, slice_set, slice_index_or, option_map, refl, sym, ap, subst, ◌∙◌, option_and_then, arith}
 use Rattle.std.specs.BTreeMap.{is_at}
 use Rattle.std.specs.List.{remove}
 use Rattle.std.specs.Map.{set_value}
@@ -9,8 +9,8 @@ use Rattle.sk_resp.specs.Spelling.{Bytes}
 use Rattle.sk_resp.specs.WordOrder.{text_cmp}
 use Rattle.sk_table.specs.Entries.{at, with_text, without_text}
 use Rattle.sk_table.specs.Hashing.{address, hash_of}
-use Rattle.sk_table.specs.Slots.{AreHashed, IsBucket, place_of, value_in, with_value}
-use Rattle.sk_table.specs.Table.{ArePlaced, IsTable, all_entries, table_in}
+use Rattle.sk_table.specs.Slots.{IsBucket, place_of, value_in, with_value}
+use Rattle.sk_table.specs.Table.{IsTable, all_entries, table_in}
 use Rattle.sk_table.specs.declared.slot.Slot.{Slot}
 use Rattle.sk_table.proofs.Buckets.{placed_set, table_at, table_here, table_set}
 use Rattle.sk_table.proofs.Edits.{bucket_push, bucket_remove, bucket_with, value_push, value_remove, value_with}
@@ -45,7 +45,8 @@ module _ {K V : Type 0} (text_of : K → Bytes) (half : ℕ) (buckets : List (Li
         low = subst (λ n. half ≤ n) (sym (length-set buckets here new)) is.low;
         high = subst (λ n. n ≤ half + half) (sym (length-set buckets here new)) is.high;
         small = is.small;
-        placed = placed_set text_of half buckets is.placed here bucket new there new_is }
+        placed = placed_set text_of half buckets is.placed here bucket new there new_is;
+      }
 
       edited : (new : List (Slot K V)) → IsBucket text_of half (length buckets) here new → (value : Option V) → ((other : Bytes) → value_in text_of other new ≡ cond (is_at (text_cmp text) other) value (value_in text_of other bucket))
           → (other : Bytes) → at other (table_in text_of (slice_set buckets here new)) ≡ cond (is_at (text_cmp text) other) value (at other (table_in text_of buckets))

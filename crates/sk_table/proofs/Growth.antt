@@ -1,5 +1,5 @@
 -- A table as it grows: each text stands where it stood, or in the new bucket.
-use Rattle.std.proofs.Common.{◌≡◌, ◌<◌, ◌≤◌, ◌+◌, ◌-◌, ◌%◌, ◌^◌, ℕ, zero, suc, Bool, true, false, cond, not, List, [], ◌∷◌, ◌++◌, Option, Some, None, length, slice_get, slice_set, slice_index_or, nat_eq, nat_lt, refl, sym, ap, subst, ◌∙◌, true≢false, arith, option_and_then}
+use Rattle.std.proofs.Common.{◌≡◌, ◌<◌, ◌≤◌, ◌+◌, ◌-◌, ◌%◌, ℕ, zero, suc, Bool, true, false, cond, not, List, [], ◌∷◌, ◌++◌, Option, Some, None, length, slice_get, slice_set, nat_eq, nat_lt, refl, sym, ap, subst, ◌∙◌, true≢false, arith, option_and_then}
 use Rattle.std.specs.BTreeMap.{is_at}
 use Rattle.std.specs.List.{AllByRecursion, IsDistinct, filter}
 use Rattle.std.specs.Map.{keys_of}
@@ -7,7 +7,7 @@ use Rattle.std.specs.Option.{is_some, unwrap_or}
 use Rattle.std.specs.Ordering.{eq_by_cmp}
 use Rattle.std.proofs.lemmas.List.{length-append, length-set}
 use Rattle.std.proofs.lemmas.Map.Keys.{IsDistinct-cons, IsDistinct-head, IsDistinct-tail}
-use Rattle.std.proofs.lemmas.Option.{slice_get_past, slice_get_read}
+use Rattle.std.proofs.lemmas.Option.{slice_get_past}
 use Rattle.sk_resp.specs.Spelling.{Bytes}
 use Rattle.sk_resp.specs.WordOrder.{text_cmp}
 use Rattle.sk_table.specs.Entries.{at}
@@ -119,7 +119,8 @@ module _ {K V : Type 0} (text_of : K → Bytes) where
     bucket_picked slots is moves = record {
       hashed = all_filter _ _ _ (λ slot p h. h) slots is.hashed;
       placed = all_filter _ _ _ (λ slot p h. moves slot.hash p h) slots is.placed;
-      distinct = distinct_picked slots is.distinct }
+      distinct = distinct_picked slots is.distinct;
+    }
 
   bucket_moves : {half count half' count' here : ℕ} (slots : List (Slot K V)) → IsBucket text_of half count here slots → ((hash : ℕ) → address half count hash ≡ here → address half' count' hash ≡ here) → IsBucket text_of half' count' here slots
   bucket_moves slots is moves = record { hashed = is.hashed; placed = all_more _ _ (λ slot h. moves slot.hash h) slots is.placed; distinct = is.distinct }
@@ -144,7 +145,8 @@ module _ {K V : Type 0} (text_of : K → Bytes) where
     low = grind (arith, full);
     high = grind (arith, full);
     small = small;
-    placed = λ k slots h. bucket_moves slots (is.placed k slots h) (λ hash there. ap (λ n. address (half + half) n hash) full ∙ address_widens half hash some ∙ ap (λ n. address half n hash) (sym full) ∙ there) }
+    placed = λ k slots h. bucket_moves slots (is.placed k slots h) (λ hash there. ap (λ n. address (half + half) n hash) full ∙ address_widens half hash some ∙ ap (λ n. address half n hash) (sym full) ∙ there);
+  }
 
   -- ## One more bucket
 
@@ -210,6 +212,7 @@ module _ {K V : Type 0} (text_of : K → Bytes) where
         by_from before false e =
             let apart : k ≡ from → ⊥ = λ same. absurd (grind (arith, e, same)) in
             bucket_moves slots (is.placed k slots (sym (other_there k before apart) ∙ h)) (others_stay k apart)
+
         by_last : (b : Bool) → nat_lt k count ≡ b → IsBucket text_of half (suc count) k slots
         by_last true e = by_from (grind (arith, e)) (nat_eq k from) refl
         by_last false e = by_end (nat_eq k count) refl
@@ -228,19 +231,24 @@ module _ {K V : Type 0} (text_of : K → Bytes) where
       low = let total = all_count in let low = is.low in grind (arith, total, low);
       high = let total = all_count in grind (arith, total, room);
       small = is.small;
-      placed = λ k slots h. subst (λ n. IsBucket text_of half n k slots) (sym all_count) (all_placed_in k slots h) }
+      placed = λ k slots h. subst (λ n. IsBucket text_of half n k slots) (sym all_count) (all_placed_in k slots h);
+    }
 
     same_at : (text : Bytes) → at text (table_in text_of all) ≡ at text (table_in text_of buckets)
     same_at text = by_test (comes (hash_of text)) refl
       where
         new_at : at text (table_in text_of all) ≡ option_and_then (value_in text_of text) (slice_get all (address half (suc count) (hash_of text)))
         new_at = table_at text_of half all table_split.placed text ∙ ap (λ n. option_and_then (value_in text_of text) (slice_get all (address half n (hash_of text)))) all_count
+
         old_at : at text (table_in text_of buckets) ≡ option_and_then (value_in text_of text) (slice_get buckets (address half count (hash_of text)))
         old_at = table_at text_of half buckets is.placed text
+
         old_from : address half count (hash_of text) ≡ from → at text (table_in text_of buckets) ≡ value_in text_of text bucket
         old_from e = old_at ∙ ap (option_and_then (value_in text_of text)) (ap (slice_get buckets) e ∙ there)
+
         new_from : (k : ℕ) (slots : List (Slot K V)) → address half (suc count) (hash_of text) ≡ k → slice_get all k ≡ Some slots → at text (table_in text_of all) ≡ value_in text_of text slots
         new_from k slots e h = new_at ∙ ap (option_and_then (value_in text_of text)) (ap (slice_get all) e ∙ h)
+
         by_from : comes (hash_of text) ≡ false → (b : Bool) → nat_eq (address half count (hash_of text)) from ≡ b → at text (table_in text_of all) ≡ at text (table_in text_of buckets)
         by_from h true e =
             let same : address half count (hash_of text) ≡ from = grind (arith, e) in
@@ -249,6 +257,7 @@ module _ {K V : Type 0} (text_of : K → Bytes) where
         by_from h false e =
             new_at ∙ ap (λ k. option_and_then (value_in text_of text) (slice_get all k)) (stays (hash_of text) (ap not h))
             ∙ ap (option_and_then (value_in text_of text)) (other_there (address half count (hash_of text)) (address_below half count (hash_of text) some is.low is.high) (λ same. absurd (grind (arith, e, same)))) ∙ sym old_at
+
         by_test : (b : Bool) → comes (hash_of text) ≡ b → at text (table_in text_of all) ≡ at text (table_in text_of buckets)
         by_test true h =
             new_from count far (address_goes half count (hash_of text) some (grind (arith, h))) far_there ∙ value_picked comes text bucket (is.placed from bucket there).hashed

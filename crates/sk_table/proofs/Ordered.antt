@@ -1,11 +1,11 @@
 -- Entries in the order of their texts: edits keep the order, and look-ups tell the whole list.
 use Rattle.std.proofs.Common.{◌≡◌, Bool, true, false, cond, List, [], ◌∷◌, Option, Some, None, option_map, refl, sym, ap, subst, ◌∙◌, true≢false, arith}
-use Rattle.std.specs.BTreeMap.{insert_entry, is_at}
-use Rattle.std.specs.List.{AllByRecursion, IsDistinct}
+use Rattle.std.specs.BTreeMap.{is_at}
+use Rattle.std.specs.List.{AllByRecursion}
 use Rattle.std.specs.List.Sorted.{IsStrictlySortedBy}
-use Rattle.std.specs.Map.{keys_of, lookup, remove_entry, set_value}
+use Rattle.std.specs.Map.{keys_of, set_value}
 use Rattle.std.specs.Option.{IsSome, is_some, unwrap_or}
-use Rattle.std.specs.Ordering.{is_eq, match_ordering, eq_by_cmp}
+use Rattle.std.specs.Ordering.{is_eq, match_ordering}
 use Rattle.std.specs.Cmp.{eq_by_cmp_equiv}
 use Rattle.std.specs.declared.cmp.Ordering.{Ordering}
 use Rattle.std.specs.declared.cmp.Ordering.TheVariants.{Less, Equal, Greater}
@@ -146,6 +146,7 @@ module _ {V : Type 0} where
       by_text : at text entries ≡ None → (b : Bool) → is_at (text_cmp text) other ≡ b → at other entries ≡ cond b None (at other entries)
       by_text none true h = ap (λ t. at t entries) (sym (same_text text other h)) ∙ none
       by_text none false h = refl
+
       by_found : (o : Option V) → at text entries ≡ o → at other (set_value (is_at (text_cmp text)) entries value) ≡ cond (is_at (text_cmp text) other) (option_map (λ _. value) (at text entries)) (at other entries)
       by_found None none =
           ap (at other) (set_absent text value entries none) ∙ by_text none (is_at (text_cmp text) other) refl ∙ ap (λ o. cond (is_at (text_cmp text) other) (option_map (λ _. value) o) (at other entries)) (sym none)

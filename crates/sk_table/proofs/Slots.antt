@@ -1,21 +1,18 @@
 -- The entries of a bucket: what is found there, and what edits make of it.
-use Rattle.std.proofs.Common.{◌≡◌, ◌<◌, ◌≤◌, ◌+◌, ℕ, zero, suc, Bool, true, false, cond, not, List, [], ◌∷◌, ◌++◌, Option, Some, None, length, drop, map, slice_get, slice_set, slice_index_or, nat_eq, option_map, refl, sym, ap, subst, ◌∙◌, true≢false, ◌⊎◌, inl, arith}
+use Rattle.std.proofs.Common.{◌≡◌, ◌<◌, ℕ, zero, suc, Bool, true, false, List, [], ◌∷◌, Some, None, length, slice_get, slice_set, slice_index_or, option_map, refl, sym, ap, subst, ◌∙◌, ◌⊎◌, inl, arith}
 use mathlib.Core.Option as optional
 use borrow.Follows.Closed.{read_of}
 use base.Fml.{GName}
 use Rattle.std.specs.Str.{bytes_eq}
 use Rattle.std.specs.BTreeMap.{is_at}
 use Rattle.std.specs.Cmp.Lexicographic.{texts_ties}
-use Rattle.std.specs.List.{AllByRecursion, IsDistinct, filter, position_or_len, remove}
-use Rattle.std.specs.Map.{keys_of}
-use Rattle.std.specs.Ordering.{is_eq}
+use Rattle.std.specs.List.{position_or_len}
 use Rattle.sk_resp.specs.Spelling.{Bytes}
 use Rattle.sk_resp.specs.WordOrder.{text_cmp}
-use Rattle.sk_table.specs.Entries.{at}
-use Rattle.sk_table.specs.Hashing.{address, hash_of}
+use Rattle.sk_table.specs.Hashing.{hash_of}
 use Rattle.std.proofs.lemmas.Option.{slice_get_past, slice_get_read}
 use Rattle.std.proofs.lemmas.List.Sums.{passes_at_first}
-use Rattle.sk_table.specs.Slots.{AreDistinct, AreHashed, IsBucket, entries_of, goes_to, has_text, place_of, value_in, with_value}
+use Rattle.sk_table.specs.Slots.{has_text, place_of, value_in, with_value}
 use Rattle.sk_table.specs.declared.slot.Slot.{Slot}
 use Rattle.sk_table.proofs.Ordered.{same_text}
 

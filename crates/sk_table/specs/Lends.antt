@@ -1,8 +1,7 @@
 -- What is left behind where a value is lent: it with what was written to it.
-use Rattle.std.specs.Prelude.{ℕ, zero, suc, List, [], ◌∷◌, Option}
+use Rattle.std.specs.Prelude.{List, Option}
 use Rattle.std.specs.Borrow.{LendsIf, RattleType, MutBor, Fml}
 use Rattle.sk_resp.specs.Spelling.{Bytes}
-use Rattle.sk_table.specs.Entries.{with_text}
 use Rattle.sk_table.specs.Slots.{place_of, with_value}
 use Rattle.sk_table.specs.contracts.bucket.Bucket as bucket
 use Rattle.sk_table.specs.declared.slot.Slot.{Slot}

@@ -5,7 +5,6 @@ use Rattle.std.specs.BTreeMap.{is_at}
 use Rattle.std.specs.Map.{set_value}
 use Rattle.sk_resp.specs.Spelling.{Bytes}
 use Rattle.sk_resp.specs.WordOrder.{text_cmp}
-use Rattle.sk_table.specs.Entries.{with_text}
 use Rattle.sk_table.specs.contracts.text_table.TextTable.{the_row}
 use Rattle.sk_table.specs.declared.text_key.TextKey.{Ghosts}
 

@@ -1,6 +1,6 @@
 // The entries whose hashes have one address.
-ghost use Rattle.std.specs.Prelude.{◌≡◌, ◌<◌, ◌≤◌, ◌++◌, ◌∷◌, [], IfErr, IfOk, IfSome, None, OnErr, OnOk, Some, filter, length, not, option_map, slice_get};
-ghost use Rattle.std.specs.List.{position_or_len, remove};
+ghost use Rattle.std.specs.Prelude.{◌≡◌, ◌<◌, ◌≤◌, ◌++◌, ◌∷◌, [], IfErr, IfOk, IfSome, None, OnErr, OnOk, Some, filter, length, not, option_map};
+ghost use Rattle.std.specs.List.{remove};
 ghost use Rattle.sk_table.specs.Hashing.{hash_of, most_half};
 ghost use Rattle.sk_table.specs.Slots.{AreHashed, goes_to, has_text, place_of, value_in};
 

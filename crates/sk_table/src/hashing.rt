@@ -28,9 +28,5 @@ pub fn address_of(half: u32, count: usize, hash: u32) -> usize
         return 0;
     }
     let at = (hash % (half + half)) as usize;
-    if at < count {
-        at
-    } else {
-        at - half as usize
-    }
+    if at < count { at } else { at - half as usize }
 }

@@ -1,5 +1,5 @@
 // A hash table that grows by a bucket at a time.
-ghost use Rattle.std.specs.Prelude.{◌≡◌, ◌<◌, ◌≤◌, ◌+◌, [], IfErr, IfSome, None, OnErr, OnOk, length, option_map};
+ghost use Rattle.std.specs.Prelude.{◌≡◌, ◌<◌, ◌+◌, [], IfErr, IfSome, None, OnErr, OnOk, length, option_map};
 ghost use Rattle.std.specs.Map.{keys_of};
 ghost use Rattle.std.specs.List.Sorted.{IsStrictlySortedBy};
 ghost use Rattle.std.specs.Option.{is_some};
@@ -95,6 +95,7 @@ impl<K: TextKey, V> TextTable<K, V> {
     pub fn get_mut(&mut self, key: &K) -> Option<&mut V>
         ensures* writes_back { sem 𝓛 (lends_at K.row V.row K.TextKey self.entry (K.text key.now) result) }
         ensures value { option_map (λ value. value.now) result ≡ at (K.text key.now) self.old }
+        ensures ordered { IsStrictlySortedBy text_cmp (keys_of self.old) }
     {
         let text = key.bytes();
         let hash = hash_of(text);

@@ -1,4 +1,4 @@
-use Rattle.std.proofs.Common.{◌≡◌, sym, ◌∙◌, ap, subst, [], ◌∷◌, ◌++◌}
+use Rattle.std.proofs.Common.{sym, ◌∙◌, ap, subst, [], ◌∷◌, ◌++◌}
 use Rattle.sk_table.specs.Table.{IsTable}
 use Rattle.sk_table.proofs.Growth.{table_empty, table_one}
 use Rattle.sk_table.proofs.text_table.open.Goals as goal

@@ -1,5 +1,4 @@
-use Rattle.std.proofs.Common.{◌≡◌, ◌≤◌, ◌+◌, sym, ◌∙◌, length, arith}
-use Rattle.sk_table.specs.Hashing.{most_half}
+use Rattle.std.proofs.Common.{◌≡◌, ◌+◌, sym, ◌∙◌, length, arith}
 use Rattle.sk_table.proofs.Growth.{table_widened}
 use Rattle.sk_table.proofs.text_table.widen.Goals as goal
 

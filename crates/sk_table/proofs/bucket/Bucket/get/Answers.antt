@@ -1,4 +1,4 @@
-use Rattle.std.proofs.Common.{◌≡◌, ◌<◌, sym, ◌∙◌, ap, subst, length, slice_index_or, arith}
+use Rattle.std.proofs.Common.{◌≡◌, sym, ◌∙◌, ap, subst, length, slice_index_or, arith}
 use Rattle.sk_table.proofs.Slots.{none_found, some_found}
 use Rattle.sk_table.proofs.bucket.Bucket.get.Goals as goal
 
@@ -11,4 +11,4 @@ returns g c =
     let within = c.place_of-at.ensures.within in
     let apart = c.if-at-len.false in
     some_found g.K.TextKey.text c.args.text.now c.args.self.now c.place_of-at.result c.index.result.now c.place_of-at.ensures.is (grind (arith, count, within, apart))
-        (subst (λ l. c.index.result.now ≡ slice_index_or l c.place_of-at.result c.index.result.now) c.self.view_is c.index.ensures)
+    (subst (λ l. c.index.result.now ≡ slice_index_or l c.place_of-at.result c.index.result.now) c.self.view_is c.index.ensures)

@@ -14,7 +14,7 @@ returns-in-Some g c =
     let within : place < length slots = subst (λ n. place < n) (c.self.inside.slots.ok.0 ∙ ap length c.self.view_is) (told.variant.0 refl) in
     let read : slot ≡ slice_index_or slots place slot = subst (λ l. slot ≡ slice_index_or l place slot) c.self.view_is told.value in
     let written : (w : g.row.V.Denot) → slice_set c.self.inside.slots.items place (record { key = slot.key; hash = slot.hash; value = w }) ≡ with_value slots (place_of text_of c.args.text.now slots) w =
-        λ w. ap (λ l. slice_set l place (record { key = slot.key; hash = slot.hash; value = w })) c.self.view_is ∙ value_set slots place slot w within read ∙ ap (λ i. with_value slots i w) is in
+    λ w. ap (λ l. slice_set l place (record { key = slot.key; hash = slot.hash; value = w })) c.self.view_is ∙ value_set slots place slot w within read ∙ ap (λ i. with_value slots i w) is in
     (lent_alike written, record { writes_back = tt; value = some_found text_of c.args.text.now slots place slot is within read })
 
 pub returns-in-None : goal.returns-in-None

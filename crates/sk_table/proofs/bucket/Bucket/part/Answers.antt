@@ -1,4 +1,4 @@
-use Rattle.std.proofs.Common.{◌≡◌, ◌≤◌, ◌<◌, ◌+◌, not, filter, length, sym, ◌∙◌, ap, arith}
+use Rattle.std.proofs.Common.{◌≡◌, not, filter, length, sym, ◌∙◌, ap, arith}
 use Rattle.sk_table.specs.Slots.{goes_to}
 use Rattle.sk_table.proofs.Growth.{no_rest, two_parts}
 use Rattle.sk_table.proofs.bucket.Bucket.part.Goals as goal

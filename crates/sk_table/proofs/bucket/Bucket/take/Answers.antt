@@ -1,4 +1,4 @@
-use Rattle.std.proofs.Common.{◌≡◌, ◌<◌, sym, ◌∙◌, ap, subst, length, slice_index_or, arith}
+use Rattle.std.proofs.Common.{◌≡◌, sym, ◌∙◌, ap, subst, length, slice_index_or, arith}
 use Rattle.sk_table.proofs.Slots.{none_found, some_found, text_found}
 use Rattle.sk_table.proofs.bucket.Bucket.take.Goals as goal
 
@@ -11,7 +11,7 @@ returns-clause-is g c =
     let within = c.place_of-at.ensures.within in
     let apart = c.if-at-len.false in
     some_found g.K.TextKey.text c.args.text.now c.args.self.now c.place_of-at.result c.remove-slot.result c.place_of-at.ensures.is (grind (arith, count, within, apart))
-        (subst (λ l. c.remove-slot.result ≡ slice_index_or l c.place_of-at.result c.remove-slot.result) c.self.view_is c.remove-slot.ensures.value)
+    (subst (λ l. c.remove-slot.result ≡ slice_index_or l c.place_of-at.result c.remove-slot.result) c.self.view_is c.remove-slot.ensures.value)
 
 pub returns-clause-text : goal.returns-clause-text
 returns-clause-text g c =
@@ -19,4 +19,4 @@ returns-clause-text g c =
     let within = c.place_of-at.ensures.within in
     let apart = c.if-at-len.false in
     text_found g.K.TextKey.text c.args.text.now c.args.self.now c.place_of-at.result c.remove-slot.result c.place_of-at.ensures.is (grind (arith, count, within, apart))
-        (subst (λ l. c.remove-slot.result ≡ slice_index_or l c.place_of-at.result c.remove-slot.result) c.self.view_is c.remove-slot.ensures.value)
+    (subst (λ l. c.remove-slot.result ≡ slice_index_or l c.place_of-at.result c.remove-slot.result) c.self.view_is c.remove-slot.ensures.value)

@@ -1,11 +1,13 @@
-use Rattle.std.proofs.Common.{◌≡◌, ◌<◌, ◌≤◌, sym, ◌∙◌, ap, length, slice_set, refl, subst, inr, IsSome, arith}
-use Rattle.sk_table.specs.Entries.{at, with_text}
-use Rattle.sk_table.specs.Table.{IsTable, table_in}
+use Rattle.std.proofs.Common.{◌≡◌, ◌<◌, ◌≤◌, sym, ◌∙◌, ap, length, slice_set, refl, subst, inr, arith}
+use Rattle.sk_table.specs.Entries.{at}
+use Rattle.sk_table.specs.Table.{all_entries, table_in}
 use Rattle.sk_table.proofs.Finds.{bucket_is, none_beyond, place_from, rest_written, same_as_was, table_as_was, table_read, table_written}
 use Rattle.std.specs.BTreeMap.{is_at}
-use Rattle.std.specs.Map.{set_value}
+use Rattle.std.specs.Map.{keys_of, set_value}
+use Rattle.std.specs.List.Sorted.{IsStrictlySortedBy}
 use Rattle.sk_resp.specs.WordOrder.{text_cmp}
 use Rattle.sk_table.specs.Slots.{place_of, with_value}
+use Rattle.sk_table.proofs.Ordered.{up_in_order}
 use Rattle.sk_table.proofs.Slots.{read_alike}
 use Rattle.sk_table.proofs.text_table.TextTable.get_mut.Goals as goal
 
@@ -41,10 +43,11 @@ returns-in-Some g c =
     let told = c.in-Some.ensures in
     let within : here < length buckets = subst (λ n. here < n) ok (told.variant.0 refl) in
     let written : (w : g.row.V.Denot) → table_in g.K.TextKey.text (slice_set buckets here (with_value c.in-Some.bucket.now (place_of g.K.TextKey.text c.bytes-text.result.now c.in-Some.bucket.now) w)) ≡ set_value (is_at (text_cmp (g.K.TextKey.text c.args.key.now))) c.args.self.now w =
-        λ w. rest_written g.K.TextKey.text half buckets c.self.invariant c.bytes-text.result.now here place c.in-Some.bucket.now within told.value w ∙ ap (λ t. set_value (is_at (text_cmp c.bytes-text.result.now)) t w) c.self.view_is ∙ ap (λ t. set_value (is_at (text_cmp t)) c.args.self.now w) c.bytes-text.ensures in
+    λ w. rest_written g.K.TextKey.text half buckets c.self.invariant c.bytes-text.result.now here place c.in-Some.bucket.now within told.value w ∙ ap (λ t. set_value (is_at (text_cmp c.bytes-text.result.now)) t w) c.self.view_is ∙ ap (λ t. set_value (is_at (text_cmp t)) c.args.self.now w) c.bytes-text.ensures in
     let as_was : table_in g.K.TextKey.text (slice_set buckets here c.in-Some.bucket.now) ≡ c.args.self.now = ap (table_in g.K.TextKey.text) (same_as_was g.K.TextKey.text half buckets c.self.invariant c.bytes-text.result.now here place c.in-Some.bucket.now within told.value) ∙ c.self.view_is in
     let value = c.get_mut-in-Some.ensures.value ∙ table_read g.K.TextKey.text half buckets c.self.invariant c.bytes-text.result.now here place c.in-Some.bucket.now within told.value ∙ ap (at c.bytes-text.result.now) c.self.view_is ∙ ap (λ t. at t c.args.self.now) c.bytes-text.ensures in
-    (read_alike _ written as_was, record { writes_back = tt; value = value })
+    let ordered = subst (λ e. IsStrictlySortedBy text_cmp (keys_of e)) c.self.view_is (up_in_order (all_entries g.K.TextKey.text buckets)) in
+    (read_alike _ written as_was, record { writes_back = tt; value = value; ordered = ordered })
 
 pub returns-in-None : goal.returns-in-None
 returns-in-None g c =
@@ -56,4 +59,5 @@ returns-in-None g c =
     let told = c.in-None.ensures in
     let past = told.variant.1 in
     let beyond : length buckets ≤ here = grind (arith, past, ok) in
-    (ap inr c.self.view_is, record { writes_back = tt; value = sym (none_beyond g.K.TextKey.text half buckets c.self.invariant c.bytes-text.result.now here place beyond) ∙ ap (at c.bytes-text.result.now) c.self.view_is ∙ ap (λ t. at t c.args.self.now) c.bytes-text.ensures })
+    let ordered = subst (λ e. IsStrictlySortedBy text_cmp (keys_of e)) c.self.view_is (up_in_order (all_entries g.K.TextKey.text buckets)) in
+    (ap inr c.self.view_is, record { writes_back = tt; value = sym (none_beyond g.K.TextKey.text half buckets c.self.invariant c.bytes-text.result.now here place beyond) ∙ ap (at c.bytes-text.result.now) c.self.view_is ∙ ap (λ t. at t c.args.self.now) c.bytes-text.ensures; ordered = ordered })

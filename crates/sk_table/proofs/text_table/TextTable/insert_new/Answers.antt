@@ -1,9 +1,8 @@
-use Rattle.std.proofs.Common.{◌≡◌, ◌<◌, ◌≤◌, sym, ◌∙◌, ap, length, refl, subst, Some, None, option_map, slice_set, arith}
-use Rattle.sk_table.specs.Entries.{at, with_text, without_text}
+use Rattle.std.proofs.Common.{◌<◌, sym, ◌∙◌, ap, length, refl, subst, slice_set, arith}
+use Rattle.sk_table.specs.Entries.{at, with_text}
 use Rattle.sk_table.specs.Hashing.{hash_of}
-use Rattle.sk_table.specs.Slots.{value_in}
 use Rattle.sk_table.specs.Table.{IsTable, table_in}
-use Rattle.sk_table.proofs.Finds.{bucket_is, none_beyond, place_from, put_pushed, rest_removed, table_pushed, table_read, table_removed}
+use Rattle.sk_table.proofs.Finds.{place_from, put_pushed, table_pushed}
 use Rattle.sk_table.proofs.text_table.TextTable.insert_new.Goals as goal
 
 pub invariant_of-self-2 : goal.invariant_of-self-2
