@@ -1,7 +1,9 @@
 -- Batches that are made, or get jobs.
-use Rattle.std.proofs.Common.{◌≡◌, ◌<◌, ◌∙◌, ℕ, Bool, true, false, List, [], ◌∷◌, ap, ap₂, arith, length, refl, sym}
-use Rattle.std.specs.Prelude.{Option, None, Result, Ok, Err, OnOk, ◌&&◌, cond, not}
+use Rattle.std.proofs.Common.{◌≡◌, ◌<◌, ◌∙◌, ℕ, Bool, true, false, List, [], ◌∷◌, ap, ap₂, arith, length, refl, subst, sym}
+use Rattle.std.specs.Prelude.{Option, None, Result, Err, ◌&&◌, cond, not}
 use Rattle.sk_resp.specs.Spelling.{Bytes}
+use Rattle.sk_resp.specs.declared.reply.Reply.{Reply}
+use Rattle.sk_resp.specs.declared.reply.Reply.TheVariants as reply
 use Rattle.sk_resp.specs.declared.refusal.Refusal.TheVariants as refusal
 use Rattle.sk_resp.specs.declared.refusal.Refusal.TheVariants.{BadPayload, NoBatch}
 use Rattle.sk_resp.specs.declared.say.Say.{Say}
@@ -9,7 +11,7 @@ use Rattle.sk_payload.specs.Head.{head}
 use Rattle.sk_payload.specs.Member.{is_name}
 use Rattle.sk_batch.specs.Batched.{Batched}
 use Rattle.sk_batch.specs.Events.{fired, made, made_fires}
-use Rattle.sk_batch.specs.Faults.{add_fault, batch_fault, bid_fault, breaks, is_full as has_most, jids_fault, make_fault}
+use Rattle.sk_batch.specs.Faults.{batch_fault, bid_fault, breaks, is_full as has_most, jids_fault}
 use Rattle.sk_batch.specs.declared.batch.Batch.{Batch}
 use Rattle.sk_batch.specs.declared.batch_fault.BatchFault.{BatchFault}
 use Rattle.sk_batch.specs.declared.batch_fault.BatchFault.TheVariants.{Full}
@@ -19,11 +21,11 @@ use Rattle.sk_batch.proofs.Refusals.{batch_kept, bid_kept}
 use Rattle.sk_model.specs.World.{World}
 use Rattle.sk_model.specs.Batches.{all_may_join, are_callbacks, batch_add, batch_push, jids_of, join, make, push_jobs, unless}
 use Rattle.sk_model.specs.Change.{Makes, changed, perform}
-use Rattle.sk_model.specs.Outcome.{Outcome, refuses}
+use Rattle.sk_model.specs.Outcome.{Outcome, Realizes, refuses}
 use Rattle.sk_model.specs.Room.{is_full, is_too_much}
 use Rattle.sk_model.specs.Notify.{fire_all, push_job}
 use Rattle.sk_model.proofs.Changes.Lawful.{perform-append}
-use Rattle.sk_jobs.specs.Batching.{unless_err}
+use Rattle.sk_jobs.specs.Batching.{try_join, try_make, unless_err}
 use Rattle.sk_jobs.specs.Callbacks.{callback_pushes}
 use Rattle.sk_jobs.proofs.Calling.{fire_all_is, pushes_apart, with_batched}
 
@@ -46,61 +48,64 @@ one_pushed u v end text texts rest first pushed all =
 
 -- ## Rules that are kept
 
-pub true_not : (b : Bool) → not b ≡ true → b ≡ false
-true_not true e = sym e
-true_not false e = refl
-
-pub not_not : (b : Bool) → not (not b) ≡ b
-not_not true = refl
-not_not false = refl
-
--- A new batch breaks none of the first four rules, each looked at on its own; what the last one tells is told.
-pub push_kept : {A : Type 0} (w : World) (batch : Batch) (texts : List Bytes) (named fit room : Bool) (broken repeated : Option BatchFault) (r : Result A Say)
+-- A new batch breaks none of the first three rules, each looked at on its own.
+pub push_kept : (w : World) (batch : Batch) (texts : List Bytes) (named fit : Bool) (broken : Option BatchFault)
     → named ≡ is_name 64 batch.bid → ((o : Outcome) → cond (not named) (refuses NoBatch) o ≡ o)
     → broken ≡ bid_fault batch.bid batch.parent w.batches None → ((o : Outcome) → unless broken o ≡ o)
     → fit ≡ are_callbacks batch.callbacks && all_may_join batch.bid texts → ((o : Outcome) → cond (not fit) (refuses BadPayload) o ≡ o)
-    → repeated ≡ jids_fault batch.bid (jids_of texts) w.batches (breaks (has_most w.batches) Full None) → ((o : Outcome) → unless repeated o ≡ o)
-    → not room ≡ is_too_much w texts → ((o : Outcome) → cond (not room) (refuses refusal.Full) o ≡ unless_err r o)
-    → batch_push w batch texts ≡ unless_err r (make batch texts)
-push_kept w batch texts named fit room broken repeated r e1 k1 e2 k2 e3 k3 e4 k4 e5 k5 =
-    let at5 : Outcome = cond (is_too_much w texts) (refuses refusal.Full) (make batch texts) in
-    let at4 : Outcome = unless (jids_fault batch.bid (jids_of texts) w.batches (breaks (has_most w.batches) Full None)) at5 in
+    → batch_push w batch texts ≡ unless (jids_fault batch.bid (jids_of texts) w.batches (breaks (has_most w.batches) Full None)) (cond (is_too_much w texts) (refuses refusal.Full) (make batch texts))
+push_kept w batch texts named fit broken e1 k1 e2 k2 e3 k3 =
+    let at4 : Outcome = unless (jids_fault batch.bid (jids_of texts) w.batches (breaks (has_most w.batches) Full None)) (cond (is_too_much w texts) (refuses refusal.Full) (make batch texts)) in
     let at3 : Outcome = cond (not (are_callbacks batch.callbacks && all_may_join batch.bid texts)) (refuses BadPayload) at4 in
     let at2 : Outcome = unless (bid_fault batch.bid batch.parent w.batches None) at3 in
     ap (λ b. cond (not b) (refuses NoBatch) at2) (sym e1) ∙ k1 at2
     ∙ ap (λ f. unless f at3) (sym e2) ∙ k2 at3
     ∙ ap (λ b. cond (not b) (refuses BadPayload) at4) (sym e3) ∙ k3 at4
-    ∙ ap (λ f. unless f at5) (sym e4) ∙ k4 at5
-    ∙ ap (λ b. cond b (refuses refusal.Full) (make batch texts)) (sym e5) ∙ k5 (make batch texts)
 
--- jobs that a batch gets break none of the first three
-pub add_kept : {A : Type 0} (w : World) (bid : Bytes) (texts : List Bytes) (fit room : Bool) (broken repeated : Option BatchFault) (r : Result A Say)
+-- jobs that a batch gets break none of the first two
+pub add_kept : (w : World) (bid : Bytes) (texts : List Bytes) (fit : Bool) (broken : Option BatchFault)
     → broken ≡ batch_fault bid w.batches None → ((o : Outcome) → unless broken o ≡ o)
     → fit ≡ all_may_join bid texts → ((o : Outcome) → cond (not fit) (refuses BadPayload) o ≡ o)
-    → repeated ≡ jids_fault bid (jids_of texts) w.batches None → ((o : Outcome) → unless repeated o ≡ o)
-    → not room ≡ is_too_much w texts → ((o : Outcome) → cond (not room) (refuses refusal.Full) o ≡ unless_err r o)
-    → batch_add w bid texts ≡ unless_err r (join bid texts)
-add_kept w bid texts fit room broken repeated r e1 k1 e2 k2 e3 k3 e4 k4 =
-    let at4 : Outcome = cond (is_too_much w texts) (refuses refusal.Full) (join bid texts) in
-    let at3 : Outcome = unless (jids_fault bid (jids_of texts) w.batches None) at4 in
+    → batch_add w bid texts ≡ unless (jids_fault bid (jids_of texts) w.batches None) (cond (is_too_much w texts) (refuses refusal.Full) (join bid texts))
+add_kept w bid texts fit broken e1 k1 e2 k2 =
+    let at3 : Outcome = unless (jids_fault bid (jids_of texts) w.batches None) (cond (is_too_much w texts) (refuses refusal.Full) (join bid texts)) in
     let at2 : Outcome = cond (not (all_may_join bid texts)) (refuses BadPayload) at3 in
     ap (λ f. unless f at2) (sym e1) ∙ k1 at2
     ∙ ap (λ b. cond (not b) (refuses BadPayload) at3) (sym e2) ∙ k2 at3
-    ∙ ap (λ f. unless f at4) (sym e3) ∙ k3 at4
-    ∙ ap (λ b. cond b (refuses refusal.Full) (join bid texts)) (sym e4) ∙ k4 (join bid texts)
 
--- what holds anyway holds where there is no error
-pub holds_ok : {A E P : Type 0} (r : Result A E) → P → OnOk r P
-holds_ok (Ok x) p = p
-holds_ok (Err e) p = tt
+-- where there is room for the jobs the other rules are those of making the batch
+pub push_room : (w : World) (batch : Batch) (texts : List Bytes) → bid_fault batch.bid batch.parent w.batches None ≡ None → is_too_much w texts ≡ false
+    → unless (jids_fault batch.bid (jids_of texts) w.batches (breaks (has_most w.batches) Full None)) (cond (is_too_much w texts) (refuses refusal.Full) (make batch texts)) ≡ try_make batch texts w
+push_room w batch texts first few =
+    let later : Option BatchFault = jids_fault batch.bid (jids_of texts) w.batches (breaks (has_most w.batches) Full None) in
+    ap (λ b. unless later (cond b (refuses refusal.Full) (make batch texts))) few
+    ∙ ap (λ f. unless f (make batch texts)) (sym (bid_kept batch.bid w.batches later batch.parent first))
 
--- A new batch breaks no rule where it breaks none of its id and its parent, and none of its jobs.
-pub make_kept_none : (bid : Bytes) (parent : Option Bytes) (texts : List Bytes) (s : Batched) → bid_fault bid parent s None ≡ None → jids_fault bid (jids_of texts) s (breaks (has_most s) Full None) ≡ None → make_fault bid parent (jids_of texts) s ≡ None
-make_kept_none bid parent texts s first second = bid_kept bid s (jids_fault bid (jids_of texts) s (breaks (has_most s) Full None)) parent first ∙ second
+-- and those of jobs that it gets
+pub add_room : (w : World) (bid : Bytes) (texts : List Bytes) → batch_fault bid w.batches None ≡ None → is_too_much w texts ≡ false
+    → unless (jids_fault bid (jids_of texts) w.batches None) (cond (is_too_much w texts) (refuses refusal.Full) (join bid texts)) ≡ try_join bid texts w
+add_room w bid texts first few =
+    let later : Option BatchFault = jids_fault bid (jids_of texts) w.batches None in
+    ap (λ b. unless later (cond b (refuses refusal.Full) (join bid texts))) few
+    ∙ ap (λ f. unless f (join bid texts)) (sym (batch_kept bid w.batches later first))
 
--- Jobs that a batch gets break no rule where the batch breaks none, and the jobs none.
-pub add_kept_none : (bid : Bytes) (texts : List Bytes) (s : Batched) → batch_fault bid s None ≡ None → jids_fault bid (jids_of texts) s None ≡ None → add_fault bid (jids_of texts) s ≡ None
-add_kept_none bid texts s first second = batch_kept bid s (jids_fault bid (jids_of texts) s None) first ∙ second
+-- where there is none, the jobs are refused for that once their ids break no rule
+pub full_told : (w : World) (texts : List Bytes) (repeated broken : Option BatchFault) (o : Outcome) → repeated ≡ broken → ((p : Outcome) → unless repeated p ≡ p) → is_too_much w texts ≡ true
+    → unless broken (cond (is_too_much w texts) (refuses refusal.Full) o) ≡ refuses refusal.Full
+full_told w texts repeated broken o same kept much =
+    let last : Outcome = cond (is_too_much w texts) (refuses refusal.Full) o in
+    ap (λ f. unless f last) (sym same) ∙ kept last ∙ ap (λ b. cond b (refuses refusal.Full) o) much
+
+-- ## What comes of it
+
+-- a rule that is broken is told, and nothing has changed
+pub told_comes : {A : Type 0} (w v : World) (o : Outcome) (broken : Option BatchFault) (done : Result A Say) (say : Say) → done ≡ Err say → ((p : Outcome) → unless broken p ≡ unless_err done p) → v ≡ w
+    → Realizes w (unless broken o) (reply.Say say) v
+told_comes w v o broken done say is told same = subst (λ p. Realizes w p (reply.Say say) v) (sym (told o ∙ ap (λ r. unless_err r o) is)) (record { reply_is = refl; new_is = same })
+
+-- where none is broken, what is done comes about
+pub done_comes : (w v : World) (o : Outcome) (broken : Option BatchFault) (r : Reply) → broken ≡ None → Realizes w o r v → Realizes w (unless broken o) r v
+done_comes w v o broken r clear comes = subst (λ f. Realizes w (unless f o) r v) (sym clear) comes
 
 -- ## What is made
 

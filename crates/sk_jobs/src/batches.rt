@@ -1,19 +1,19 @@
 // SK.BPUSH bid parent complete success death [payload ..], SK.BADD bid payload .., SK.BSTAT bid: batches of jobs (Sidekiq's wiki, "Batches"). A
 // batch and its jobs come in one step, whole or not at all.
-ghost use Rattle.std.specs.Prelude.{◌≡◌, ◌&&◌, IfOk, OnOk, None, cond, false, length, not, true};
+ghost use Rattle.std.specs.Prelude.{◌≡◌, ◌≢◌, ◌&&◌, IfOk, OnErr, OnOk, None, cond, false, length, not, true};
 ghost use Rattle.std.specs.Result.{result_err};
 ghost use Rattle.sk_payload.specs.Head.{head as head_of, jid_of};
 ghost use Rattle.sk_payload.specs.Member.{is_name};
 ghost use Rattle.sk_batch.specs.Events.{joined, made, made_fires};
 ghost use Rattle.sk_batch.specs.Faults.{add_fault, bid_fault, breaks, is_full as has_most, jids_fault, make_fault};
 ghost use Rattle.sk_batch.specs.declared.batch_fault.BatchFault.TheVariants as fault;
-ghost use Rattle.sk_model.specs.Batches.{all_may_join, are_callbacks, batch_add, batch_of, batch_push, batch_stat, fault_say, is_callback, jids_of, join, make, may_call, may_join, or_none, push_jobs, unless};
+ghost use Rattle.sk_model.specs.Batches.{all_may_join, are_callbacks, batch_add, batch_of, batch_push, batch_stat, fault_say, is_callback, jids_of, may_call, may_join, or_none, push_jobs, unless};
 ghost use Rattle.sk_model.specs.Change.{perform};
 ghost use Rattle.sk_model.specs.Outcome.{Realizes, Outcome, refuses};
 ghost use Rattle.sk_model.specs.Room.{HasRoom, is_too_much};
 ghost use Rattle.sk_undo.specs.Versions.{edited};
 ghost use Rattle.sk_value.specs.Answer.{counted};
-ghost use Rattle.sk_jobs.specs.Batching.{batch_in, unless_err};
+ghost use Rattle.sk_jobs.specs.Batching.{IsTold, batch_in, try_join, try_make, unless_err};
 ghost use Rattle.sk_jobs.specs.Callbacks.{AreCovered};
 ghost use Rattle.sk_store.specs.Stored.{InStep, IsReady, Executes, world};
 
@@ -250,8 +250,7 @@ fn told(checked: Result<(), BatchFault>) -> Result<(), Say>
 
 // What isn't so is refused.
 fn check(passes: bool, refusal: Refusal) -> Result<(), Say>
-    ensures told { (o : Outcome) → cond (not passes) (refuses refusal) o ≡ unless_err result o }
-    ensures kept { OnOk result (passes ≡ true) }
+    ensures { (o : Outcome) → cond (not passes) (refuses refusal) o ≡ unless_err result o }
 {
     if passes {
         Ok(())
@@ -286,30 +285,35 @@ fn check_new(batches: &Batches, bid: &[u8], jids: &[Word]) -> Result<(), BatchFa
     }
 }
 
-// All rules on a new batch and its first jobs.
+// The rules on a new batch and its first jobs, in the order in which they are told. Where there is room for the jobs, the rules on their jids are
+// left to `Batches::make`, which looks at them too.
 fn check_push(store: &Store, batch: &Batch, jobs: &Jobs) -> Result<(), Say>
-    ensures told { batch_push (world store.now) batch.now jobs.now ≡ unless_err result (make batch.now jobs.now) }
-    ensures kept { OnOk result (make_fault batch.now.bid batch.now.parent (jids_of jobs.now) (world store.now).batches ≡ None) }
+    ensures told { batch_push (world store.now) batch.now jobs.now ≡ unless_err result (try_make batch.now jobs.now (world store.now)) }
     ensures room { OnOk result (HasRoom (length jobs.now) (world store.now).tally) }
 {
     let bid = batch.bid.bytes();
     check(is_bid(bid), Refusal::NoBatch)?;
     told(check_bid(&store.batches, batch))?;
     check(are_fit(batch, jobs), Refusal::BadPayload)?;
+    if !jobs.are_too_much(store) {
+        return Ok(());
+    }
     told(check_new(&store.batches, bid, jobs.jids()))?;
-    check(!jobs.are_too_much(store), Refusal::Full)
+    Err(Say::Refused(Refusal::Full))
 }
 
-// All rules on jobs that a batch gets.
+// The rules on jobs that a batch gets, in the same way, with `Batches::add`.
 fn check_add(store: &Store, bid: &[u8], jobs: &Jobs) -> Result<(), Say>
-    ensures told { batch_add (world store.now) bid.now jobs.now ≡ unless_err result (join bid.now jobs.now) }
-    ensures kept { OnOk result (add_fault bid.now (jids_of jobs.now) (world store.now).batches ≡ None) }
+    ensures told { batch_add (world store.now) bid.now jobs.now ≡ unless_err result (try_join bid.now jobs.now (world store.now)) }
     ensures room { OnOk result (HasRoom (length jobs.now) (world store.now).tally) }
 {
     told(store.batches.check_batch(bid))?;
     check(jobs.may_join(bid), Refusal::BadPayload)?;
+    if !jobs.are_too_much(store) {
+        return Ok(());
+    }
     told(store.batches.check_jids(bid, jobs.jids()))?;
-    check(!jobs.are_too_much(store), Refusal::Full)
+    Err(Say::Refused(Refusal::Full))
 }
 
 // ## The jobs come
@@ -326,47 +330,67 @@ fn push_jobs(store: &mut Store, payloads: Vec<Payload>) -> Result<(), Memory>
     Ok(())
 }
 
-// The batch is made. No rule is broken, so that memory alone can be wanting.
+// What is told of a rule that is broken. Want of memory is none.
+fn told_of(broken: BatchFault) -> Result<Say, Memory>
+    ensures told { IfOk result (λ say. say ≡ fault_say broken) }
+    ensures rule { OnOk result (broken ≢ fault.Memory) }
+{
+    match broken {
+        BatchFault::Memory => Err(Memory),
+        _ => Ok(say_of(broken)),
+    }
+}
+
+// The batch is made, or the rule that is broken is told.
 fn make_batch(
     alloc: Global,
     batches: &mut Batches,
     batch: Batch,
     jids: Vec<Word>,
-) -> Result<Vec<Firing>, Memory>
-    requires { make_fault batch.bid batch.parent jids.items batches.old.current ≡ None }
-    ensures fires { IfOk result (λ firings. firings.items ≡ made_fires batch jids.items) }
-    ensures ok { OnOk result (batches.new ≡ edited (made batch jids.items batches.old.current) batches.old) }
+) -> Result<Result<Vec<Firing>, Say>, Memory>
+    ensures told { IfOk result (λ done. IsTold (make_fault batch.bid batch.parent jids.items batches.old.current) done) }
+    ensures fires { IfOk result (λ done. IfOk done (λ firings. firings.items ≡ made_fires batch jids.items)) }
+    ensures ok { IfOk result (λ done. OnOk done (batches.new ≡ edited (made batch jids.items batches.old.current) batches.old)) }
+    ensures same { IfOk result (λ done. OnErr done (batches.new ≡ batches.old)) }
     ensures step { batches.new.saved ≡ batches.old.saved }
 {
     match batches.make(alloc, batch, jids) {
-        Ok(firings) => Ok(firings),
-        Err(BatchFault::Memory) => Err(Memory),
-        Err(_) => unreachable!(),
+        Ok(firings) => Ok(Ok(firings)),
+        Err(fault) => Ok(Err(told_of(fault)?)),
     }
 }
 
 // The batch gets the jobs, in the same way.
-fn add_jobs(alloc: Global, batches: &mut Batches, bid: &[u8], jids: Vec<Word>) -> Result<(), Memory>
-    requires { add_fault bid.now jids.items batches.old.current ≡ None }
-    ensures ok { OnOk result (batches.new ≡ edited (joined bid.now jids.items batches.old.current) batches.old) }
+fn add_jobs(
+    alloc: Global,
+    batches: &mut Batches,
+    bid: &[u8],
+    jids: Vec<Word>,
+) -> Result<Result<(), Say>, Memory>
+    ensures told { IfOk result (λ added. IsTold (add_fault bid.now jids.items batches.old.current) added) }
+    ensures ok { IfOk result (λ added. OnOk added (batches.new ≡ edited (joined bid.now jids.items batches.old.current) batches.old)) }
+    ensures same { IfOk result (λ added. OnErr added (batches.new ≡ batches.old)) }
     ensures step { batches.new.saved ≡ batches.old.saved }
 {
     match batches.add(alloc, bid, jids) {
-        Ok(()) => Ok(()),
-        Err(BatchFault::Memory) => Err(Memory),
-        Err(_) => unreachable!(),
+        Ok(()) => Ok(Ok(())),
+        Err(fault) => Ok(Err(told_of(fault)?)),
     }
 }
 
-// The batch is made with its jobs, and they are pushed; without any it fires at once. After want of memory a part of it is done.
+// The batch is made with its jobs, and they are pushed; without any it fires at once. Where a rule is broken nothing has changed, and after want of
+// memory a part of it is done.
 fn make_open(store: &mut Store, batch: Batch, jobs: Jobs) -> Result<Reply, Memory>
-    requires clear { make_fault batch.bid batch.parent (jids_of jobs) (world store.old).batches ≡ None }
     requires room { HasRoom (length jobs) (world store.old).tally }
     requires covered { AreCovered store.old }
-    ensures ok { IfOk result (λ reply. Realizes (world store.old) (make batch jobs) reply (world store.new)) }
+    ensures ok { IfOk result (λ reply. Realizes (world store.old) (try_make batch jobs (world store.old)) reply (world store.new)) }
     ensures step { InStep store.old store.new }
 {
-    let firings = make_batch(store.alloc, &mut store.batches, batch, jobs.jids)?;
+    let made = make_batch(store.alloc, &mut store.batches, batch, jobs.jids)?;
+    let firings = match made {
+        Ok(firings) => firings,
+        Err(say) => return Ok(Reply::Say(say)),
+    };
     let _batches = store.batches.len(); // for what it says of their number
     push_jobs(store, jobs.payloads)?;
     let _pushes = store.places.push_count(); // and this of the clients' pushes
@@ -374,15 +398,17 @@ fn make_open(store: &mut Store, batch: Batch, jobs: Jobs) -> Result<Reply, Memor
     as_reply(store.alloc, fired)
 }
 
-// The batch gets the jobs, and they are pushed. After want of memory a part of it is done.
+// The batch gets the jobs, and they are pushed, in the same way.
 fn join_open(store: &mut Store, bid: &[u8], jobs: Jobs) -> Result<Reply, Memory>
-    requires clear { add_fault bid.now (jids_of jobs) (world store.old).batches ≡ None }
     requires room { HasRoom (length jobs) (world store.old).tally }
-    ensures ok { IfOk result (λ reply. Realizes (world store.old) (join bid.now jobs) reply (world store.new)) }
+    ensures ok { IfOk result (λ reply. Realizes (world store.old) (try_join bid.now jobs (world store.old)) reply (world store.new)) }
     ensures step { InStep store.old store.new }
 {
     let count = jobs.payloads.len();
-    add_jobs(store.alloc, &mut store.batches, bid, jobs.jids)?;
+    let added = add_jobs(store.alloc, &mut store.batches, bid, jobs.jids)?;
+    if let Err(say) = added {
+        return Ok(Reply::Say(say));
+    }
     push_jobs(store, jobs.payloads)?;
     Ok(counted(count))
 }
