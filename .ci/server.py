@@ -923,6 +923,40 @@ def many_rows(_, rows=200_001, slice=1_000):
     assert (status, acknowledged, tally[b'live']) == (0, rows, rows), (status, acknowledged, tally)
 
 
+def waits_beside(thread, client):
+    """The seconds that each PING of a client waits for its reply, one after another, while a thread runs."""
+    waits = []
+    while thread.is_alive():
+        begun = time.monotonic()
+        client.ask(b'+PONG\r\n', 'PING')
+        waits.append(time.monotonic() - begun)
+    return waits
+
+
+def longest_wait_beside_a_flushall(jobs=200_000, at_once=1_000):
+    """How long another client's PING waits at most beside a FLUSHALL of so many jobs, as a part of the time that this takes. Then nothing is left."""
+    server = Server(4)
+    with server.client() as it, server.client() as other:
+        for at in range(0, jobs, at_once):
+            it.ask(b':%d\r\n' % (at + at_once), 'LPUSH', 'queue:rows', *(JOB % (n, n) for n in range(at, at + at_once)))
+        flushing = threading.Thread(target=it.ask, args=(b'+OK\r\n', 'FLUSHALL'))
+        begun = time.monotonic()
+        flushing.start()
+        waits = waits_beside(flushing, other)
+        seconds = time.monotonic() - begun
+        it.ask(b':0\r\n', 'LLEN', 'queue:rows')
+        it.ask(b'*0\r\n', 'SMEMBERS', 'queues')
+    status, (_, acknowledged), tally = server.end()
+    assert (status, acknowledged, tally[b'live'], tally[b'deleted']) == (0, jobs, 0, jobs), (status, acknowledged, tally)
+    return max(waits, default=seconds) / seconds
+
+
+def others_are_answered_beside_a_flushall(_):
+    """What a FLUSHALL took out is freed while others are answered: none of them waits for a third of the time that it takes."""
+    part = least(1 / 3, longest_wait_beside_a_flushall)
+    assert part < 1 / 3, part
+
+
 def job_of(number, length):
     """A job whose text has so many bytes."""
     job = JOB % ('%08d' % number, 1)
@@ -1572,7 +1606,8 @@ TESTS = [pipeline, large_reply, single_bytes, one_that_leaves, one_that_never_re
          started_again, a_process_that_is_killed, defaults, a_reset_behind_the_loops, few_descriptors, too_few_descriptors, a_crowd_and_a_shutdown,
          a_shutdown_among_clients, a_shutdown_with_workers, a_server_that_comes_back, patience_that_ends, a_signal_while_it_waits,
          connections_leave_no_descriptors, memory_that_is_used_up,
-         a_stack_that_cant_grow, too_few_threads, a_silent_peer, full_log, old_texts_go, many_rows, full_store, names_used_once,
+         a_stack_that_cant_grow, too_few_threads, a_silent_peer, full_log, old_texts_go, many_rows, others_are_answered_beside_a_flushall,
+         full_store, names_used_once,
          many_clients_of_a_file, what_was_answered_outlives_a_kill, killed_again_and_again, a_shutdown_keeps_all, records_that_are_read,
          a_file_that_another_server_has, files_that_are_no_logs, words_that_name_no_file, a_disk_that_fails, replies_wait_for_the_device,
          replies_that_dont_wait, a_pause_stores_all, a_beginning_outlives_a_kill, a_shutdown_stores_all, a_disk_that_fails_behind_replies,

@@ -1,10 +1,11 @@
 // The head of a text: the text is parsed once, and each member is looked up in its value.
 ghost use Rattle.std.specs.Prelude.{◌≡◌, ◌≤◌, IfOk, IsSome, Some, None, Err, false, option_map};
+ghost use Rattle.json.specs.Word.{is_space as is_json_space};
 ghost use Rattle.serde_json.specs.Data.{depth, members_depth, object};
 ghost use Rattle.serde_json.specs.Find.{as_object};
 ghost use Rattle.serde_json.specs.View.{view, members_view};
 ghost use Rattle.serde_json.specs.Written.{has_float as value_has_float};
-ghost use Rattle.sk_payload.specs.Json.{value as value_in};
+ghost use Rattle.sk_payload.specs.Json.{opens_object as opens_an_object, value as value_in};
 ghost use Rattle.sk_payload.specs.Reading.{Gives};
 ghost use Rattle.sk_payload.specs.declared.no_head.NoHead.TheVariants.{Wrong};
 ghost use Rattle.sk_payload.specs.Head.{head, head_of_value as head_in_value, head_of_object as head_in_object};
@@ -121,12 +122,34 @@ fn head_of(alloc: Global, text: &[u8]) -> Result<Head, NoHead>
     head_of_value(alloc, read_value(alloc, text)?)
 }
 
-/// The head of a text, where there is one.
+// JSON's whitespace.
+fn is_space(byte: u8) -> bool
+    ensures { result ≡ is_json_space byte }
+{
+    matches!(byte, b' ' | b'\t' | b'\n' | b'\r')
+}
+
+// Whether the first byte that is no whitespace opens an object.
+fn opens_object(text: &[u8]) -> bool
+    ensures { result ≡ opens_an_object text.now }
+{
+    for byte in text {
+        if !is_space(*byte) {
+            return *byte == b'{';
+        }
+    }
+    false
+}
+
+/// The head of a text, where there is one. A text that opens no object has none, and isn't parsed.
 pub fn read_head(alloc: Global, text: &[u8]) -> Result<Option<Head>, Memory>
     ensures { IfOk result (λ found. found ≡ head text.now) }
 {
     if let Some(head) = usual_head(alloc, text)? {
         return Ok(Some(head));
+    }
+    if !opens_object(text) {
+        return Ok(None);
     }
     match head_of(alloc, text) {
         Ok(head) => Ok(Some(head)),

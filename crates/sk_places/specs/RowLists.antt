@@ -1,8 +1,8 @@
 -- The rows as the code keeps them, and the one list that they are. A queue and a private list is a deque under its place, which stands once; the sets
 -- of jobs stand in one list by score and text.
-use Rattle.std.specs.Prelude.{◌≡◌, ◌+◌, ◌<◌, ◌≤◌, ℕ, suc, ℤ, Bool, true, false, not, List, [], ◌∷◌, ◌++◌, Some, None, IfSome, length, map, slice_index_or}
+use Rattle.std.specs.Prelude.{◌≡◌, ◌+◌, ◌<◌, ◌≤◌, ℕ, suc, ℤ, Bool, true, false, not, List, [], ◌∷◌, ◌++◌, Option, Some, None, IfSome, MatchOption, drop, length, map, slice_index_or}
 use Rattle.std.specs.BTreeMap.{is_at}
-use Rattle.std.specs.List.{AllByRecursion, position_or_len}
+use Rattle.std.specs.List.{AllByRecursion, count_by, position_or_len}
 use Rattle.std.specs.Map.{keys_of, values_of, lookup}
 use Rattle.std.specs.Option.{is_some}
 use Rattle.std.specs.Ordering.{is_le}
@@ -18,7 +18,7 @@ use Rattle.sk_places.specs.declared.row.Place.{Place}
 use Rattle.sk_places.specs.declared.row.Place.TheVariants.{Queue, Private, Set}
 use Rattle.sk_places.specs.declared.row.Row.{Row}
 use Rattle.sk_places.specs.Entries.{Entry, as_rows}
-use Rattle.sk_places.specs.Rows.{place_cmp}
+use Rattle.sk_places.specs.Rows.{is_private, next_ident, place_cmp}
 
 -- what a deque keeps of a row: its score and its text
 abbrev pub Item : Type 0
@@ -48,6 +48,19 @@ kept_rows es lists sets = both (all_rows es) lists sets
 
 abbrev pub rows_in : RowLists → Versions (List Row)
 rows_in l = kept_rows l.names.list.current l.deques.lists l.sets.list
+
+-- how many rows private lists have, from this index on among the places that have a deque
+abbrev pub private_from : ℕ → RowLists → ℕ
+private_from at l = count_by is_private (rows_in_lists (drop at l.names.list.current) l.deques.lists.current)
+
+-- the first identity behind this one that has a private list with a row, from this index on
+abbrev pub ident_from : Option Bytes → ℕ → RowLists → Option Bytes
+ident_from after at l = next_ident after (all_rows (drop at l.names.list.current) l.deques.lists.current l.sets.list.current)
+
+-- it is the one at this index, or None where that is to be found behind this index
+abbrev pub IsIdentFrom : Option Bytes → ℕ → RowLists → Option Bytes → Type 0
+IsIdentFrom after at l found =
+    MatchOption found (ident_from after at l ≡ ident_from after (at + 1) l) (λ ident. ident_from after at l ≡ Some ident)
 
 -- the index among all rows at which a place's rows begin, or would
 abbrev pub start_of : Place → List Row → ℕ

@@ -1,10 +1,9 @@
 // Where the row at an end of a place stands and where the first of a text, and whether a push is fresh.
-ghost use Rattle.std.specs.Prelude.{◌≡◌, ◌+◌, ◌<◌, ◌≤◌, IfSome, MatchOption, None, length};
+ghost use Rattle.std.specs.Prelude.{◌≡◌, ◌<◌, IfSome, length};
 ghost use Rattle.sk_cmd.specs.declared.argument.Side.TheVariants.{Left};
 ghost use Rattle.sk_payload.specs.Head.{jid_of};
-ghost use Rattle.sk_places.specs.RowLists.{start_of};
 ghost use Rattle.sk_places.specs.Rows.{is_fresh, row_at_end, row_of, rows_at};
-ghost use Rattle.sk_places.specs.Segments.{StandsAt};
+ghost use Rattle.sk_places.specs.Segments.{IsIndexOf};
 
 use crate::{Place, Rows};
 use sk_cmd::Side;
@@ -12,7 +11,7 @@ use sk_payload::Payload;
 
 /// The index at a place of the row at an end of it.
 pub fn find_end(rows: &Rows, place: &Place, side: Side) -> Option<usize>
-    ensures is { MatchOption result (row_at_end side place.now rows.now.current ≡ None) (λ at. StandsAt side (row_at_end side place.now rows.now.current) (start_of place.now rows.now.current + at) rows.now.current) }
+    ensures is { IsIndexOf side (row_at_end side place.now rows.now.current) place.now rows.now.current result }
     ensures within { IfSome result (λ at. at < length (rows_at place.now rows.now.current)) }
 {
     let len = rows.len_at(place);
@@ -27,7 +26,7 @@ pub fn find_end(rows: &Rows, place: &Place, side: Side) -> Option<usize>
 
 /// The index at a place of the first row of a text. Logarithmic in a set; looks at the rows of a queue or a private list one after another.
 pub fn find_text(rows: &Rows, place: &Place, text: &[u8]) -> Option<usize>
-    ensures is { MatchOption result (row_of text.now (rows_at place.now rows.now.current) ≡ None) (λ at. StandsAt Left (row_of text.now (rows_at place.now rows.now.current)) (start_of place.now rows.now.current + at) rows.now.current) }
+    ensures is { IsIndexOf Left (row_of text.now (rows_at place.now rows.now.current)) place.now rows.now.current result }
     ensures within { IfSome result (λ at. at < length (rows_at place.now rows.now.current)) }
 {
     let len = rows.len_at(place);
@@ -37,7 +36,7 @@ pub fn find_text(rows: &Rows, place: &Place, text: &[u8]) -> Option<usize>
 
 /// The same of a payload's text. In a queue or a private list it reads the texts of the rows with its tag alone.
 pub fn find_payload(rows: &Rows, place: &Place, payload: &Payload) -> Option<usize>
-    ensures is { MatchOption result (row_of payload.now (rows_at place.now rows.now.current) ≡ None) (λ at. StandsAt Left (row_of payload.now (rows_at place.now rows.now.current)) (start_of place.now rows.now.current + at) rows.now.current) }
+    ensures is { IsIndexOf Left (row_of payload.now (rows_at place.now rows.now.current)) place.now rows.now.current result }
     ensures within { IfSome result (λ at. at < length (rows_at place.now rows.now.current)) }
 {
     let len = rows.len_at(place);

@@ -1,9 +1,9 @@
 // Private lists: how many rows they have, and whose they are.
-ghost use Rattle.std.specs.Prelude.{◌≡◌, ◌+◌, ◌≤◌, true, false, Some, MatchOption, drop, length, option_map};
+ghost use Rattle.std.specs.Prelude.{◌≡◌, ◌+◌, ◌≤◌, length, option_map};
 ghost use Rattle.std.specs.List.{count_by};
 ghost use Rattle.sk_undo.specs.Balance.{most};
-ghost use Rattle.sk_places.specs.RowLists.{AreLists, all_rows, rows_in, rows_in_lists};
-ghost use Rattle.sk_places.specs.Rows.{ident_at, is_past, is_private, next_ident};
+ghost use Rattle.sk_places.specs.RowLists.{AreLists, IsIdentFrom, private_from, rows_in};
+ghost use Rattle.sk_places.specs.Rows.{IsIdentPast, is_private, next_ident};
 
 use crate::row::Place;
 use crate::row_lists::RowLists;
@@ -12,7 +12,7 @@ use sk_resp::Word;
 
 // The identity of a private list, where it stands behind this one.
 fn ident_past<'a>(place: &'a Place, after: Option<&Word>) -> Option<&'a Word>
-    ensures { MatchOption result (is_past (option_map (λ word. word.now) after.entry) (ident_at place.now) ≡ false) (λ ident. (is_past (option_map (λ word. word.now) after.entry) (ident_at place.now) ≡ true) × (ident_at place.now ≡ Some ident.now)) }
+    ensures { IsIdentPast (option_map (λ word. word.now) after.entry) place.now (option_map (λ ident. ident.now) result) }
 {
     match place {
         Place::Private(ident) => {
@@ -30,7 +30,7 @@ impl RowLists {
     // How many rows the private list of a place has, by its index among the places that have a deque; 0 for a queue.
     fn private_at(&self, at: usize) -> usize
         requires { AreLists self.now }
-        ensures { result + count_by is_private (rows_in_lists (drop (at + 1) self.now.names.list.current) self.now.deques.lists.current) ≡ count_by is_private (rows_in_lists (drop at self.now.names.list.current) self.now.deques.lists.current) }
+        ensures { result + private_from (at + 1) self.now ≡ private_from at self.now }
     {
         match self.names.at(at) {
             Some((place, list)) => {
@@ -63,7 +63,7 @@ impl RowLists {
     // The identity behind this one of a private list with a row, by the index of its place among those that have a deque.
     fn ident_at(&self, at: usize, after: Option<&Word>) -> Option<&Word>
         requires { AreLists self.now }
-        ensures { MatchOption result (next_ident (option_map (λ word. word.now) after.entry) (all_rows (drop at self.now.names.list.current) self.now.deques.lists.current self.now.sets.list.current) ≡ next_ident (option_map (λ word. word.now) after.entry) (all_rows (drop (at + 1) self.now.names.list.current) self.now.deques.lists.current self.now.sets.list.current)) (λ ident. next_ident (option_map (λ word. word.now) after.entry) (all_rows (drop at self.now.names.list.current) self.now.deques.lists.current self.now.sets.list.current) ≡ Some ident.now) }
+        ensures { IsIdentFrom (option_map (λ word. word.now) after.entry) at self.now (option_map (λ ident. ident.now) result) }
     {
         match self.names.at(at) {
             Some((place, list)) => {

@@ -1,13 +1,12 @@
-use Rattle.std.proofs.Common.{◌≡◌, ap, arith, drop, option_map, sym, ◌∙◌}
-use Rattle.sk_places.specs.RowLists.{all_rows}
-use Rattle.sk_places.specs.Rows.{next_ident}
+use Rattle.std.proofs.Common.{◌≡◌, ap, arith, option_map, sym, ◌∙◌}
+use Rattle.sk_places.specs.RowLists.{ident_from}
 use Rattle.sk_places.proofs.NamedRows.{next_from, next_none}
 use Rattle.sk_places.proofs.row_lists.RowLists.next_ident.Goals as goal
 
 pub loop-at-init : goal.loop-at-init
 loop-at-init c = record {
   within = omega (arith, c.rank-at.ensures.within, c.len-len.ensures.is);
-  rest = ap (λ k. next_ident (option_map (λ word. word.now) c.args.after) (all_rows (drop k c.args.self.now.names.list.current) c.args.self.now.deques.lists.current c.args.self.now.sets.list.current)) c.rank-at.ensures.is ∙ next_from (option_map (λ word. word.now) c.args.after) c.args.self.now.names.list.current c.args.self.now.deques.lists.current c.args.self.now.sets.list.current;
+  rest = ap (λ k. ident_from (option_map (λ word. word.now) c.args.after) k c.args.self.now) c.rank-at.ensures.is ∙ next_from (option_map (λ word. word.now) c.args.after) c.args.self.now.names.list.current c.args.self.now.deques.lists.current c.args.self.now.sets.list.current;
 }
 
 pub returns-in-Some : goal.returns-in-Some

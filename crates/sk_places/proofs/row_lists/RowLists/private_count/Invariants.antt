@@ -1,13 +1,11 @@
-use Rattle.std.proofs.Common.{◌≡◌, ◌+◌, ◌-◌, ◌≤◌, drop}
-use Rattle.std.specs.List.{count_by}
-use Rattle.sk_places.specs.RowLists.{rows_in_lists}
-use Rattle.sk_places.specs.Rows.{is_private}
+use Rattle.std.proofs.Common.{◌≡◌, ◌+◌, ◌-◌, ◌≤◌}
+use Rattle.sk_places.specs.RowLists.{private_from}
 use Rattle.sk_places.proofs.row_lists.RowLists.private_count.Given as goal
 
 abbrev pub invariant-loop-at : goal.invariant-loop-at
 invariant-loop-at l = record {
   within : l.at ≤ l.len;
-  sum : l.count + count_by is_private (rows_in_lists (drop l.at l.self.names.list.current) l.self.deques.lists.current) ≡ count_by is_private (rows_in_lists l.self.names.list.current l.self.deques.lists.current);
+  sum : l.count + private_from l.at l.self ≡ private_from 0 l.self;
 }
 
 abbrev pub decreases-loop-at : goal.decreases-loop-at
