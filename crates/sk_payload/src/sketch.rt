@@ -182,25 +182,26 @@ fn first_failed_of(found: Option<Found<'_>>, retry_for: Option<u32>) -> Option<O
     }
 }
 
-// What a head holds, with its texts still in the job's text.
+/// What a head holds, with its texts still in the job's text.
 #[derive(Clone, Copy, Drop)]
-struct Sketch<'a> {
-    jid: &'a str,
-    class: &'a str,
-    queue: &'a str,
-    args: &'a str,
-    bid: Option<&'a str>,
-    retry: Retry,
-    gen_: u32,
-    dead: bool,
-    created: u64,
-    seconds: Option<u32>,
-    until: Until,
-    retry_for: Option<u32>,
-    first_failed: Option<u64>,
+pub struct Sketch<'a> {
+    pub jid: &'a str,
+    pub class: &'a str,
+    pub queue: &'a str,
+    pub args: &'a str,
+    pub bid: Option<&'a str>,
+    pub retry: Retry,
+    pub gen_: u32,
+    pub dead: bool,
+    pub created: u64,
+    pub seconds: Option<u32>,
+    pub until: Until,
+    pub retry_for: Option<u32>,
+    pub first_failed: Option<u64>,
 }
 
-fn sketch_of<'a>(slots: &[Option<Found<'a>>; 13]) -> Option<Sketch<'a>>
+/// What the slots of a text tell of its job.
+pub fn sketch_of<'a>(slots: &[Option<Found<'a>>; 13]) -> Option<Sketch<'a>>
     ensures { IfSome result (λ sketch. (ms : Members) → Tells slots.now ms → head_of_object (object ms) ≡ Some (head_of_sketch sketch)) }
 {
     let jid = name_of(slots[0], LONGEST_ID)?;

@@ -67,6 +67,8 @@ fn slot_of(name: &[u8]) -> Option<usize>
 #[derive(Clone, Copy, Debug, Drop)]
 pub struct Slots<'a> {
     pub found: [Option<Found<'a>>; 13],
+    /// Where each of these members ends in the text.
+    pub ends: [usize; 13],
 }
 
 /// What stands at the members that a head is read from, where the text is an object in its usual form.
@@ -84,6 +86,7 @@ pub fn slots_of(text: &[u8]) -> Option<Slots<'_>>
         return None;
     }
     let mut found = [None; 13];
+    let mut ends = [0; 13];
     let mut at = 1;
     let mut later = false;
     while at < text.len() && text[at] != b'}' {
@@ -93,10 +96,11 @@ pub fn slots_of(text: &[u8]) -> Option<Slots<'_>>
         later = true;
         if let Some(slot) = slot_of(member.name) {
             found[slot] = Some(member.found);
+            ends[slot] = at;
         }
     }
     if at + 1 != text.len() {
         return None;
     }
-    Some(Slots { found })
+    Some(Slots { found, ends })
 }
