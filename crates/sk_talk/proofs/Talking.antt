@@ -10,9 +10,8 @@ use Rattle.sk_resp.specs.Request.{Command}
 use Rattle.sk_resp.specs.Stream.{Opens, Reads, Stops as ReaderStops}
 use Rattle.sk_resp.specs.Reply.{wire}
 use Rattle.sk_resp.specs.declared.wire_fault.WireFault.{WireFault}
-use Rattle.sk_resp.specs.declared.wire_fault.WireFault.TheVariants as wire_fault
 use Rattle.sk_resp.specs.declared.reply.Reply.{Reply}
-use Rattle.sk_resp.proofs.Readings.{reads_on, faulty_on}
+use Rattle.sk_resp.proofs.Readings.{faulty_on}
 use Rattle.sk_resp.proofs.Fewer.{opens_on, opens_fewer}
 use Rattle.sk_talk.specs.declared.talk_end.Stop.{Stop}
 use Rattle.sk_talk.specs.declared.talk_end.Stop.TheVariants as stop

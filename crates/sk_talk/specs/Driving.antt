@@ -1,5 +1,5 @@
 -- What the parts of a talk do to the sink. No public contract speaks of it.
-use Rattle.std.specs.Prelude.{◌≡◌, ◌≢◌, ◌⊎◌, [], ◌∷◌, ◌++◌, map, List, Bool, true, false, Option, Some, None, Result, OnOk, IfErr}
+use Rattle.std.specs.Prelude.{◌≡◌, ◌≢◌, ◌⊎◌, [], ◌++◌, map, List, Bool, true, false, Option, Some, None, Result, OnOk, IfErr}
 use Rattle.sk_base.specs.Outside.{Takes, TakesFront, IsFront}
 use Rattle.sk_resp.specs.Spelling.{Bytes, joined}
 use Rattle.sk_resp.specs.Request.{Command}
