@@ -1,6 +1,6 @@
-// A talk: it takes a piece of the stream, and does the commands that are whole: a series of them at once, where the talker takes one, and else one by one.
-// Each one's reply is in one write, before the next command is done, or behind the series. A command that stops the talk is the last: what was read
-// behind it isn't looked at.
+// A talk: it takes a piece of the stream, and does the commands that are whole, a series of them at once, where the talker takes one, and else one by
+// one. Each one's reply is written in one write, before the next command is done or behind the series. A command that stops the talk is the last: what
+// was read behind it isn't looked at.
 ghost use Rattle.std.specs.Prelude.{◌≡◌, ◌<◌, ◌≤◌, ◌++◌, [], ℕ, List, take, length, map, Ok, Err, None, Option, IfOk, IfErr, OnOk, OnErr};
 ghost use Rattle.std.specs.Vec.Iter.{drain_items};
 ghost use Rattle.sk_base.specs.Outside.{Rose, Gives, HasCause, Takes, TakesFront};
@@ -87,7 +87,7 @@ fn answer<T: Talker, K: Sink>(
     }
 }
 
-// Writes a reply, which isn't kept.
+// Writes a reply, and drops it.
 fn send_last<K: Sink>(
     alloc: Global,
     reply: Reply,
