@@ -124,5 +124,17 @@ impl<'a, R: Wait, I: HubId, B: Book> Desk for LockedDesk<'a, R, I, B> {
             .ask(self.rt, &mut self.share, self.seat, now, words, command)
     }
 
+    fn call_in_series(&mut self, words: &Words, command: Command, now: u64) -> Reply
+        requires { B.wants_words ≡ true → IsRead words.now (Ok command) }
+        ensures acked { Acknowledges command result self.old.amount self.new.amount }
+        ensures told { AddsCall None (call_of words.now now result) None }
+        ensures asked { CountsAsk result self.old.asks self.new.asks }
+        ensures seat { self.new.seat ≡ self.old.seat }
+    {
+        self.call(words, command, now)
+    }
+
+    fn end_series(&mut self) {}
+
     ghost untold = { λ desk none. refl };
 }

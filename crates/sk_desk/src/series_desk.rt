@@ -57,7 +57,7 @@ fn is_short(command: &Command) -> bool {
 impl<'a, R: Wait, I: HubId, B: Book> SeriesDesk<'a, R, I, B> {
     /// The same seat, without the lock.
     pub fn new(desk: LockedDesk<'a, R, I, B>) -> SeriesDesk<'a, R, I, B>
-        ensures { result ≡ desk }
+        ensures { result ≡ desk.entry }
     {
         SeriesDesk { desk, kept: None }
     }
