@@ -513,6 +513,35 @@ def defaults(_):
     assert status == 0, status
 
 
+def sixteen_commands_a_write(_, turns=200):
+    """The commands of one write are answered in order, while another client sends as many; also with a FLUSHALL, a refusal, a long reply or a QUIT among
+    them, and with more of them than the server does at once."""
+    server = Server(4)
+    with server.client() as one, server.client() as two:
+        for turn in range(turns):
+            for name, it in ((b'one', one), (b'two', two)):
+                it.send(command('INCRBY', name, 1) * 16)
+            for it in (one, two):
+                it.expect(b''.join(b':%d\r\n' % (turn * 16 + n) for n in range(1, 17)))
+        one.send(command('SET', 'k', 'v') + command('GET', 'k') + command('FLUSHALL') + command('GET', 'k') + command('SET', 'k', 'w') + command('GET', 'k'))
+        one.expect(b'+OK\r\n' + bulk(b'v') + b'+OK\r\n$-1\r\n+OK\r\n' + bulk(b'w'))
+        one.send(command('GET', 'k') + command('NONE') + command('INCRBY', 'k', 1) + command('GET', 'k'))
+        one.expect(bulk(b'w') + b'-ERR unknown command\r\n')
+        assert line_from(one).startswith(b'-ERR ')
+        one.expect(bulk(b'w'))
+        long = b'x' * 50_000
+        one.send(command('SET', 'k', long) + command('GET', 'k') * 3 + command('RPUSH', 'list', 1, 2) + command('LRANGE', 'list', 0, -1) + command('PING'))
+        one.expect(b'+OK\r\n' + bulk(long) * 3 + b':2\r\n*2\r\n' + bulk(b'1') + bulk(b'2') + b'+PONG\r\n')
+        one.send(command('INCRBY', 'many', 1) * 1000)
+        one.expect(b''.join(b':%d\r\n' % n for n in range(1, 1001)))
+        two.send(command('SET', 'last', 1) + command('PING') + command('QUIT') + command('SET', 'last', 2) + command('PING'))
+        two.expect(b'+OK\r\n+PONG\r\n+OK\r\n')
+        assert two.is_over()
+        one.ask(bulk(b'1'), 'GET', 'last')
+    status, _, _ = server.end()
+    assert status == 0, status
+
+
 def a_reset_behind_the_loops(_):
     """A client that resets its connection while it waits for a loop is passed over."""
     server = Server(1)
@@ -1603,9 +1632,9 @@ def workers_outlive_kills(_, kills=5):
 
 TESTS = [pipeline, large_reply, single_bytes, one_that_leaves, one_that_never_reads, ends, own_words_of_a_pipe, a_page_of_a_browser,
          lines_that_no_page_sends, a_handshake_of_tls, a_worker_that_dies, many_at_once, taken_port, elsewhere, ids_and_moments, processes,
-         started_again, a_process_that_is_killed, defaults, a_reset_behind_the_loops, few_descriptors, too_few_descriptors, a_crowd_and_a_shutdown,
-         a_shutdown_among_clients, a_shutdown_with_workers, a_server_that_comes_back, patience_that_ends, a_signal_while_it_waits,
-         connections_leave_no_descriptors, memory_that_is_used_up,
+         started_again, a_process_that_is_killed, defaults, sixteen_commands_a_write, a_reset_behind_the_loops, few_descriptors,
+         too_few_descriptors, a_crowd_and_a_shutdown, a_shutdown_among_clients, a_shutdown_with_workers, a_server_that_comes_back,
+         patience_that_ends, a_signal_while_it_waits, connections_leave_no_descriptors, memory_that_is_used_up,
          a_stack_that_cant_grow, too_few_threads, a_silent_peer, full_log, old_texts_go, many_rows, others_are_answered_beside_a_flushall,
          full_store, names_used_once,
          many_clients_of_a_file, what_was_answered_outlives_a_kill, killed_again_and_again, a_shutdown_keeps_all, records_that_are_read,

@@ -14,6 +14,7 @@ use sk_pipe::{PipeCommand, Session, read_words};
 use sk_resp::{Memory, Reply, Say, Words};
 use sk_talk::{Answer, Stop, Talker};
 use std::alloc::Global;
+use std::vec::Drain;
 
 /// A pipe's session, its log, the disk that has it, and why the log can't go on.
 pub(crate) struct LogSession<'a, D: Disk> {
@@ -140,4 +141,15 @@ impl<'a, D: Disk> Talker for LogSession<'a, D> {
             Err(_) => starved(),
         }
     }
+
+    // None: what a command has logged is in the file before the next is done.
+    fn answer_series(
+        &mut self,
+        _commands: &mut Drain<'_, Words, Global>,
+        _replies: &mut Vec<Reply>,
+    ) -> Option<Stop> {
+        None
+    }
+
+    fn end_series(&mut self) {}
 }

@@ -30,6 +30,27 @@ pub trait Desk {
         ensures acked { Acknowledges command result (acked self.old) (acked self.new) }
         ensures told { AddsCall (calls self.old) (call_of words.now now result) (calls self.new) };
 
+    /// Whether it takes a series of calls now, for which it keeps the store.
+    fn takes_series(&self) -> bool {
+        false
+    }
+
+    /// Does as [`Desk::call`], as one call of a series. The desk may keep the store for the next one, so that no other seat comes between, until
+    /// [`Desk::end_series`].
+    fn call_in_series(&mut self, words: &Words, command: Command, now: u64) -> Reply
+        requires { wants_words ≡ true → IsRead words.now (Ok command) }
+        ensures acked { Acknowledges command result (acked self.old) (acked self.new) }
+        ensures told { AddsCall (calls self.old) (call_of words.now now result) (calls self.new) }
+    {
+        self.call(words, command, now)
+    }
+
+    /// Lets the store go, where a call of a series has kept it.
+    fn end_series(&mut self)
+        ensures { self.new ≡ self.old }
+    {
+    }
+
     /// A desk that wants no words tells no calls.
     ghost untold: { (desk : Self) → wants_words ≡ false → calls desk ≡ None };
 }

@@ -23,7 +23,7 @@ use sk_status::Tally;
 use std::alloc::Global;
 use std::collections::LinkedList;
 use std::marker::Model;
-use std::sync::{Mutex, Wait};
+use std::sync::{Mutex, MutexGuard, Wait};
 
 /// Why there is no seat.
 #[derive(Clone, Copy)]
@@ -95,6 +95,11 @@ impl<I: HubId, B: Book> Hub<I, B> {
         ensures { IfOk result (λ place. B.is_for place seat) }
     {
         self.state.lock(rt).enter(seat)
+    }
+
+    // The lock, which is got now.
+    pub(crate) fn lock<R: Wait>(&self, rt: &R) -> MutexGuard<'_, State<I, B>> {
+        self.state.lock(rt)
     }
 
     // One command of a seat. The lock is held for that alone: what a FLUSHALL took out is freed behind it.

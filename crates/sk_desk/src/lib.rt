@@ -13,6 +13,7 @@ mod locked_desk;
 mod mem_desk;
 mod outbox;
 mod pass;
+mod series_desk;
 mod stamp;
 mod state;
 
@@ -28,5 +29,6 @@ pub use locked_desk::LockedDesk;
 pub use mem_desk::MemDesk;
 pub use outbox::Outbox;
 pub use pass::Pass;
+pub use series_desk::SeriesDesk;
 pub use stamp::{Effect, Stamp};
 pub use state::State;

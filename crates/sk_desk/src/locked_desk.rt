@@ -6,11 +6,11 @@ ghost use Rattle.sk_desk.specs.Calls.{AddsCall, call_of};
 ghost use Rattle.sk_desk.specs.Counts.{CountsAsk};
 ghost use Rattle.sk_desk.specs.Pass.{joined, share_left};
 
-use crate::{Book, Desk, Hub, HubId, HubShare, Pass};
+use crate::{Book, Desk, Hub, HubId, HubShare, Pass, State};
 use sk_cmd::Command;
 use sk_resp::{Reply, Words};
 use std::marker::Model;
-use std::sync::Wait;
+use std::sync::{MutexGuard, Wait};
 
 /// A seat at a hub. Contracts see its number, and the rows and the commands that its share counts, which has one part.
 #[derive(Drop)]
@@ -62,6 +62,28 @@ impl<'a, R: Wait, I: HubId, B: Book> LockedDesk<'a, R, I, B> {
         self.seat
     }
 
+    // The lock, which is got now.
+    pub(crate) fn lock(&self) -> MutexGuard<'a, State<I, B>> {
+        let hub = self.hub;
+        hub.lock(self.rt)
+    }
+
+    // One command of the seat, for which the lock was got.
+    pub(crate) fn ask(
+        &mut self,
+        state: &mut State<I, B>,
+        words: &Words,
+        command: Command,
+        now: u64,
+    ) -> Reply
+        requires { B.wants_words ≡ true → IsRead words.now (Ok command) }
+        ensures acked { Acknowledges command result self.old.amount self.new.amount }
+        ensures asked { CountsAsk result self.old.asks self.new.asks }
+        ensures seat { self.new.seat ≡ self.old.seat }
+    {
+        state.ask(&mut self.share, self.seat, now, words, command)
+    }
+
     /// Cuts the seat off, and adds the desk's share to the pass: one part, what the desk's replies acknowledged, its commands, and its cut. Takes no
     /// memory.
     pub fn end(self, pass: &mut Pass<I>)
@@ -101,6 +123,18 @@ impl<'a, R: Wait, I: HubId, B: Book> Desk for LockedDesk<'a, R, I, B> {
         self.hub
             .ask(self.rt, &mut self.share, self.seat, now, words, command)
     }
+
+    fn call_in_series(&mut self, words: &Words, command: Command, now: u64) -> Reply
+        requires { B.wants_words ≡ true → IsRead words.now (Ok command) }
+        ensures acked { Acknowledges command result self.old.amount self.new.amount }
+        ensures told { AddsCall None (call_of words.now now result) None }
+        ensures asked { CountsAsk result self.old.asks self.new.asks }
+        ensures seat { self.new.seat ≡ self.old.seat }
+    {
+        self.call(words, command, now)
+    }
+
+    fn end_series(&mut self) {}
 
     ghost untold = { λ desk none. refl };
 }

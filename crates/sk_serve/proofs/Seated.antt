@@ -32,7 +32,7 @@ some_left (suc n) none = omega arith
 
 module _ {S A B : Type 0} (wants_words : Bool) (old new : S) (seen : S → Seen) (desk : S → A) (clock : S → B) where
   -- one command: it keeps its desk and its clock
-  abbrev Sits : S → Words → Reply → Option Stop → S → Type 0
+  abbrev pub Sits : S → Words → Reply → Option Stop → S → Type 0
   Sits a words reply stop b = Does wants_words (seen a) words reply stop (seen b) × (desk b ≡ desk a) × (clock b ≡ clock a)
 
   pub same_desk : (end : TalkEnd) (bytes : Bytes) (left : Option Bytes) (written : Bytes) → Ends (DoesAll Sits) old end bytes left new written → desk new ≡ desk old

@@ -12,7 +12,7 @@ use crate::gate::{Gate, GatedDesk};
 use crate::reserve::Reserve;
 use crate::shared::Shared;
 use sk_base::{Clock, Conn, Failed};
-use sk_desk::{Book, HubFault, HubId, Pass};
+use sk_desk::{Book, HubFault, HubId, Pass, SeriesDesk};
 use sk_edge::Ear;
 use sk_held::Settlers;
 use std::marker::Model;
@@ -77,6 +77,7 @@ fn serve_one<R: Wait + Sync, C: Conn, K: Clock, I: HubId, B: Book, W: Settlers, 
         Err(fault) => return (conn, Err(fault)),
     };
     let seat = desk.number();
+    let desk = SeriesDesk::new(desk);
     let mut gated = GatedDesk::new(desk, shared.gate, reserve.take(), seat);
     let (conn, ending) = attend(shared.alloc, shared.settlers, &mut gated, conn, clock);
     let (desk, kept) = gated.into_parts();

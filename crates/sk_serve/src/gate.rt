@@ -10,6 +10,11 @@ use sk_resp::{Reply, Say, Words};
 pub trait Gate: Sync {
     /// Lets the call go on that is the `turn`-th on the desk's seat, counted from 1.
     fn pass(&self, seat: u32, turn: u64);
+
+    /// Whether it holds no call back. Where it may, there is no series.
+    fn is_open(&self) -> bool {
+        false
+    }
 }
 
 /// Holds nothing back.
@@ -18,6 +23,10 @@ pub struct OpenGate;
 
 impl Gate for OpenGate {
     fn pass(&self, _seat: u32, _turn: u64) {}
+
+    fn is_open(&self) -> bool {
+        true
+    }
 }
 
 // Whether the command keeps no memory: it only reads, or takes something away, or ends the session.
@@ -105,6 +114,25 @@ impl<'g, D: Desk + Drop, G: Gate> Desk for GatedDesk<'g, D, G> {
             self.reserve.settle();
         }
         reply
+    }
+
+    // None where a gate may hold a call back, or where memory is used up: the replies of a series take some.
+    fn takes_series(&self) -> bool {
+        self.gate.is_open() && self.reserve.is_whole() && self.desk.takes_series()
+    }
+
+    fn call_in_series(&mut self, words: &Words, command: Command, now: u64) -> Reply {
+        self.calls = self.calls.saturating_add(1);
+        let reply = self.desk.call_in_series(words, command, now);
+        if is_oom(&reply) {
+            self.desk.end_series();
+            self.reserve.settle();
+        }
+        reply
+    }
+
+    fn end_series(&mut self) {
+        self.desk.end_series();
     }
 
     ghost untold = { λ d none. D.untold d.desk none };

@@ -3,12 +3,11 @@ use Rattle.std.proofs.Common.{List, [], ◌∷◌, ◌++◌, Option, None, Some,
 use Rattle.sk_resp.specs.Spelling.{Bytes}
 use Rattle.sk_resp.specs.Request.{Command}
 use Rattle.sk_resp.specs.declared.reply.Reply.{Reply}
-use Rattle.sk_resp.specs.declared.wire_fault.WireFault.{WireFault}
 use Rattle.sk_talk.specs.declared.talk_end.Stop.{Stop}
 use Rattle.sk_talk.specs.declared.talk_end.Stop.TheVariants as stop
 use Rattle.sk_talk.specs.declared.talk_end.TalkEnd.{TalkEnd}
 use Rattle.sk_talk.specs.declared.talk_end.TalkEnd.TheVariants.{Ended, Quit, Shutdown, Lost, Wire, Cut, ReadFault, WriteFault, Memory, Budget}
-use Rattle.sk_talk.specs.Talk.{AnswersAll, Refuses, Due, DueFront, Ends, Stops}
+use Rattle.sk_talk.specs.Talk.{AnswersAll, Due, DueFront, Ends}
 
 module _ {S U : Type 0} (A : S → List Command → List Reply → S → Option Stop → Type 0) (B : U → List Command → List Reply → U → Option Stop → Type 0) (old new : S) (old' new' : U)
     (follows : (commands : List Command) (replies : List Reply) (stop : Option Stop) → A old commands replies new stop → B old' commands replies new' stop) where

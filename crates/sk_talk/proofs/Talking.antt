@@ -4,31 +4,50 @@ use Rattle.std.specs.Prelude.{OnOk, IfErr, map}
 use Rattle.std.proofs.lemmas.List.{map-append}
 use Rattle.std.proofs.Math.Seq.{take-append_seam}
 use Rattle.sk_base.specs.Outside.{Gives, Takes, TakesFront, IsFront}
-use Rattle.sk_base.proofs.OutsideLaws.{takes_more}
+use Rattle.sk_base.proofs.OutsideLaws.{takes_more, takes_nothing}
 use Rattle.sk_resp.specs.Spelling.{Bytes, joined}
 use Rattle.sk_resp.specs.Request.{Command}
 use Rattle.sk_resp.specs.Stream.{Opens, Reads, Stops as ReaderStops}
 use Rattle.sk_resp.specs.Reply.{wire}
 use Rattle.sk_resp.specs.declared.wire_fault.WireFault.{WireFault}
-use Rattle.sk_resp.specs.declared.wire_fault.WireFault.TheVariants as wire_fault
 use Rattle.sk_resp.specs.declared.reply.Reply.{Reply}
-use Rattle.sk_resp.proofs.Readings.{reads_on, faulty_on}
+use Rattle.sk_resp.proofs.Readings.{faulty_on}
 use Rattle.sk_resp.proofs.Fewer.{opens_on, opens_fewer}
 use Rattle.sk_talk.specs.declared.talk_end.Stop.{Stop}
 use Rattle.sk_talk.specs.declared.talk_end.Stop.TheVariants as stop
 use Rattle.sk_talk.specs.declared.talk_end.TalkEnd.{TalkEnd}
 use Rattle.sk_talk.specs.declared.talk_end.TalkEnd.TheVariants.{Ended, Quit, Shutdown, Lost, Wire, Cut, ReadFault, WriteFault, Memory, Budget}
 use Rattle.sk_talk.specs.Talk.{DoesAll, AnswersAll, Refuses, Due, DueFront, IsAtEnd, IsHeard, Ends, LosesLast, Stops, refusal}
-use Rattle.sk_talk.specs.Driving.{IsWriteStop, IsPieceEnd, EndsAt, AnswersFront, Stopped, StopsAt, StopsReply, end_at, is_lost}
+use Rattle.sk_talk.specs.Driving.{AnsweredSome, IsWriteStop, IsPieceEnd, EndsAt, AnswersFront, Stopped, StopsAt, StopsReply, end_at, is_lost}
 use Rattle.sk_talk.proofs.Doing.{does_nothing, does_one, does_on}
 
 joined-append : (xs ys : List Bytes) → joined (xs ++ ys) ≡ joined xs ++ joined ys
 joined-append [] ys = refl
 joined-append (x ∷ xs) ys = ap (λ z. x ++ z) (joined-append xs ys) ∙ sym (append_assoc x (joined xs) (joined ys))
 
+-- the texts of replies, and of one more
+pub texts_more : (replies : List Reply) (reply : Reply) → joined (map wire (replies ++ reply ∷ [])) ≡ joined (map wire replies) ++ wire reply
+texts_more replies reply =
+    ap joined (map-append wire replies (reply ∷ [])) ∙ joined-append (map wire replies) (wire reply ∷ []) ∙ ap (λ z. joined (map wire replies) ++ z) (append-nil (wire reply))
+
+-- A front of one reply, behind those before it, is a front of all.
+pub front_among : (all done rest : List Reply) (reply : Reply) (front : Bytes) → all ≡ done ++ reply ∷ rest → IsFront front (wire reply) → IsFront (joined (map wire done) ++ front) (joined (map wire all))
+front_among all done rest reply front is f = (
+  f.0 ++ joined (map wire rest),
+  ap (λ z. joined (map wire z)) is ∙ ap joined (map-append wire done (reply ∷ rest)) ∙ joined-append (map wire done) (wire reply ∷ map wire rest)
+  ∙ ap (λ z. joined (map wire done) ++ (z ++ joined (map wire rest))) f.1 ∙ ap (λ z. joined (map wire done) ++ z) (append_assoc front f.0 (joined (map wire rest)))
+  ∙ sym (append_assoc (joined (map wire done)) front (f.0 ++ joined (map wire rest))),
+)
+
 -- A reply that failed, in the words of a command.
 heard : (ends : Option Stop) → is_lost ends ≡ false → IsHeard ends
 heard ends kept = λ lost. cc (kept, ap is_lost lost)
+
+pub kept : (ends : Option Stop) → IsHeard ends → is_lost ends ≡ false
+kept None h = refl
+kept (Some stop.Quit) h = refl
+kept (Some stop.Shutdown) h = refl
+kept (Some stop.Lost) h = absurd (h refl)
 
 pub failed_reply : (end : TalkEnd) (ends : Option Stop) (text : Bytes) (before after : Option Bytes) → is_lost ends ≡ false → IsWriteStop end → TakesFront before text after → (sent : Bytes) × StopsReply end ends text sent × Takes before sent after
 failed_reply WriteFault ends text before after kept stop t = (t.0, (t.1, heard ends kept), t.2)
@@ -152,6 +171,57 @@ module _ {S : Type 0} (does : S → Command → Reply → Option Stop → S → 
   stops_among end ends old mid new all done rest written sent words reply is s did stops =
       subst (λ commands. StopsAt does end old commands new (written ++ sent)) (first_ones all (done ++ words ∷ []) rest (is ∙ sym (append_assoc done (words ∷ []) rest)))
       (stops_more end ends old mid new done written sent words reply s did stops)
+
+  -- ## A series of commands
+
+  pub none_done : (s : S) (commands : List Command) (taken : Option Bytes) → AnsweredSome does s commands s commands (Ok tt) taken taken
+  none_done s commands taken = record {
+    done = [];
+    replies = [];
+    ends = None;
+    front = refl;
+    did = does_nothing does s;
+    heard = λ lost. cc lost;
+    sent = (refl, takes_nothing taken);
+    stopped = tt;
+  }
+
+  -- a series more, none of which stops the talk
+  pub serves_series : (ends : Option Stop) (old mid new : S) (commands more : List Command) (written : Bytes) (replies : List Reply) → AnswersAll (DoesAll does) None old commands mid written → DoesAll does mid more replies new ends → ends ≡ None
+      → AnswersAll (DoesAll does) None old (commands ++ more) new (written ++ joined (map wire replies))
+  serves_series ends old mid new commands more written replies s did is =
+      serves_on None old mid new commands more written (joined (map wire replies)) s (serves_text None mid new more replies (joined (map wire replies)) (subst (λ e. DoesAll does mid more replies new e) is did) refl)
+
+  whole_series : (ends x : Option Stop) (old mid new : S) (commands more : List Command) (written sent : Bytes) (replies : List Reply) → AnswersAll (DoesAll does) None old commands mid written → DoesAll does mid more replies new ends
+      → ends ≡ x → sent ≡ joined (map wire replies) → AnswersAll (DoesAll does) x old (commands ++ more) new (written ++ sent)
+  whole_series ends x old mid new commands more written sent replies s did is text =
+      serves_on x old mid new commands more written sent s (serves_text x mid new more replies sent (subst (λ e. DoesAll does mid more replies new e) is did) text)
+
+  front_series : (ends : Option Stop) (old mid new : S) (commands more : List Command) (written sent : Bytes) (replies : List Reply) → AnswersAll (DoesAll does) None old commands mid written → DoesAll does mid more replies new ends
+      → IsFront sent (joined (map wire replies)) × IsHeard ends → AnswersFront does old (commands ++ more) new (written ++ sent)
+  front_series ends old mid new commands more written sent replies s did f =
+      let text = joined (map wire replies) in
+      (ends, (written ++ text, whole_series ends ends old mid new commands more written text replies s did refl refl, front_on written sent text f.0, f.1))
+
+  -- a series more, at whose last the talk ends, or at a reply of it that failed
+  stops_series : (end : TalkEnd) (ends : Option Stop) (old mid new : S) (commands more : List Command) (written sent : Bytes) (replies : List Reply) → AnswersAll (DoesAll does) None old commands mid written → DoesAll does mid more replies new ends
+      → IsHeard ends → StopsReply end ends (joined (map wire replies)) sent → StopsAt does end old (commands ++ more) new (written ++ sent)
+  stops_series Quit ends old mid new commands more written sent replies s did h stops = whole_series ends (Some stop.Quit) old mid new commands more written sent replies s did stops.0 stops.1
+  stops_series Shutdown ends old mid new commands more written sent replies s did h stops = whole_series ends (Some stop.Shutdown) old mid new commands more written sent replies s did stops.0 stops.1
+  stops_series Lost ends old mid new commands more written sent replies s did h stops = absurd (h stops.0)
+  stops_series WriteFault ends old mid new commands more written sent replies s did h stops = front_series ends old mid new commands more written sent replies s did stops
+  stops_series Memory ends old mid new commands more written sent replies s did h stops = front_series ends old mid new commands more written sent replies s did stops
+  stops_series Ended ends old mid new commands more written sent replies s did h stops = absurd stops
+  stops_series Wire ends old mid new commands more written sent replies s did h stops = absurd stops
+  stops_series Cut ends old mid new commands more written sent replies s did h stops = absurd stops
+  stops_series ReadFault ends old mid new commands more written sent replies s did h stops = absurd stops
+  stops_series Budget ends old mid new commands more written sent replies s did h stops = absurd stops
+
+  pub stops_in_series : (end : TalkEnd) (ends : Option Stop) (old mid new : S) (all done more rest : List Command) (written sent : Bytes) (replies : List Reply) → all ≡ done ++ (more ++ rest)
+      → AnswersAll (DoesAll does) None old done mid written → DoesAll does mid more replies new ends → IsHeard ends → StopsReply end ends (joined (map wire replies)) sent → StopsAt does end old (take (length (done ++ more)) all) new (written ++ sent)
+  stops_in_series end ends old mid new all done more rest written sent replies is s did h stops =
+      subst (λ commands. StopsAt does end old commands new (written ++ sent)) (first_ones all (done ++ more) rest (is ∙ sym (append_assoc done more rest)))
+      (stops_series end ends old mid new done more written sent replies s did h stops)
 
   -- ## Due
 

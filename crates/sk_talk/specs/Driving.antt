@@ -1,7 +1,7 @@
 -- What the parts of a talk do to the sink. No public contract speaks of it.
-use Rattle.std.specs.Prelude.{◌≡◌, ◌≢◌, ◌⊎◌, [], ◌∷◌, List, Bool, true, false, Option, Some, None, Result, OnOk, IfErr}
+use Rattle.std.specs.Prelude.{◌≡◌, ◌≢◌, ◌⊎◌, [], ◌++◌, map, List, Bool, true, false, Option, Some, None, Result, OnOk, IfErr}
 use Rattle.sk_base.specs.Outside.{Takes, TakesFront, IsFront}
-use Rattle.sk_resp.specs.Spelling.{Bytes}
+use Rattle.sk_resp.specs.Spelling.{Bytes, joined}
 use Rattle.sk_resp.specs.Request.{Command}
 use Rattle.sk_resp.specs.declared.wire_fault.WireFault.{WireFault}
 use Rattle.sk_resp.specs.declared.wire_fault.WireFault.TheVariants as wire_fault
@@ -47,6 +47,19 @@ pub record Answered {S : Type 0} (does : S → Command → Reply → Option Stop
   pub did : does old words reply ends new
   pub sent : OnOk result ((ends ≡ None) × Takes before (wire reply) after)
   pub stopped : IfErr result (λ end. (text : Bytes) × StopsReply end ends (wire reply) text × Takes before text after)
+
+-- ## A series of commands
+
+-- A series of the commands was done, from their front on, and its replies were sent, or some of them.
+pub record AnsweredSome {S : Type 0} (does : S → Command → Reply → Option Stop → S → Type 0) (old : S) (commands : List Command) (new : S) (left : List Command) (result : Result (Unit {0}) TalkEnd) (before after : Option Bytes) : Type 0 where
+  pub done : List Command
+  pub replies : List Reply
+  pub ends : Option Stop
+  pub front : commands ≡ done ++ left
+  pub did : DoesAll does old done replies new ends
+  pub heard : IsHeard ends
+  pub sent : OnOk result ((ends ≡ None) × Takes before (joined (map wire replies)) after)
+  pub stopped : IfErr result (λ end. (text : Bytes) × StopsReply end ends (joined (map wire replies)) text × Takes before text after)
 
 -- ## Commands
 

@@ -1,19 +1,25 @@
-// A talk: it takes a piece of the stream, does the commands that are whole, and writes each one's reply in one write before the next command is
-// done. A command that stops the talk is the last: what was read behind it isn't looked at.
-ghost use Rattle.std.specs.Prelude.{◌≡◌, ◌<◌, ◌≤◌, ◌++◌, [], ℕ, List, take, length, Ok, Err, None, Option, IfOk, IfErr, OnOk, OnErr};
+// A talk: it takes a piece of the stream, and does the commands that are whole, a series of them at once, where the talker takes one, and else one by
+// one. Each one's reply is written in one write, before the next command is done or behind the series. A command that stops the talk is the last: what
+// was read behind it isn't looked at.
+ghost use Rattle.std.specs.Prelude.{◌≡◌, ◌<◌, ◌≤◌, ◌++◌, [], ℕ, List, take, length, map, Ok, Err, None, Option, IfOk, IfErr, OnOk, OnErr};
+ghost use Rattle.std.specs.Vec.Iter.{drain_items};
 ghost use Rattle.sk_base.specs.Outside.{Rose, Gives, HasCause, Takes, TakesFront};
-ghost use Rattle.sk_resp.specs.Spelling.{Bytes};
+ghost use Rattle.sk_resp.specs.Spelling.{Bytes, joined};
 ghost use Rattle.sk_resp.specs.Request.{Command};
 ghost use Rattle.sk_resp.specs.Stream.{Reads};
 ghost use Rattle.sk_resp.specs.Reply.{wire};
 ghost use Rattle.sk_talk.specs.Talk.{DoesAll, AnswersAll, Ends, IsAtEnd, Moves, refusal};
-ghost use Rattle.sk_talk.specs.Driving.{Answered, IsWriteStop, IsPieceEnd, EndsAt, Sends, Stopped, StopsAt, end_at, is_lost};
+ghost use Rattle.sk_talk.specs.Driving.{Answered, AnsweredSome, IsWriteStop, IsPieceEnd, EndsAt, Sends, Stopped, StopsAt, end_at, is_lost};
 
 use crate::{Stop, TalkEnd, Talker};
 use sk_base::limits::{LONGEST_TALK, PIECE};
 use sk_base::{Duplex, Failed, Sink, Source, write_all};
 use sk_resp::{Feeder, Reply, Say, WireFault, Words, write_reply};
 use std::alloc::Global;
+use std::vec::Drain;
+
+// How many commands are done at once at most.
+const SERIES: usize = 64;
 
 // Writes a reply in one write. The buffer is only kept from reply to reply, so that its memory is taken once.
 fn send<K: Sink>(
@@ -81,7 +87,77 @@ fn answer<T: Talker, K: Sink>(
     }
 }
 
-// Does the commands, and writes each one's reply before the next is done. None is done behind one that stops the talk.
+// Writes a reply, and drops it.
+fn send_last<K: Sink>(
+    alloc: Global,
+    reply: Reply,
+    text: &mut Vec<u8>,
+    sink: &mut K,
+) -> Result<(), TalkEnd>
+    ensures told { OnOk result (Takes (K.taken sink.old) (wire reply) (K.taken sink.new)) }
+    ensures err { IfErr result (λ end. IsWriteStop end × TakesFront (K.taken sink.old) (wire reply) (K.taken sink.new)) }
+    ensures beside { K.beside_write sink.new ≡ K.beside_write sink.old }
+    ensures later { K.write_faults sink.old ≤ K.write_faults sink.new }
+    ensures write { result ≡ Err TalkEnd.WriteFault → Rose (K.write_faults sink.old) (K.write_faults sink.new) }
+{
+    send(alloc, &reply, text, sink)
+}
+
+// Writes the replies, one after another.
+fn send_all<K: Sink>(
+    alloc: Global,
+    replies: &mut Vec<Reply>,
+    text: &mut Vec<u8>,
+    sink: &mut K,
+) -> Result<(), TalkEnd>
+    ensures told { OnOk result (Takes (K.taken sink.old) (joined (map wire replies.old.items)) (K.taken sink.new)) }
+    ensures err { IfErr result (λ end. IsWriteStop end × TakesFront (K.taken sink.old) (joined (map wire replies.old.items)) (K.taken sink.new)) }
+    ensures beside { K.beside_write sink.new ≡ K.beside_write sink.old }
+    ensures later { K.write_faults sink.old ≤ K.write_faults sink.new }
+    ensures write { result ≡ Err TalkEnd.WriteFault → Rose (K.write_faults sink.old) (K.write_faults sink.new) }
+{
+    for reply in replies.drain(..) {
+        match send_last(alloc, reply, text, sink) {
+            Ok(()) => {}
+            Err(end) => return Err(end),
+        }
+    }
+    Ok(())
+}
+
+// Does as many of the commands at once as the talker takes, and writes their replies. A single one isn't done so.
+fn answer_series<T: Talker, K: Sink>(
+    alloc: Global,
+    talker: &mut T,
+    commands: &mut Drain<'_, Words, Global>,
+    text: &mut Vec<u8>,
+    sink: &mut K,
+) -> Result<(), TalkEnd>
+    ensures told { AnsweredSome T.does talker.old (drain_items commands.old) talker.new (drain_items commands.new) result (K.taken sink.old) (K.taken sink.new) }
+    ensures beside { K.beside_write sink.new ≡ K.beside_write sink.old }
+    ensures later { K.write_faults sink.old ≤ K.write_faults sink.new }
+    ensures write { result ≡ Err TalkEnd.WriteFault → Rose (K.write_faults sink.old) (K.write_faults sink.new) }
+{
+    let count = commands.len();
+    if count < 2 {
+        return Ok(());
+    }
+    let Ok(mut replies) = Vec::with_capacity(alloc, count.min(SERIES)) else {
+        return Ok(());
+    };
+    let stop = talker.answer_series(commands, &mut replies);
+    talker.end_series();
+    match send_all(alloc, &mut replies, text, sink) {
+        Ok(()) => {}
+        Err(end) => return Err(end),
+    }
+    match stop {
+        Some(stop) => Err(end_at(stop)),
+        None => Ok(()),
+    }
+}
+
+// Does the commands, and writes the reply of each, or those of a series, before the next is done. None is done behind one that stops the talk.
 fn answer_all<T: Talker, K: Sink>(
     alloc: Global,
     talker: &mut T,
@@ -96,13 +172,20 @@ fn answer_all<T: Talker, K: Sink>(
     ensures write { result ≡ Err TalkEnd.WriteFault → Rose (K.write_faults sink.old) (K.write_faults sink.new) }
 {
     let mut text = Vec::new(alloc);
-    for words in commands.drain(..) {
+    let mut left = commands.drain(..);
+    'left: loop {
+        match answer_series(alloc, talker, &mut left, &mut text, sink) {
+            Ok(()) => {}
+            Err(end) => return Err(end),
+        }
+        let Some(words) = left.next() else {
+            return Ok(());
+        };
         match answer(alloc, talker, words, &mut text, sink) {
             Ok(()) => {}
             Err(end) => return Err(end),
         }
     }
-    Ok(())
 }
 
 // Writes the text of a fault of the stream, and tells how the talk ends.

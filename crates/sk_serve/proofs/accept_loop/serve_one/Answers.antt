@@ -9,7 +9,7 @@ returns-clause-served g c =
     let seated = ap (λ (p : PassView). p.count) c.in-Ok.ensures.pass in
     let some = some_left c.args.pass.now.count (λ none. absurd (cc (c.in-Ok.ensures.spent.1 none))) in
     let ended = c.end.ensures in
-    let new = ap (λ (d : DeskView). d.amount) c.new-gated.ensures ∙ ap (λ (d : DeskView). d.amount) c.in-Ok.ensures.seat in (
+    let new = ap (λ (d : DeskView). d.amount) c.new-gated.ensures ∙ ap (λ (d : DeskView). d.amount) c.new-desk.ensures ∙ ap (λ (d : DeskView). d.amount) c.in-Ok.ensures.seat in (
       omega (arith, some, seated, ap (λ (p : PassView). p.count) ended),
       (
         c.attend-conn.new.desk.desk.amount,
