@@ -13,7 +13,6 @@ use std::marker::Model;
 use std::sync::{MutexGuard, Wait};
 
 /// A seat at a hub, as [`LockedDesk`] is one. It has to stay on its thread, since it may have the lock. Contracts see the same of it.
-#[derive(Drop)]
 pub struct SeriesDesk<'a, R: Wait, I: HubId, B: Book> {
     desk: LockedDesk<'a, R, I, B>,
     // the lock, where a call of a series has kept it
@@ -26,6 +25,14 @@ impl<'a, R: Wait, I: HubId, B: Book> Model for SeriesDesk<'a, R, I, B> {
     ghost Value = { DeskView };
 
     ghost view = { λ d. d.desk };
+}
+
+impl<'a, R: Wait, I: HubId, B: Book> Drop for SeriesDesk<'a, R, I, B> {
+    fn drop(self) {
+        let SeriesDesk { desk, kept } = self;
+        drop(kept);
+        drop(desk);
+    }
 }
 
 // Whether the command takes short however much is stored, so that the lock may be kept behind it.

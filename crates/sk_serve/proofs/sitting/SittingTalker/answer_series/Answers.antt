@@ -30,7 +30,7 @@ series-preserved g c =
     let self = c.args.self.now in
     does_more (Sits g.D.Desk.wants_words self self (λ s. seen g.D.Desk.calls g.D.Desk.acked g.K.Clock.moments s.desk.now s.clock.now) (λ s. s.desk.ghost_name) (λ s. s.clock.ghost_name))
     self c.series.self _ (drain_items c.args.commands.now) (drain_items c.series.commands) (drain_items c.next.new.self) c.args.replies.now.items c.series.replies.items c.push_reserved.new.self.items
-    c.in-Some.words c.answer_at.result.reply c.answer_at.result.stop None c.series.invariant c.in-Some.ensures.steps.0 c.push_reserved.ensures.items (c.answer_at.ensures.does, refl, refl) c.answer_at.ensures.heard
+    c.in-Some.words c.answer_at-reply.result.reply c.answer_at-reply.result.stop None c.series.invariant c.in-Some.ensures.steps.0 c.push_reserved.ensures.items (c.answer_at-reply.ensures.does, refl, refl) c.answer_at-reply.ensures.heard
     (c.is_last-is_last.ensures c.if-is_last.false)
 
 pub returns-then-is_last : goal.returns-then-is_last
@@ -38,4 +38,4 @@ returns-then-is_last g c =
     let self = c.args.self.now in
     does_more (Sits g.D.Desk.wants_words self self (λ s. seen g.D.Desk.calls g.D.Desk.acked g.K.Clock.moments s.desk.now s.clock.now) (λ s. s.desk.ghost_name) (λ s. s.clock.ghost_name))
     self c.series.self _ (drain_items c.args.commands.now) (drain_items c.series.commands) (drain_items c.next.new.self) c.args.replies.now.items c.series.replies.items c.push_reserved.new.self.items
-    c.in-Some.words c.answer_at.result.reply c.answer_at.result.stop c.answer_at.result.stop c.series.invariant c.in-Some.ensures.steps.0 c.push_reserved.ensures.items (c.answer_at.ensures.does, refl, refl) c.answer_at.ensures.heard refl
+    c.in-Some.words c.answer_at-reply.result.reply c.answer_at-reply.result.stop c.answer_at-reply.result.stop c.series.invariant c.in-Some.ensures.steps.0 c.push_reserved.ensures.items (c.answer_at-reply.ensures.does, refl, refl) c.answer_at-reply.ensures.heard refl
