@@ -48,8 +48,7 @@ pub trait Desk {
     /// Lets the store go, where a call of a series has kept it.
     fn end_series(&mut self)
         ensures { self.new ≡ self.old }
-    {
-    }
+    {}
 
     /// A desk that wants no words tells no calls.
     ghost untold: { (desk : Self) → wants_words ≡ false → calls desk ≡ None };

@@ -22,6 +22,7 @@ use Rattle.sk_desk.specs.declared.call.Call.{Call}
 use Rattle.sk_desk.specs.declared.desk.Desk as a_desk
 use Rattle.sk_talk.specs.Talk.{DoesAll, Ends, Moves}
 use Rattle.sk_talk.specs.declared.talk_end.Stop.{Stop}
+use Rattle.sk_talk.specs.declared.talker.Answer.{Answer}
 use Rattle.sk_talk.specs.declared.talk_end.Stop.TheVariants as stop
 use Rattle.sk_talk.specs.declared.talk_end.TalkEnd.{TalkEnd}
 
@@ -73,6 +74,10 @@ pub record Starved (wants_words : Bool) (old : Seen) (answer : Reply) (ends : Op
 -- one command of a session, at a desk that wants the words of its calls, or at one that doesn't
 abbrev pub Does : Bool → Seen → Words → Reply → Option Stop → Seen → Type 0
 Does wants_words old words answer ends new = Called old words answer ends new ⊎ Refused old words answer ends new ⊎ Starved wants_words old answer ends new
+
+-- the same of an answer, of what two things show
+abbrev pub DoesAt : {A B : Type 0} → Bool → (A → B → Seen) → A → B → Words → Answer → A → B → Type 0
+DoesAt wants show a b words answer a' b' = Does wants (show a b) words answer.reply answer.stop (show a' b')
 
 -- ## A whole session
 

@@ -5,7 +5,7 @@ ghost use Rattle.sk_cmd.specs.Table.{IsRead};
 ghost use Rattle.sk_model.specs.Acked.{Acknowledges};
 ghost use Rattle.sk_desk.specs.Calls.{AddsCall, call_of};
 ghost use Rattle.sk_talk.specs.Talk.{IsHeard};
-ghost use Rattle.sk_serve.specs.Session.{Does, seen, stop_at, stop_of};
+ghost use Rattle.sk_serve.specs.Session.{Does, DoesAt, seen, stop_at, stop_of};
 
 use sk_base::Clock;
 use sk_cmd::{Command, PlainCommand, read_command};
@@ -66,13 +66,7 @@ fn words_for<D: Desk>(alloc: Global, desk: &D, words: &Words) -> Result<Words, M
 }
 
 // Calls the desk: alone, or as one call of a series.
-fn call<D: Desk>(
-    desk: &mut D,
-    words: &Words,
-    command: Command,
-    now: u64,
-    is_alone: bool,
-) -> Reply
+fn call<D: Desk>(desk: &mut D, words: &Words, command: Command, now: u64, is_alone: bool) -> Reply
     requires { D.wants_words ≡ true → IsRead words.now (Ok command) }
     ensures acked { Acknowledges command result (D.acked desk.old) (D.acked desk.new) }
     ensures told { AddsCall (D.calls desk.old) (call_of words.now now result) (D.calls desk.new) }
@@ -92,7 +86,7 @@ fn answer_at<D: Desk, K: Clock>(
     words: Words,
     is_alone: bool,
 ) -> Answer
-    ensures does { Does D.wants_words (seen D.calls D.acked K.moments desk.old clock.old) words result.reply result.stop (seen D.calls D.acked K.moments desk.new clock.new) }
+    ensures does { DoesAt D.wants_words (seen D.calls D.acked K.moments) desk.old clock.old words result desk.new clock.new }
     ensures heard { IsHeard result.stop }
 {
     if words.list().is_empty() {
@@ -151,8 +145,7 @@ impl<'a, D: Desk, K: Clock> Talker for Sitting<'a, D, K> {
             let Some(words) = commands.next() else {
                 return None;
             };
-            let Answer { reply, stop } =
-                answer_at(self.alloc, self.desk, self.clock, words, false);
+            let Answer { reply, stop } = answer_at(self.alloc, self.desk, self.clock, words, false);
             let is_last = is_last(stop, &reply);
             replies.push_reserved(reply);
             if is_last {

@@ -35,8 +35,8 @@ pub front_among : (all done rest : List Reply) (reply : Reply) (front : Bytes) �
 front_among all done rest reply front is f = (
   f.0 ++ joined (map wire rest),
   ap (λ z. joined (map wire z)) is ∙ ap joined (map-append wire done (reply ∷ rest)) ∙ joined-append (map wire done) (wire reply ∷ map wire rest)
-  ∙ ap (λ z. joined (map wire done) ++ (z ++ joined (map wire rest))) f.1 ∙ ap (λ z. joined (map wire done) ++ z) (append_assoc front f.0 (joined (map wire rest)))
-  ∙ sym (append_assoc (joined (map wire done)) front (f.0 ++ joined (map wire rest))),
+      ∙ ap (λ z. joined (map wire done) ++ (z ++ joined (map wire rest))) f.1 ∙ ap (λ z. joined (map wire done) ++ z) (append_assoc front f.0 (joined (map wire rest)))
+      ∙ sym (append_assoc (joined (map wire done)) front (f.0 ++ joined (map wire rest))),
 )
 
 -- A reply that failed, in the words of a command.

@@ -129,23 +129,23 @@ fn send_all<K: Sink>(
 fn answer_series<T: Talker, K: Sink>(
     alloc: Global,
     talker: &mut T,
-    commands: &mut Drain<'_, Words, Global>,
+    left: &mut Drain<'_, Words, Global>,
     text: &mut Vec<u8>,
     sink: &mut K,
 ) -> Result<(), TalkEnd>
-    ensures told { AnsweredSome T.does talker.old (drain_items commands.old) talker.new (drain_items commands.new) result (K.taken sink.old) (K.taken sink.new) }
+    ensures told { AnsweredSome T.does talker.old (drain_items left.old) talker.new (drain_items left.new) result (K.taken sink.old) (K.taken sink.new) }
     ensures beside { K.beside_write sink.new ≡ K.beside_write sink.old }
     ensures later { K.write_faults sink.old ≤ K.write_faults sink.new }
     ensures write { result ≡ Err TalkEnd.WriteFault → Rose (K.write_faults sink.old) (K.write_faults sink.new) }
 {
-    let count = commands.len();
+    let count = left.len();
     if count < 2 {
         return Ok(());
     }
     let Ok(mut replies) = Vec::with_capacity(alloc, count.min(SERIES)) else {
         return Ok(());
     };
-    let stop = talker.answer_series(commands, &mut replies);
+    let stop = talker.answer_series(left, &mut replies);
     talker.end_series();
     match send_all(alloc, &mut replies, text, sink) {
         Ok(()) => {}

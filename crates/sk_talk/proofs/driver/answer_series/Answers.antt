@@ -9,10 +9,10 @@ use Rattle.sk_talk.proofs.Talking.{failed_reply, kept, none_done, stopped_reply}
 use Rattle.sk_talk.proofs.driver.answer_series.Goals as goal
 
 pub returns-then-count-lt2-clause-told : goal.returns-then-count-lt2-clause-told
-returns-then-count-lt2-clause-told g c = none_done g.T.Talker.does c.args.talker.now (drain_items c.args.commands.now) (g.K.Sink.taken c.args.sink.now)
+returns-then-count-lt2-clause-told g c = none_done g.T.Talker.does c.args.talker.now (drain_items c.args.left.now) (g.K.Sink.taken c.args.sink.now)
 
 pub returns-in_default-clause-told : goal.returns-in_default-clause-told
-returns-in_default-clause-told g c = none_done g.T.Talker.does c.args.talker.now (drain_items c.args.commands.now) (g.K.Sink.taken c.args.sink.now)
+returns-in_default-clause-told g c = none_done g.T.Talker.does c.args.talker.now (drain_items c.args.left.now) (g.K.Sink.taken c.args.sink.now)
 
 pub returns-in-Err-clause-told : goal.returns-in-Err-clause-told
 returns-in-Err-clause-told g c =

@@ -44,7 +44,7 @@ loop-reply-preserved g c =
         sent.0 ++ reply ∷ [],
         is ∙ sym (append_assoc sent.0 (reply ∷ []) rest),
         subst (λ z. Takes (g.K.Sink.taken c.args.sink.now) z (g.K.Sink.taken c.send_last.new.sink)) (sym (texts_more sent.0 reply))
-        (takes_more (g.K.Sink.taken c.args.sink.now) (joined (map wire sent.0)) (g.K.Sink.taken c.loop-reply.sink) (wire reply) (g.K.Sink.taken c.send_last.new.sink) sent.2 c.in-Ok.ensures.told),
+            (takes_more (g.K.Sink.taken c.args.sink.now) (joined (map wire sent.0)) (g.K.Sink.taken c.loop-reply.sink) (wire reply) (g.K.Sink.taken c.send_last.new.sink) sent.2 c.in-Ok.ensures.told),
       );
       beside = c.in-Ok.ensures.beside ∙ c.loop-reply.invariant.beside;
       later = omega (arith, c.in-Ok.ensures.later);

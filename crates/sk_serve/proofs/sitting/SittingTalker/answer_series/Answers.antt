@@ -22,7 +22,7 @@ pub returns-in_default : goal.returns-in_default
 returns-in_default g c =
     let self = c.args.self.now in
     subst (λ d. DoesSome (Sits g.D.Desk.wants_words self self (λ s. seen g.D.Desk.calls g.D.Desk.acked g.K.Clock.moments s.desk.now s.clock.now) (λ s. s.desk.ghost_name) (λ s. s.clock.ghost_name))
-        self (drain_items c.args.commands.now) c.args.replies.now.items None c.series.self (drain_items d) c.series.replies.items)
+    self (drain_items c.args.commands.now) c.args.replies.now.items None c.series.self (drain_items d) c.series.replies.items)
     (sym c.in_default.ensures.steps.1) c.series.invariant
 
 pub series-preserved : goal.series-preserved
