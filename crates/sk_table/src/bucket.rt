@@ -90,19 +90,17 @@ impl<K: TextKey, V> Bucket<K, V> {
         }
     }
 
-    /// Puts an entry in.
+    /// Puts an entry in. Memory is taken for this one alone, since a bucket has few entries, and a table many buckets.
     pub fn put(&mut self, key: K, hash: u32, value: V) -> Result<(), NoRoom<K, V>>
         ensures ok { OnOk result (self.new ≡ self.old ++ record { key = key; hash = hash; value = value } ∷ []) }
         ensures err { OnErr result (self.new ≡ self.old) }
         ensures back { IfErr result (λ refused. (refused.key ≡ key) × (refused.value ≡ value)) }
     {
-        match self.slots.push(Slot { key, hash, value }) {
-            Ok(()) => Ok(()),
-            Err(refused) => {
-                let Slot { key, value, .. } = refused.value;
-                Err(NoRoom { key, value })
-            }
+        if self.slots.reserve_exact(1).is_err() {
+            return Err(NoRoom { key, value });
         }
+        self.slots.push_reserved(Slot { key, hash, value });
+        Ok(())
     }
 }
 
