@@ -133,6 +133,10 @@ impl<'a, D: Desk, K: Clock> Talker for Sitting<'a, D, K> {
         answer_at(self.alloc, self.desk, self.clock, words, true)
     }
 
+    fn takes_series(&self) -> bool {
+        self.desk.takes_series()
+    }
+
     fn answer_series(
         &mut self,
         commands: &mut Drain<'_, Words, Global>,

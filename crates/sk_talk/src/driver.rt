@@ -139,7 +139,7 @@ fn answer_series<T: Talker, K: Sink>(
     ensures write { result ≡ Err TalkEnd.WriteFault → Rose (K.write_faults sink.old) (K.write_faults sink.new) }
 {
     let count = left.len();
-    if count < 2 {
+    if count < 2 || !talker.takes_series() {
         return Ok(());
     }
     let Ok(mut replies) = Vec::with_capacity(alloc, count.min(SERIES)) else {
