@@ -1,4 +1,4 @@
-// The plain keys: a table by the names' hashes, and beside it the index of their deadlines.
+// The plain keys: an ordered map from the name, and beside it the index of their deadlines.
 ghost use Rattle.std.specs.Prelude.{◌≡◌, [], OnErr, OnOk};
 ghost use Rattle.std.specs.Option.{is_some};
 ghost use Rattle.sk_value.specs.Action.{action_of};
@@ -13,15 +13,14 @@ use crate::expiries::{Expiries, has_expired};
 use crate::removed::RemovedKeys;
 use sk_cmd::PlainCommand;
 use sk_resp::{Reply, Word};
-use sk_table::TextTable;
 use sk_value::{Action, Entry, KeysFault, action_of};
 use std::alloc::Global;
-use std::collections::BTreeSet;
+use std::collections::{BTreeMap, BTreeSet};
 use std::marker::Model;
 use std::mem;
 
 /// What stands under each name.
-pub type Entries = TextTable<Word, Entry>;
+pub type Entries = BTreeMap<Word, Entry>;
 
 /// The plain keys, each with a value and perhaps a deadline. Contracts see the list of them, in the order of the names' bytes.
 #[derive(Drop)]
@@ -39,26 +38,25 @@ impl Model for Keys {
 
     ghost Value = { List (List ℕ × Entry) };
 
-    ghost view = { λ keys. keys.entries };
+    ghost view = { λ keys. keys.entries.entries };
 
     ghost use Rattle.sk_keys.specs.Index.{IsIndexed};
 
-    ghost invariant = { λ keys. IsIndexed keys.entries keys.expiries };
+    ghost invariant = { λ keys. IsIndexed keys.entries.entries keys.expiries };
 }
 
 // Removes each key whose deadline is over. What stays isn't looked at.
 fn purge(entries: &mut Entries, expiries: &mut Expiries, now: u64)
-    requires { IsIndexed entries.old expiries.old }
-    ensures keys { entries.new ≡ purged now entries.old }
-    ensures indexed { IsIndexed entries.new expiries.new }
+    requires { IsIndexed entries.old.entries expiries.old }
+    ensures keys { entries.new.entries ≡ purged now entries.old.entries }
+    ensures indexed { IsIndexed entries.new.entries expiries.new }
 {
     while has_expired(expiries, now) {
         if let Some((_, name)) = expiries.pop_first() {
-            entries.in_order();
             entries.remove(&name);
         }
     }
-    entries.in_order();
+    let _count = entries.len(); // its contract says that the names ascend
 }
 
 impl Keys {
@@ -68,7 +66,7 @@ impl Keys {
     {
         Keys {
             alloc,
-            entries: TextTable::new(alloc),
+            entries: BTreeMap::new(alloc),
             expiries: BTreeSet::new(alloc),
             removed: None,
         }
@@ -85,7 +83,7 @@ impl Keys {
     pub fn has(&self, name: &Word) -> bool
         ensures { result ≡ is_some (at name.now self.now) }
     {
-        self.entries.has(name)
+        self.entries.contains_key(name)
     }
 
     /// Removes a key, and answers whether it was there. Takes no memory.
@@ -101,7 +99,7 @@ impl Keys {
         ensures { self.new ≡ [] }
     {
         self.removed = Some(RemovedKeys {
-            entries: mem::replace(&mut self.entries, TextTable::new(self.alloc)),
+            entries: mem::replace(&mut self.entries, BTreeMap::new(self.alloc)),
             expiries: mem::replace(&mut self.expiries, BTreeSet::new(self.alloc)),
         });
     }
