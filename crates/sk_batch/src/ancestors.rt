@@ -12,7 +12,7 @@ use crate::batch_list::BatchList;
 use crate::numbers::Change;
 use crate::state::State;
 use crate::{Batch, Firing, Kind, Memory};
-use sk_payload::Payload;
+use sk_payload::JobText;
 use sk_undo::Predicate;
 use std::alloc::Global;
 
@@ -42,7 +42,7 @@ pub fn firing(kind: Kind, batch: &Batch) -> Result<Firing, Memory>
     Ok(Firing {
         bid: batch.bid.copy()?,
         kind,
-        payload: callback.as_ref().map(Payload::copy).transpose()?,
+        payload: callback.as_ref().map(JobText::copy).transpose()?,
     })
 }
 

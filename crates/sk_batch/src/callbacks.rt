@@ -1,10 +1,10 @@
 // The jobs that a batch pushes when something comes of it.
-use sk_payload::Payload;
+use sk_payload::JobText;
 
 /// A batch's callbacks, each with its job, where it has one (Sidekiq's wiki, "Batches").
 #[derive(Drop)]
 pub struct Callbacks {
-    pub complete: Option<Payload>,
-    pub success: Option<Payload>,
-    pub death: Option<Payload>,
+    pub complete: Option<JobText>,
+    pub success: Option<JobText>,
+    pub death: Option<JobText>,
 }

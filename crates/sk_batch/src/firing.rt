@@ -1,5 +1,5 @@
 // What is fired when something comes of a batch.
-use sk_payload::Payload;
+use sk_payload::JobText;
 use sk_resp::Word;
 
 /// What comes of a batch (Sidekiq's wiki, "Batches").
@@ -18,5 +18,5 @@ pub enum Kind {
 pub struct Firing {
     pub bid: Word,
     pub kind: Kind,
-    pub payload: Option<Payload>,
+    pub payload: Option<JobText>,
 }

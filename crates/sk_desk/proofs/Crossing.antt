@@ -5,8 +5,8 @@ use Rattle.std.proofs.Crossing.{crosses}
 use Rattle.std.proofs.MapsCrossing.{crosses as crosses_maps}
 use Rattle.sk_undo.proofs.sequence.Sequence.TheLaws.TheKnot.{crosses as crosses_sequence}
 use Rattle.sk_undo.specs.contracts.undo_list.UndoList as UndoList
-use Rattle.sk_payload.specs.contracts.payload.Payload as Payload
-use Rattle.sk_payload.proofs.payload.Payload.TheSendSync.{the_send as payload_send}
+use Rattle.sk_payload.specs.contracts.job_text.JobText as JobText
+use Rattle.sk_payload.proofs.job_text.JobText.TheSendSync.{the_send as text_send}
 use Rattle.sk_deques.specs.contracts.undo_deques.UndoDeques as UndoDeques
 use Rattle.sk_leases.specs.contracts.leases.Leases as Leases
 use Rattle.sk_batch.specs.contracts.batches.Batches as Batches
@@ -32,8 +32,8 @@ list_send_field K T k t = search (sendable, crosses, crosses_sequence) depth 30 
 deques_send_field : (K T : RattleType) → IsSend K → IsSend T → IsSend (UndoDeques.the_field K T).row
 deques_send_field K T k t = search (sendable, crosses) depth 40 fits 3000
 
-payload_send_field : IsSend Payload.the_field.row
-payload_send_field = search (sendable, crosses, payload_send) depth 30 fits 3000
+text_send_field : IsSend JobText.the_field.row
+text_send_field = search (sendable, crosses, text_send) depth 30 fits 3000
 
 -- ## The parts of the store
 
@@ -47,16 +47,16 @@ counters_send : IsSend Counters.the_field.row
 counters_send = search (sendable, crosses, crosses_maps, list_send_field) depth 40 fits 5000
 
 jobs_send : IsSend LiveJobs.the_field.row
-jobs_send = search (sendable, crosses, list_send_field, payload_send_field) depth 100 fits 8000
+jobs_send = search (sendable, crosses, list_send_field, text_send_field) depth 100 fits 8000
 
 removed_send : IsSend RemovedRows.the_row
-removed_send = search (sendable, crosses, list_send_field, deques_send_field, payload_send_field, jobs_send) depth 100 fits 8000
+removed_send = search (sendable, crosses, list_send_field, deques_send_field, text_send_field, jobs_send) depth 100 fits 8000
 
 places_send : IsSend Places.the_field.row
-places_send = search (sendable, crosses, list_send_field, deques_send_field, payload_send_field, jobs_send, removed_send) depth 100 fits 8000
+places_send = search (sendable, crosses, list_send_field, deques_send_field, text_send_field, jobs_send, removed_send) depth 100 fits 8000
 
 seats_send : IsSend Seats.the_field.row
-seats_send = search (sendable, crosses, crosses_maps, payload_send_field) depth 100 fits 8000
+seats_send = search (sendable, crosses, crosses_maps, text_send_field) depth 100 fits 8000
 
 set_send : IsSend ZSet.the_field.row
 set_send = search (sendable, crosses, crosses_maps, list_send_field) depth 60 fits 5000

@@ -20,7 +20,7 @@ ghost use Rattle.sk_store.specs.Stored.{InStep, IsReady, Executes, world};
 use crate::callbacks::{push_callbacks, push_job, word_of};
 use sk_base::limits::LONGEST_ID;
 use sk_batch::{Batch, BatchFault, Batches, Callbacks, Firing};
-use sk_payload::{Payload, payloads_of};
+use sk_payload::{JobText, job_texts_of};
 use sk_places::Origin;
 use sk_resp::{Memory, Refusal, Replies, Reply, Say, Word, Words};
 use sk_store::{Store, bytes_of};
@@ -59,11 +59,11 @@ fn or_none(word: Word) -> Option<Word>
 }
 
 // The job of a callback, where there is one. Its text is parsed here, once.
-fn callback_of(alloc: Global, word: Word) -> Result<Option<Payload>, Memory>
+fn callback_of(alloc: Global, word: Word) -> Result<Option<JobText>, Memory>
     ensures { IfOk result (λ callback. callback ≡ or_none word) }
 {
     match or_none(word) {
-        Some(text) => Ok(Some(Payload::of(alloc, text)?)),
+        Some(text) => Ok(Some(JobText::of(alloc, text)?)),
         None => Ok(None),
     }
 }
@@ -92,7 +92,7 @@ fn batch_of(
 }
 
 // The job that a payload names.
-fn jid_of(alloc: Global, payload: &Payload) -> Result<Option<Word>, Memory>
+fn jid_of(alloc: Global, payload: &JobText) -> Result<Option<Word>, Memory>
     ensures { IfOk result (λ jid. jid ≡ jid_of payload.now) }
 {
     match payload.jid() {
@@ -102,7 +102,7 @@ fn jid_of(alloc: Global, payload: &Payload) -> Result<Option<Word>, Memory>
 }
 
 // The jobs that payloads name.
-fn jids_of(alloc: Global, payloads: &[Payload]) -> Result<Vec<Word>, Memory>
+fn jids_of(alloc: Global, payloads: &[JobText]) -> Result<Vec<Word>, Memory>
     ensures { IfOk result (λ jids. jids.items ≡ jids_of payloads.now) }
 {
     let mut jids = Vec::with_capacity(alloc, payloads.len())?;
@@ -117,7 +117,7 @@ fn jids_of(alloc: Global, payloads: &[Payload]) -> Result<Vec<Word>, Memory>
 // The jobs that a batch gets. Contracts see their texts.
 #[derive(Drop)]
 struct Jobs {
-    payloads: Vec<Payload>,
+    payloads: Vec<JobText>,
     jids: Vec<Word>,
     // of all texts together
     bytes: u128,
@@ -141,7 +141,7 @@ impl Jobs {
         ensures { IfOk result (λ jobs. jobs ≡ texts) }
     {
         let bytes = bytes_of(texts.list());
-        let payloads = payloads_of(alloc, texts.into_list())?;
+        let payloads = job_texts_of(alloc, texts.into_list())?;
         let jids = jids_of(alloc, &payloads)?;
         Ok(Jobs {
             payloads,
@@ -183,30 +183,30 @@ fn is_bid(bid: &[u8]) -> bool
 }
 
 // The text of the job names the batch.
-fn may_join(bid: &[u8], payload: &Payload) -> bool
+fn may_join(bid: &[u8], payload: &JobText) -> bool
     ensures { result ≡ may_join bid.now (head_of payload.now) }
 {
     let Some(head) = payload.head() else {
         return false;
     };
-    match &head.bid {
-        Some(other) => other.text().as_bytes() == bid,
+    match head.bid() {
+        Some(other) => other == bid,
         None => false,
     }
 }
 
 /// The job is of no batch, and without a lock.
-pub fn may_call(payload: &Payload) -> bool
+pub fn may_call(payload: &JobText) -> bool
     ensures { result ≡ may_call (head_of payload.now) }
 {
     match payload.head() {
-        Some(head) => head.bid.is_none() && head.lock.is_none(),
+        Some(head) => head.bid().is_none() && head.lock().is_none(),
         None => false,
     }
 }
 
 // There is no job, or it may be a callback's.
-fn is_callback(callback: &Option<Payload>) -> bool
+fn is_callback(callback: &Option<JobText>) -> bool
     ensures { result ≡ is_callback callback.now }
 {
     match callback {
@@ -319,7 +319,7 @@ fn check_add(store: &Store, bid: &[u8], jobs: &Jobs) -> Result<(), Say>
 // ## The jobs come
 
 // The jobs are pushed, one after another, each at the left end of the queue that its head names.
-fn push_jobs(store: &mut Store, payloads: Vec<Payload>) -> Result<(), Memory>
+fn push_jobs(store: &mut Store, payloads: Vec<JobText>) -> Result<(), Memory>
     requires { HasRoom (length payloads.items) (world store.old).tally }
     ensures ok { OnOk result (world store.new ≡ perform (world store.old) (push_jobs payloads.items)) }
     ensures step { InStep store.old store.new }

@@ -14,14 +14,14 @@ use crate::in_flight::find_buried;
 use crate::retries::put_back;
 use sk_base::Score;
 use sk_cmd::Scored;
-use sk_payload::Payload;
+use sk_payload::JobText;
 use sk_resp::{Memory, Reply, Word};
 use sk_seats::Stage;
 use sk_store::Store;
 use sk_value::refused;
 
 // The payload goes to the dead set, which drops what it keeps no longer, and its batch is told. After want of memory a part of it is done.
-fn bury_payload(store: &mut Store, payload: Payload) -> Result<Reply, Memory>
+fn bury_payload(store: &mut Store, payload: JobText) -> Result<Reply, Memory>
     requires early { store.old.moment ≤ last_moment }
     requires covered { AreCovered store.old }
     ensures ok { IfOk result (λ reply. Realizes (world store.old) (buries_text (world store.old) payload) reply (world store.new)) }
@@ -41,7 +41,7 @@ pub fn bury(store: &mut Store, seat: u32, text: Word) -> Result<Reply, Memory>
     requires covered { AreCovered store.old }
     ensures { Executes store.old (bury (world store.old) seat (phase_of (world store.old) seat) text) result store.new }
 {
-    let payload = Payload::of(store.alloc, text)?;
+    let payload = JobText::of(store.alloc, text)?;
     let at = match find_buried(store.seats.get(seat), &payload) {
         Ok(at) => at,
         Err(refusal) => return Ok(refused(refusal)),

@@ -12,14 +12,14 @@ ghost use Rattle.sk_jobs.specs.Routing.{Takes};
 use sk_base::Score;
 use sk_batch::{Batches, Event, Firing, Kind, Member};
 use sk_cmd::Side;
-use sk_payload::Payload;
+use sk_payload::JobText;
 use sk_places::{Origin, Place};
-use sk_resp::{Memory, Text, Word};
+use sk_resp::{Memory, Word};
 use sk_store::Store;
 use std::alloc::Global;
 
 /// A job is pushed at the left end of the queue that its head names. One without a head is pushed nowhere.
-pub fn push_job(store: &mut Store, payload: Payload, from: Origin) -> Result<(), Memory>
+pub fn push_job(store: &mut Store, payload: JobText, from: Origin) -> Result<(), Memory>
     requires { IsCountable from (world store.old).tally }
     ensures ok { OnOk result (world store.new ≡ perform (world store.old) (push_job from payload)) }
     ensures aside { OnOk result (Takes [] store.old store.new) }
@@ -29,7 +29,7 @@ pub fn push_job(store: &mut Store, payload: Payload, from: Origin) -> Result<(),
     let Some(head) = payload.head() else {
         return Ok(());
     };
-    let queue = Place::Queue(head.queue.copy()?);
+    let queue = Place::Queue(head.queue_text(store.alloc)?);
     let held = store.seats.have(&payload);
     let start = Score::of_moment(0);
     store
@@ -128,25 +128,25 @@ pub fn notify(store: &mut Store, event: Event, member: Option<Member>) -> Result
     }
 }
 
-/// A text as a word.
-pub fn word_of(alloc: Global, text: &Text) -> Result<Word, Memory>
+/// Bytes as a word.
+pub fn word_of(alloc: Global, text: &[u8]) -> Result<Word, Memory>
     ensures { IfOk result (λ word. word ≡ text.now) }
 {
-    Ok(Word::new(text.text().as_bytes().to_vec(alloc)?))
+    Ok(Word::new(text.to_vec(alloc)?))
 }
 
 /// The member that a payload's job is, where its head names a batch.
-pub fn member_of(alloc: Global, payload: &Payload) -> Result<Option<Member>, Memory>
+pub fn member_of(alloc: Global, payload: &JobText) -> Result<Option<Member>, Memory>
     ensures { IfOk result (λ member. member ≡ member_of payload.now) }
 {
     let Some(head) = payload.head() else {
         return Ok(None);
     };
-    let Some(bid) = &head.bid else {
+    let Some(bid) = head.bid() else {
         return Ok(None);
     };
     Ok(Some(Member {
         bid: word_of(alloc, bid)?,
-        jid: word_of(alloc, &head.jid)?,
+        jid: word_of(alloc, head.jid())?,
     }))
 }

@@ -6,7 +6,7 @@ ghost use Rattle.sk_model.specs.Seats.{where_some};
 ghost use Rattle.sk_seats.specs.Works.{is_buried_as, is_held_as, is_retried_as};
 ghost use Rattle.sk_jobs.specs.Seated.{IsFound};
 
-use sk_payload::Payload;
+use sk_payload::JobText;
 use sk_resp::{Refusal, Word};
 use sk_seats::Phase;
 
@@ -22,7 +22,7 @@ pub fn find_held(phase: &Phase, text: &Word) -> Result<usize, Refusal>
 }
 
 /// The index of the job that the seat holds and that this payload follows after a failure. Else this is the refusal.
-pub fn find_retried(phase: &Phase, next: &Payload) -> Result<usize, Refusal>
+pub fn find_retried(phase: &Phase, next: &JobText) -> Result<usize, Refusal>
     ensures found { IfOk result (λ at. IsFound (is_retried_as next.now) phase.now at) }
     ensures refused { IfErr result (λ refusal. (o : Bytes → Outcome) → where_some phase.now (is_retried_as next.now) o ≡ refuses refusal) }
 {
@@ -33,7 +33,7 @@ pub fn find_retried(phase: &Phase, next: &Payload) -> Result<usize, Refusal>
 }
 
 /// The index of the job that the seat holds and that may be buried as this payload. Else this is the refusal.
-pub fn find_buried(phase: &Phase, next: &Payload) -> Result<usize, Refusal>
+pub fn find_buried(phase: &Phase, next: &JobText) -> Result<usize, Refusal>
     ensures found { IfOk result (λ at. IsFound (is_buried_as next.now) phase.now at) }
     ensures refused { IfErr result (λ refusal. (o : Bytes → Outcome) → where_some phase.now (is_buried_as next.now) o ≡ refuses refusal) }
 {

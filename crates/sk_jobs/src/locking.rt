@@ -11,7 +11,7 @@ ghost use Rattle.sk_jobs.specs.Locking.{lets_go, wanted};
 ghost use Rattle.sk_jobs.specs.Seated.{IsFound};
 
 use crate::callbacks::word_of;
-use sk_payload::{Head, Payload, Until, digest};
+use sk_payload::{JobHead, JobText, Until};
 use sk_resp::{Memory, Text, Word};
 use sk_seats::Phase;
 use sk_store::Store;
@@ -37,28 +37,28 @@ pub struct WantedLock {
     pub seconds: u32,
 }
 
-fn digest_of(alloc: Global, head: &Head) -> Result<Word, Memory>
+fn digest_of(alloc: Global, head: &JobHead<'_>) -> Result<Word, Memory>
     ensures { IfOk result (λ word. word ≡ digest_in head.now) }
 {
-    word_of(alloc, &digest(alloc, head)?)
+    word_of(alloc, head.digest(alloc)?.text().as_bytes())
 }
 
 /// The lock that a job asks for: its head has one, and names no batch.
-pub fn wanted_lock(alloc: Global, payload: &Payload) -> Result<Option<WantedLock>, Memory>
+pub fn wanted_lock(alloc: Global, payload: &JobText) -> Result<Option<WantedLock>, Memory>
     ensures { IfOk result (λ lock. lock ≡ wanted (head_of payload.now)) }
 {
     let Some(head) = payload.head() else {
         return Ok(None);
     };
-    let Some(lock) = &head.lock else {
+    let Some(lock) = head.lock() else {
         return Ok(None);
     };
-    if head.bid.is_some() {
+    if head.bid().is_some() {
         return Ok(None);
     }
     Ok(Some(WantedLock {
-        digest: digest_of(alloc, head)?,
-        jid: head.jid.copy()?,
+        digest: digest_of(alloc, &head)?,
+        jid: head.jid_text(alloc)?,
         seconds: lock.seconds,
     }))
 }
@@ -73,21 +73,21 @@ fn is_until(until: Until, other: Until) -> bool
 }
 
 // The lock that a job lets go of once it has come so far, where its head says that it holds it until then.
-fn held_lock(alloc: Global, until: Until, payload: &Payload) -> Result<Option<HeldLock>, Memory>
+fn held_lock(alloc: Global, until: Until, payload: &JobText) -> Result<Option<HeldLock>, Memory>
     ensures { IfOk result (λ lock. lets_go lock ≡ unlocks until payload.now) }
 {
     let Some(head) = payload.head() else {
         return Ok(None);
     };
-    let Some(lock) = &head.lock else {
+    let Some(lock) = head.lock() else {
         return Ok(None);
     };
     if !is_until(until, lock.until) {
         return Ok(None);
     }
     Ok(Some(HeldLock {
-        digest: digest_of(alloc, head)?,
-        jid: head.jid.copy()?,
+        digest: digest_of(alloc, &head)?,
+        jid: head.jid_text(alloc)?,
     }))
 }
 

@@ -16,7 +16,7 @@ use crate::callbacks::push_job;
 use crate::room::is_too_much;
 use sk_base::limits::{MOST_LOOPS, SLOT_LIFE};
 use sk_key::is_name;
-use sk_payload::Payload;
+use sk_payload::JobText;
 use sk_places::Origin;
 use sk_resp::{Memory, Refusal, Reply, Say, Word};
 use sk_seats::Phase;
@@ -83,7 +83,7 @@ fn check_slot(
     ident: &Word,
     name: &Word,
     slot: u64,
-    payload: &Payload,
+    payload: &JobText,
 ) -> Result<(), Refusal>
     ensures { cron (world store.now) ident.now name.now slot payload.now ≡ unless_refused result (push_slot (world store.now) name.now slot payload.now) }
 {
@@ -111,7 +111,7 @@ fn check_slot(
 // ## SK.CRON
 
 // The loop gets the slot, and the job is pushed. After want of memory a part of it is done.
-fn push_open(store: &mut Store, name: Word, slot: u64, payload: Payload) -> Result<Reply, Memory>
+fn push_open(store: &mut Store, name: Word, slot: u64, payload: JobText) -> Result<Reply, Memory>
     requires { IsCountable Outside (world store.old).tally }
     ensures ok { IfOk result (λ reply. Realizes (world store.old) (slotted name slot payload) reply (world store.new)) }
     ensures step { InStep store.old store.new }
@@ -132,7 +132,7 @@ fn push_slot(
     requires { IsReady store.old }
     ensures { Executes store.old (cron (world store.old) ident.now name slot text) result store.new }
 {
-    let payload = Payload::of(store.alloc, text)?;
+    let payload = JobText::of(store.alloc, text)?;
     if let Err(refusal) = check_slot(store, ident, &name, slot, &payload) {
         return Ok(refused(refusal));
     }

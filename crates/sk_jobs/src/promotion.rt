@@ -49,7 +49,7 @@ fn promote_first(store: &mut Store, set: Scored) -> Result<Report, Memory>
     };
     match payload.head() {
         Some(head) => {
-            let queue = head.queue.copy()?;
+            let queue = head.queue_text(store.alloc)?;
             promote_to(store, &place, queue, Side::Left)?;
             Ok(Report::one_moved(store.alloc))
         }

@@ -16,7 +16,7 @@ use crate::callbacks::word_of;
 use crate::in_flight::find_held;
 use sk_base::Score;
 use sk_cmd::Side;
-use sk_payload::Payload;
+use sk_payload::JobText;
 use sk_places::{Ending, Place, Places};
 use sk_resp::{Memory, Refusal, Reply, Text, Word};
 use sk_seats::{End, Phase, Stage, Work};
@@ -83,11 +83,14 @@ fn way_back(
     let Some(head) = works.get(at).payload.head() else {
         return Ok(None);
     };
-    Ok(Some((word_of(alloc, ident)?, head.queue.copy()?)))
+    Ok(Some((
+        word_of(alloc, ident.text().as_bytes())?,
+        head.queue_text(alloc)?,
+    )))
 }
 
 // The payload of a job of this text that a seat holds.
-fn held_payload<'a>(phase: &'a Phase, text: &Word, at: usize) -> &'a Payload
+fn held_payload<'a>(phase: &'a Phase, text: &Word, at: usize) -> &'a JobText
     requires { IsFound (is_held_as text.now) phase.now at }
     ensures { result.now ≡ text.now }
 {

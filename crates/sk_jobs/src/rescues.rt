@@ -20,13 +20,13 @@ use crate::promotion::promote_to;
 use crate::report::Report;
 use sk_base::limits::MOST_RECOVERIES;
 use sk_cmd::Side;
-use sk_payload::Payload;
+use sk_payload::JobText;
 use sk_places::Place;
 use sk_resp::{Memory, Reply, Word};
 use sk_store::Store;
 
 // A job that was recovered too often is buried, and its recoveries are forgotten.
-fn bury_poison(store: &mut Store, list: &Place, payload: &Payload) -> Result<Report, Memory>
+fn bury_poison(store: &mut Store, list: &Place, payload: &JobText) -> Result<Report, Memory>
     requires early { store.old.moment ≤ last_moment }
     requires alive { is_eq (place_cmp (Set Dead) list.now) ≡ false }
     requires covered { AreCovered store.old }
@@ -39,7 +39,7 @@ fn bury_poison(store: &mut Store, list: &Place, payload: &Payload) -> Result<Rep
     let member = member_of(store.alloc, payload)?;
     let report = bury(store, list, payload.text(), member)?;
     if let Some(head) = payload.head() {
-        store.leases.forget(&head.jid)?;
+        store.leases.forget(&head.jid_text(store.alloc)?)?;
     }
     Ok(report)
 }
@@ -63,12 +63,14 @@ fn rescue_first(store: &mut Store, list: &Place) -> Result<Report, Memory>
         let text = payload.text().copy()?;
         return bury(store, list, &text, None);
     };
-    let recoveries = store.leases.recovered(&head.jid, store.moment)?;
+    let recoveries = store
+        .leases
+        .recovered(&head.jid_text(store.alloc)?, store.moment)?;
     if recoveries >= MOST_RECOVERIES {
         let payload = payload.copy()?;
         return bury_poison(store, list, &payload);
     }
-    let queue = head.queue.copy()?;
+    let queue = head.queue_text(store.alloc)?;
     promote_to(store, list, queue, Side::Right)?;
     Ok(Report::one_moved(store.alloc))
 }

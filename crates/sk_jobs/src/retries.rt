@@ -13,7 +13,7 @@ ghost use Rattle.sk_jobs.specs.Routing.{set_rows};
 use crate::in_flight::find_retried;
 use sk_base::Score;
 use sk_cmd::{Scored, Side};
-use sk_payload::Payload;
+use sk_payload::JobText;
 use sk_places::Place;
 use sk_resp::{Memory, Reply, Word};
 use sk_seats::Stage;
@@ -25,7 +25,7 @@ pub fn put_back(
     store: &mut Store,
     set: Scored,
     score: Score,
-    payload: Payload,
+    payload: JobText,
 ) -> Result<bool, Memory>
     ensures answer { IfOk result (λ new. new ≡ not (is_some (row_of payload (set_rows set (world store.old))))) }
     ensures ok { OnOk result (world store.new ≡ changed (world store.old) (put_back (world store.old) set (score, payload))) }
@@ -50,7 +50,7 @@ pub fn retry(store: &mut Store, seat: u32, pair: (Score, Word)) -> Result<Reply,
     ensures { Executes store.old (retry (world store.old) seat (phase_of (world store.old) seat) (Some pair)) result store.new }
 {
     let (score, text) = pair;
-    let payload = Payload::of(store.alloc, text)?;
+    let payload = JobText::of(store.alloc, text)?;
     let at = match find_retried(store.seats.get(seat), &payload) {
         Ok(at) => at,
         Err(refusal) => return Ok(refused(refusal)),

@@ -5,11 +5,11 @@ ghost use Rattle.sk_places.specs.declared.origin.Origin.TheVariants.{Outside};
 ghost use Rattle.sk_model.specs.Room.{is_full};
 ghost use Rattle.sk_store.specs.Stored.{world};
 
-use sk_payload::Payload;
+use sk_payload::JobText;
 use sk_store::Store;
 
 /// With the job, counted as new, there would be more than the store takes.
-pub fn is_too_much(store: &Store, payload: &Payload) -> bool
+pub fn is_too_much(store: &Store, payload: &JobText) -> bool
     ensures is { result ≡ is_full (world store.now) (payload.now ∷ []) }
     ensures room { result ≡ false → IsCountable Outside (world store.now).tally }
 {

@@ -149,7 +149,7 @@ fn revive_one(store: &mut Store, set: Scored, text: &Word) -> Result<Reply, Memo
     let Some(head) = payload.head() else {
         return Ok(refused(Refusal::BadPayload));
     };
-    let queue = Place::Queue(head.queue.copy()?);
+    let queue = Place::Queue(head.queue_text(store.alloc)?);
     let score = Score::of_moment(0);
     store
         .places

@@ -17,14 +17,14 @@ use crate::locking::{WantedLock, wanted_lock};
 use crate::room::is_too_much;
 use sk_base::Score;
 use sk_cmd::{Scored, Side};
-use sk_payload::Payload;
+use sk_payload::JobText;
 use sk_places::{Origin, Place};
 use sk_resp::{Memory, Refusal, Reply, Say, Word};
 use sk_store::Store;
 use sk_value::refused;
 
 // The job is put into the schedule. A text that is there gets the score.
-fn schedule(store: &mut Store, payload: Payload, score: Score) -> Result<(), Memory>
+fn schedule(store: &mut Store, payload: JobText, score: Score) -> Result<(), Memory>
     requires { IsCountable Outside (world store.old).tally }
     ensures ok { OnOk result (world store.new ≡ changed (world store.old) (add_one (world store.old) Schedule (score, payload))) }
     ensures step { InStep store.old store.new }
@@ -45,7 +45,7 @@ fn schedule(store: &mut Store, payload: Payload, score: Score) -> Result<(), Mem
 }
 
 // The job goes to its queue, or into the schedule with a score.
-fn push_or_schedule(store: &mut Store, payload: Payload, score: Option<Score>) -> Result<(), Memory>
+fn push_or_schedule(store: &mut Store, payload: JobText, score: Option<Score>) -> Result<(), Memory>
     requires { IsCountable Outside (world store.old).tally }
     ensures ok { OnOk result (world store.new ≡ perform (world store.old) (push_or_schedule (world store.old) payload score)) }
     ensures step { InStep store.old store.new }
@@ -59,7 +59,7 @@ fn push_or_schedule(store: &mut Store, payload: Payload, score: Option<Score>) -
 // The holder of the lock is the answer; else the job gets it, and is pushed. After want of memory a part of it is done.
 fn push_open(
     store: &mut Store,
-    payload: Payload,
+    payload: JobText,
     score: Option<Score>,
     lock: WantedLock,
 ) -> Result<Reply, Memory>
@@ -72,7 +72,7 @@ fn push_open(
         .leases
         .lock(lock.digest, lock.jid, lock.seconds, store.moment)?;
     if let Some(holder) = holder {
-        return Ok(Reply::Bulk(word_of(store.alloc, &holder)?));
+        return Ok(Reply::Bulk(word_of(store.alloc, holder.text().as_bytes())?));
     }
     push_or_schedule(store, payload, score)?;
     Ok(Reply::Say(Say::Ok))
@@ -87,7 +87,7 @@ pub fn push_unique(store: &mut Store, text: Word, score: Option<Score>) -> Resul
     requires { IsReady store.old }
     ensures { Executes store.old (unique_push (world store.old) text score) result store.new }
 {
-    let payload = Payload::of(store.alloc, text)?;
+    let payload = JobText::of(store.alloc, text)?;
     let Some(lock) = wanted_lock(store.alloc, &payload)? else {
         return Ok(refused(Refusal::BadPayload));
     };

@@ -12,14 +12,14 @@ ghost use Rattle.sk_store.specs.Stored.{InStep, IsAtomic, IsReady, Executes, wor
 
 use sk_base::Score;
 use sk_cmd::Side;
-use sk_payload::{Payload, payloads_of};
+use sk_payload::{JobText, job_texts_of};
 use sk_places::{Origin, Place};
 use sk_resp::{Memory, Refusal, Reply, Text, Words};
 use sk_store::{Store, bytes_of};
 use sk_value::{counted, refused};
 
 // Puts the payload at that end of the queue.
-fn push_one(store: &mut Store, queue: &Text, end: Side, payload: Payload) -> Result<(), Memory>
+fn push_one(store: &mut Store, queue: &Text, end: Side, payload: JobText) -> Result<(), Memory>
     requires { IsCountable Outside (world store.old).tally }
     ensures ok { OnOk result (world store.new ≡ changed (world store.old) (Moves (Add (row_at (Queue queue.now) payload) end Outside))) }
     ensures few { OnOk result (pushes_in (world store.new).tally ≤ pushes_in (world store.old).tally + 1) }
@@ -38,7 +38,7 @@ fn push_each(
     store: &mut Store,
     queue: &Text,
     end: Side,
-    payloads: Vec<Payload>,
+    payloads: Vec<JobText>,
 ) -> Result<(), Memory>
     requires { HasRoom (length payloads.items) (world store.old).tally }
     ensures ok { OnOk result (world store.new ≡ perform (world store.old) (pushes end (Queue queue.now) payloads.items)) }
@@ -55,7 +55,7 @@ fn push_all(
     store: &mut Store,
     queue: &Text,
     end: Side,
-    payloads: Vec<Payload>,
+    payloads: Vec<JobText>,
 ) -> Result<(), Memory>
     requires ready { IsReady store.old }
     requires room { HasRoom (length payloads.items) (world store.old).tally }
@@ -76,7 +76,7 @@ pub fn push(store: &mut Store, queue: Text, end: Side, texts: Words) -> Result<R
     if store.is_full(count, bytes) {
         return Ok(refused(Refusal::Full));
     }
-    let payloads = payloads_of(store.alloc, texts.into_list())?;
+    let payloads = job_texts_of(store.alloc, texts.into_list())?;
     push_all(store, &queue, end, payloads)?;
     Ok(counted(store.places.len(&Place::Queue(queue))))
 }

@@ -12,7 +12,7 @@ ghost use Rattle.sk_value.specs.declared.write_op.WriteOp.TheVariants as WriteOp
 use crate::plain::managed_key;
 use sk_base::{Bound, Score};
 use sk_cmd::{Scored, Scores, Side};
-use sk_payload::Payload;
+use sk_payload::JobText;
 use sk_places::{Origin, Place};
 use sk_resp::{Memory, Refusal, Reply, Word, Words};
 use sk_store::{Store, bytes_scored};
@@ -30,7 +30,7 @@ fn add_one(store: &mut Store, set: Scored, score: Score, text: Word) -> Result<(
     if places.shift_text(&place, text.bytes(), Place::Set(set), score, Side::Left)? {
         return Ok(());
     }
-    let payload = Payload::of(store.alloc, text)?;
+    let payload = JobText::of(store.alloc, text)?;
     let held = store.seats.have(&payload);
     places.push(place, score, Side::Left, payload, Origin::Outside, held)
 }

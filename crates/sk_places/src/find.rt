@@ -7,7 +7,7 @@ ghost use Rattle.sk_places.specs.Segments.{IsIndexOf};
 
 use crate::{Place, Rows};
 use sk_cmd::Side;
-use sk_payload::Payload;
+use sk_payload::JobText;
 
 /// The index at a place of the row at an end of it.
 pub fn find_end(rows: &Rows, place: &Place, side: Side) -> Option<usize>
@@ -35,7 +35,7 @@ pub fn find_text(rows: &Rows, place: &Place, text: &[u8]) -> Option<usize>
 }
 
 /// The same of a payload's text. In a queue or a private list it reads the texts of the rows with its tag alone.
-pub fn find_payload(rows: &Rows, place: &Place, payload: &Payload) -> Option<usize>
+pub fn find_payload(rows: &Rows, place: &Place, payload: &JobText) -> Option<usize>
     ensures is { IsIndexOf Left (row_of payload.now (rows_at place.now rows.now.current)) place.now rows.now.current result }
     ensures within { IfSome result (λ at. at < length (rows_at place.now rows.now.current)) }
 {
@@ -45,11 +45,11 @@ pub fn find_payload(rows: &Rows, place: &Place, payload: &Payload) -> Option<usi
 }
 
 /// Whether a push of the payload's job is fresh: no row names it, and it isn't held in a worker's hands. True where it names none.
-pub fn is_fresh(rows: &Rows, payload: &Payload, held: bool) -> bool
+pub fn is_fresh(rows: &Rows, payload: &JobText, held: bool) -> bool
     ensures { IfSome (jid_of payload.now) (λ jid. result ≡ is_fresh held rows.now.current jid) }
 {
-    match payload.head() {
-        Some(head) => rows.count_of(head.jid.text().as_bytes()) == 0 && !held,
+    match payload.jid() {
+        Some(jid) => rows.count_of(jid) == 0 && !held,
         None => true,
     }
 }

@@ -12,7 +12,7 @@ ghost use Rattle.sk_resp.specs.WordOrder.{text_cmp};
 ghost use Rattle.sk_undo.specs.Queries.{key_query};
 
 use crate::Memory;
-use sk_payload::Payload;
+use sk_payload::JobText;
 use sk_resp::compare_bytes;
 use sk_undo::Query;
 use std::cmp::Ordering;
@@ -21,7 +21,7 @@ use std::marker::Model;
 /// The id of the job that a payload names. The payload is shared with the job's row, so that the id isn't copied. Contracts see the id's bytes.
 #[derive(Drop)]
 pub struct JobKey {
-    payload: Payload,
+    payload: JobText,
 }
 
 impl Model for JobKey {
@@ -35,7 +35,7 @@ impl Model for JobKey {
 
 impl JobKey {
     /// The key of the payload's job, where it has one. It takes no memory; there is none where 2^63 - 1 copies of the payload stand.
-    pub fn of(payload: &Payload) -> Result<Option<JobKey>, Memory>
+    pub fn of(payload: &JobText) -> Result<Option<JobKey>, Memory>
         ensures { IfOk result (λ key. key ≡ jid_of payload.now) }
     {
         match payload.jid() {
@@ -51,7 +51,7 @@ impl JobKey {
         ensures { result.now ≡ self.now }
     {
         match self.payload.jid() {
-            Some(jid) => jid.text().as_bytes(),
+            Some(jid) => jid,
             None => &[],
         }
     }

@@ -22,7 +22,7 @@ use crate::tagged_payload::{TaggedPayload, tag_of};
 use sk_base::Score;
 use sk_cmd::Side;
 use sk_deques::UndoDeques;
-use sk_payload::Payload;
+use sk_payload::JobText;
 use sk_resp::Word;
 use std::alloc::Global;
 
@@ -74,7 +74,7 @@ impl RowLists {
     }
 
     /// The row of a queue or a private list at an index.
-    pub fn get_listed(&self, place: &Place, at: usize) -> (Score, &Payload)
+    pub fn get_listed(&self, place: &Place, at: usize) -> (Score, &JobText)
         requires lists { AreLists self.now }
         requires list { is_list place.now ≡ true }
         requires within { at < length (rows_at place.now (rows_in self.now).current) }
@@ -131,7 +131,7 @@ impl RowLists {
     }
 
     /// Puts a row in at an end of a queue or a private list.
-    pub fn put_listed(&mut self, place: &Place, score: Score, payload: Payload, end: Side)
+    pub fn put_listed(&mut self, place: &Place, score: Score, payload: JobText, end: Side)
         requires lists { AreLists self.old }
         requires list { is_list place.now ≡ true }
         requires ready { IsReady 1 place.now self.old }
@@ -165,7 +165,7 @@ impl RowLists {
     }
 
     /// Takes a row of a queue or a private list out and gives it to the caller. Takes no memory.
-    pub fn take_listed(&mut self, place: &Place, at: usize) -> (Score, Payload)
+    pub fn take_listed(&mut self, place: &Place, at: usize) -> (Score, JobText)
         requires lists { AreLists self.old }
         requires list { is_list place.now ≡ true }
         requires within { at < length (rows_at place.now (rows_in self.old).current) }
@@ -222,7 +222,7 @@ impl RowLists {
     }
 
     /// The same of a payload's text. Reads the texts of the rows with its tag alone.
-    pub fn position_of_payload(&self, place: &Place, payload: &Payload) -> usize
+    pub fn position_of_payload(&self, place: &Place, payload: &JobText) -> usize
         requires lists { AreLists self.now }
         requires list { is_list place.now ≡ true }
         ensures { result ≡ position_or_len (is_text payload.now) (rows_at place.now (rows_in self.now).current) }

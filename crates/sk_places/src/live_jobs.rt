@@ -13,7 +13,7 @@ ghost use Rattle.sk_places.specs.Totals.{accounted, count_end, last_push, pushes
 use crate::index::jid_of;
 use crate::job_key::{JobKey, OfJob};
 use crate::{Ending, Memory, Origin, Totals};
-use sk_payload::Payload;
+use sk_payload::JobText;
 use sk_undo::UndoSet;
 use std::alloc::Global;
 use std::marker::Model;
@@ -151,7 +151,7 @@ impl LiveJobs {
 
     /// A row of this payload is pushed. Its job lives from now on where it is fresh, and else is muddled. Clients push no more than 2^62 rows, and
     /// with the store's own there are no more than 2^63.
-    pub fn push(&mut self, payload: &Payload, from: Origin, fresh: bool) -> Result<(), Memory>
+    pub fn push(&mut self, payload: &JobText, from: Origin, fresh: bool) -> Result<(), Memory>
         requires { IsCountable from self.old.current.totals }
         ensures ok { OnOk result (self.new ≡ edited (pushed from (λ jid. fresh) payload.now self.old.current) self.old) }
         ensures err { OnErr result (self.new ≡ self.old) }
@@ -167,7 +167,7 @@ impl LiveJobs {
     }
 
     /// The id of the payload's job, where that is live, is kept in this payload from now on, so that an older one can go.
-    pub fn share_key(&mut self, payload: &Payload) -> Result<(), Memory>
+    pub fn share_key(&mut self, payload: &JobText) -> Result<(), Memory>
         ensures { self.new ≡ self.old }
     {
         let _len = self.live.len(); // its contract says that they are in order
@@ -179,7 +179,7 @@ impl LiveJobs {
     }
 
     /// The job of this payload ends, if it is live. Takes no memory.
-    pub fn end(&mut self, payload: &Payload, how: Ending)
+    pub fn end(&mut self, payload: &JobText, how: Ending)
         requires { self.old.saved ≡ None }
         ensures { self.new ≡ edited (ended how payload.now self.old.current) self.old }
     {
@@ -191,7 +191,7 @@ impl LiveJobs {
     }
 
     /// The same in an open step.
-    pub fn end_in_step(&mut self, payload: &Payload, how: Ending) -> Result<(), Memory>
+    pub fn end_in_step(&mut self, payload: &JobText, how: Ending) -> Result<(), Memory>
         ensures ok { OnOk result (self.new ≡ edited (ended how payload.now self.old.current) self.old) }
         ensures err { OnErr result (self.new ≡ self.old) }
     {

@@ -8,7 +8,7 @@ ghost use Rattle.sk_places.specs.RowFilter.{selects};
 use crate::row::{Place, RowKey};
 use crate::tagged_payload::TaggedPayload;
 use sk_base::Score;
-use sk_payload::Payload;
+use sk_payload::JobText;
 use sk_resp::Word;
 use sk_undo::Predicate;
 
@@ -22,7 +22,7 @@ pub enum RowFilter<'a> {
 }
 
 /// Whether the row is at the place and is wanted.
-pub fn selects(place: &Place, wanted: &RowFilter, entry: &(RowKey, Payload)) -> bool
+pub fn selects(place: &Place, wanted: &RowFilter, entry: &(RowKey, JobText)) -> bool
     ensures { result ≡ selects place.now wanted.now (as_row entry.now) }
 {
     let here = place.compare(&entry.0.place).is_eq();
@@ -41,10 +41,10 @@ pub struct Selection<'a, 'b> {
     pub wanted: &'a RowFilter<'b>,
 }
 
-impl<'a, 'b> Predicate<(RowKey, Payload)> for Selection<'a, 'b> {
+impl<'a, 'b> Predicate<(RowKey, JobText)> for Selection<'a, 'b> {
     ghost passes = { λ t e. selects t.place.now t.wanted.now (as_row e) };
 
-    fn test(&self, entry: &(RowKey, Payload)) -> bool {
+    fn test(&self, entry: &(RowKey, JobText)) -> bool {
         selects(self.place, self.wanted, entry)
     }
 }

@@ -20,7 +20,7 @@ use crate::tagged_payload::TaggedPayload;
 use sk_base::Score;
 use sk_cmd::Side;
 use sk_deques::UndoDeques;
-use sk_payload::Payload;
+use sk_payload::JobText;
 use sk_resp::Word;
 use sk_undo::{UndoList, UndoMap};
 use std::alloc::Global;
@@ -30,7 +30,7 @@ use std::alloc::Global;
 pub struct RowLists {
     pub names: UndoMap<Place, usize>,
     pub deques: UndoDeques<Score, TaggedPayload>,
-    pub sets: UndoList<RowKey, Payload>,
+    pub sets: UndoList<RowKey, JobText>,
     pub spare: Spare,
 }
 
@@ -76,7 +76,7 @@ impl RowLists {
     }
 
     /// The row of a place at an index.
-    pub fn get(&self, place: &Place, at: usize) -> (Score, &Payload)
+    pub fn get(&self, place: &Place, at: usize) -> (Score, &JobText)
         requires lists { AreLists self.now }
         requires ordered { is_ordered (rows_in self.now).current ≡ true }
         requires within { at < length (rows_at place.now (rows_in self.now).current) }
@@ -107,7 +107,7 @@ impl RowLists {
     }
 
     /// Puts a row in at an end of its place, which in a set is where its score and its text have it.
-    pub fn put(&mut self, row_key: RowKey, payload: Payload, end: Side)
+    pub fn put(&mut self, row_key: RowKey, payload: JobText, end: Side)
         requires lists { AreLists self.old }
         requires ordered { is_ordered (rows_in self.old).current ≡ true }
         requires ready { IsReady 1 row_key.place self.old }
@@ -140,7 +140,7 @@ impl RowLists {
     }
 
     /// Takes a row out and gives it to the caller. Takes no memory.
-    pub fn take(&mut self, place: &Place, at: usize) -> (Score, Payload)
+    pub fn take(&mut self, place: &Place, at: usize) -> (Score, JobText)
         requires lists { AreLists self.old }
         requires ordered { is_ordered (rows_in self.old).current ≡ true }
         requires within { at < length (rows_at place.now (rows_in self.old).current) }
@@ -157,7 +157,7 @@ impl RowLists {
     }
 
     /// Takes a row out, and puts this copy of it in at an end of another place, or of the same.
-    pub fn shift_copy(&mut self, from: &Place, at: usize, row_key: RowKey, copy: Payload, end: Side)
+    pub fn shift_copy(&mut self, from: &Place, at: usize, row_key: RowKey, copy: JobText, end: Side)
         requires lists { AreLists self.old }
         requires ordered { is_ordered (rows_in self.old).current ≡ true }
         requires within { at < length (rows_at from.now (rows_in self.old).current) }

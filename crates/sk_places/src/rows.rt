@@ -28,7 +28,7 @@ use crate::{Ending, LiveJobs, Memory, Origin};
 use sk_base::limits::MOST_ROWS;
 use sk_base::{Bound, Score};
 use sk_cmd::{Scored, Side};
-use sk_payload::Payload;
+use sk_payload::JobText;
 use sk_resp::Word;
 use sk_undo::UndoMultiset;
 use std::alloc::Global;
@@ -151,7 +151,7 @@ impl Rows {
     }
 
     /// The row of a place at an index.
-    pub fn get(&self, place: &Place, at: usize) -> (Score, &Payload)
+    pub fn get(&self, place: &Place, at: usize) -> (Score, &JobText)
         requires { at < length (rows_at place.now self.now.current) }
         ensures own { slice_get (rows_at place.now self.now.current) at ≡ Some (listed place.now (result.0, result.1.now)) }
         ensures there { slice_get self.now.current (start_of place.now self.now.current + at) ≡ Some (listed place.now (result.0, result.1.now)) }
@@ -181,7 +181,7 @@ impl Rows {
     }
 
     /// The same of a payload's text. In a queue or a private list it reads the texts of the rows with its tag alone.
-    pub fn position_of_payload(&self, place: &Place, payload: &Payload) -> usize
+    pub fn position_of_payload(&self, place: &Place, payload: &JobText) -> usize
         ensures { result ≡ position_or_len (is_text payload.now) (rows_at place.now self.now.current) }
     {
         match place {
@@ -248,7 +248,7 @@ impl Rows {
     pub fn push(
         &mut self,
         row_key: RowKey,
-        payload: Payload,
+        payload: JobText,
         end: Side,
         jobs: &mut LiveJobs,
         from: Origin,
@@ -277,7 +277,7 @@ impl Rows {
     }
 
     /// A row comes to an end of its place.
-    pub fn put_back(&mut self, row_key: RowKey, payload: Payload, end: Side) -> Result<(), Memory>
+    pub fn put_back(&mut self, row_key: RowKey, payload: JobText, end: Side) -> Result<(), Memory>
         ensures ok { OnOk result (self.new ≡ edited (put_row end (as_row (row_key, payload)) self.old.current) self.old) }
         ensures err { OnErr result (self.new ≡ self.old) }
     {
@@ -401,7 +401,7 @@ impl Rows {
     }
 
     /// Takes the row of a place at an index out and gives it to the caller. Takes no memory.
-    pub fn take(&mut self, place: &Place, at: usize) -> (Score, Payload)
+    pub fn take(&mut self, place: &Place, at: usize) -> (Score, JobText)
         requires within { at < length (rows_at place.now self.old.current) }
         requires closed { self.old.saved ≡ None }
         ensures row { slice_get (rows_at place.now self.old.current) at ≡ Some (listed place.now result) }

@@ -21,14 +21,14 @@ use crate::row_lists::RowLists;
 use crate::search::{AboveOf, Behind, FromPair, Passed, Reached, ReachedBy};
 use sk_base::{Bound, Score};
 use sk_cmd::{Scored, Side};
-use sk_payload::Payload;
+use sk_payload::JobText;
 use sk_resp::Word;
 use sk_undo::UndoList;
 use std::alloc::Global;
 
 // The index among the rows of sets at which a place's begin.
 #[tactic(auto, using(crate::proofs::Entries::position_map))]
-fn begin_of(sets: &UndoList<RowKey, Payload>, place: &Place) -> usize
+fn begin_of(sets: &UndoList<RowKey, JobText>, place: &Place) -> usize
     requires { is_ordered (as_rows sets.now.list.current) ≡ true }
     ensures { result ≡ start_of place.now (as_rows sets.now.list.current) }
 {
@@ -37,7 +37,7 @@ fn begin_of(sets: &UndoList<RowKey, Payload>, place: &Place) -> usize
 
 // The index among the rows of sets at which a place's have ended.
 #[tactic(auto, using(crate::proofs::Entries::position_map))]
-fn end_of(sets: &UndoList<RowKey, Payload>, place: &Place) -> usize
+fn end_of(sets: &UndoList<RowKey, JobText>, place: &Place) -> usize
     requires { is_ordered (as_rows sets.now.list.current) ≡ true }
     ensures { result ≡ position_or_len (λ row. is_lt (place_cmp place.now row.place)) (as_rows sets.now.list.current) }
 {
@@ -46,7 +46,7 @@ fn end_of(sets: &UndoList<RowKey, Payload>, place: &Place) -> usize
 
 // The index among the rows of sets at which a new one comes in.
 #[tactic(auto, using(crate::proofs::Entries::position_map))]
-fn place_for(sets: &UndoList<RowKey, Payload>, end: Side, row_key: &RowKey, text: &Word) -> usize
+fn place_for(sets: &UndoList<RowKey, JobText>, end: Side, row_key: &RowKey, text: &Word) -> usize
     requires { is_ordered (as_rows sets.now.list.current) ≡ true }
     ensures is { result ≡ position_or_len (λ row. not (stands_before end (as_row (row_key.now, text.now)) row)) (as_rows sets.now.list.current) }
     ensures within { result ≤ length sets.now.list.current }
@@ -79,7 +79,7 @@ impl RowLists {
     }
 
     /// The row of a set at an index.
-    pub fn get_set(&self, place: &Place, at: usize) -> (Score, &Payload)
+    pub fn get_set(&self, place: &Place, at: usize) -> (Score, &JobText)
         requires lists { AreLists self.now }
         requires set { is_list place.now ≡ false }
         requires ordered { is_ordered (as_rows self.now.sets.list.current) ≡ true }
@@ -91,7 +91,7 @@ impl RowLists {
     }
 
     /// Puts a row into a set.
-    pub fn put_set(&mut self, row_key: RowKey, payload: Payload, end: Side)
+    pub fn put_set(&mut self, row_key: RowKey, payload: JobText, end: Side)
         requires lists { AreLists self.old }
         requires set { is_list row_key.place ≡ false }
         requires ordered { is_ordered (as_rows self.old.sets.list.current) ≡ true }
@@ -119,7 +119,7 @@ impl RowLists {
     }
 
     /// Takes a row of a set out and gives it to the caller. Takes no memory.
-    pub fn take_set(&mut self, place: &Place, at: usize) -> (Score, Payload)
+    pub fn take_set(&mut self, place: &Place, at: usize) -> (Score, JobText)
         requires lists { AreLists self.old }
         requires set { is_list place.now ≡ false }
         requires ordered { is_ordered (as_rows self.old.sets.list.current) ≡ true }

@@ -2,7 +2,7 @@
 ghost use Rattle.std.specs.Prelude.{◌≡◌};
 ghost use Rattle.sk_places.specs.Tags.{number_at_end, tag_of};
 
-use sk_payload::Payload;
+use sk_payload::JobText;
 use std::marker::Model;
 
 // How many bytes at the end of an id or a text make its tag.
@@ -12,7 +12,7 @@ const TAG_BYTES: usize = 8;
 #[derive(Drop)]
 pub struct TaggedPayload {
     tag: u64,
-    payload: Payload,
+    payload: JobText,
 }
 
 impl Model for TaggedPayload {
@@ -40,18 +40,18 @@ fn number_at_end(bytes: &[u8]) -> u64
 }
 
 /// The tag of a payload's text. Takes constant time.
-pub fn tag_of(payload: &Payload) -> u64
+pub fn tag_of(payload: &JobText) -> u64
     ensures { result ≡ tag_of payload.now }
 {
     match payload.jid() {
-        Some(jid) => number_at_end(jid.text().as_bytes()),
+        Some(jid) => number_at_end(jid),
         None => number_at_end(payload.text().bytes()),
     }
 }
 
 impl TaggedPayload {
     /// Takes no memory.
-    pub fn of(payload: Payload) -> TaggedPayload
+    pub fn of(payload: JobText) -> TaggedPayload
         ensures { result ≡ payload }
     {
         TaggedPayload {
@@ -66,13 +66,13 @@ impl TaggedPayload {
         self.tag
     }
 
-    pub fn payload(&self) -> &Payload
+    pub fn payload(&self) -> &JobText
         ensures { result.now ≡ self.now }
     {
         &self.payload
     }
 
-    pub fn into_payload(self) -> Payload
+    pub fn into_payload(self) -> JobText
         ensures { result ≡ self }
     {
         self.payload

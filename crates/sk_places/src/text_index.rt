@@ -11,7 +11,7 @@ use crate::search::compare_scores;
 use crate::text_key::{TextKey, compare_text};
 use sk_base::Score;
 use sk_cmd::Scored;
-use sk_payload::Payload;
+use sk_payload::JobText;
 use sk_undo::{Query, UndoMultiset};
 use std::cmp::Ordering;
 
@@ -54,7 +54,7 @@ impl<'a> Query<TextKey> for OfScore<'a> {
 }
 
 /// The key of a row, where it is in a set. It shares the text.
-pub fn key_of(row_key: &RowKey, payload: &Payload) -> Result<Option<TextKey>, Memory>
+pub fn key_of(row_key: &RowKey, payload: &JobText) -> Result<Option<TextKey>, Memory>
     ensures { IfOk result (λ key. key ≡ key_at row_key.now.place row_key.now.score payload.now) }
 {
     match &row_key.place {
@@ -78,7 +78,7 @@ pub fn add_key(index: &mut TextIndex, key: Option<TextKey>)
 }
 
 /// Takes the key of one row out. An open step keeps it until it is closed.
-pub fn drop_key(index: &mut TextIndex, place: &Place, score: Score, payload: &Payload)
+pub fn drop_key(index: &mut TextIndex, place: &Place, score: Score, payload: &JobText)
     requires { 0 < index.old.room }
     ensures list { index.new.list ≡ edited (without_key (key_at place.now score payload.now) index.old.list.current) index.old.list }
     ensures room { index.old.room ≤ index.new.room + 1 }
@@ -93,7 +93,7 @@ pub fn drop_key(index: &mut TextIndex, place: &Place, score: Score, payload: &Pa
 }
 
 /// The same where no step is open. Takes no memory.
-pub fn take_key(index: &mut TextIndex, place: &Place, score: Score, payload: &Payload)
+pub fn take_key(index: &mut TextIndex, place: &Place, score: Score, payload: &JobText)
     requires { index.old.list.saved ≡ None }
     ensures { index.new.list ≡ edited (without_key (key_at place.now score payload.now) index.old.list.current) index.old.list }
 {

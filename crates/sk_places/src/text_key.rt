@@ -11,7 +11,7 @@ use crate::row::set_rank;
 use crate::search::compare_scores;
 use sk_base::Score;
 use sk_cmd::Scored;
-use sk_payload::Payload;
+use sk_payload::JobText;
 use sk_resp::compare_bytes;
 use std::cmp::Ordering;
 
@@ -19,7 +19,7 @@ use std::cmp::Ordering;
 #[derive(Drop)]
 pub struct TextKey {
     pub set: Scored,
-    pub payload: Payload,
+    pub payload: JobText,
     pub score: Score,
 }
 

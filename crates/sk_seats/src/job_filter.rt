@@ -4,8 +4,8 @@ ghost use Rattle.std.specs.Prelude.{◌≡◌, [], IfOk, length, replicate};
 ghost use Rattle.sk_seats.specs.JobFilter.{changed, is_counted as is_counted_in, lowered, may_have, mixed, number_of, place_of, places_of, raised, with_job, with_jobs, without_job, without_jobs};
 
 use crate::work::Work;
-use sk_payload::Payload;
-use sk_resp::{Memory, Text};
+use sk_payload::JobText;
+use sk_resp::Memory;
 use std::alloc::Global;
 use std::marker::Model;
 
@@ -50,11 +50,11 @@ fn mixed(number: usize, byte: u8) -> usize
 
 // The number of an id.
 #[tactic(auto, unfolding(crate::specs::JobFilter::number_of))]
-fn number_of(jid: &Text) -> usize
+fn number_of(jid: &[u8]) -> usize
     ensures { result ≡ number_of jid.now }
 {
     let mut number = 0;
-    for byte in jid.text().as_bytes() {
+    for byte in jid {
         number = mixed(number, *byte);
     }
     number
@@ -69,7 +69,7 @@ fn place_of(number: usize, size: usize) -> usize
 }
 
 // The places of a job among so many.
-fn places_of(jid: &Text, size: usize) -> Places
+fn places_of(jid: &[u8], size: usize) -> Places
     ensures { result ≡ places_of jid.now size }
 {
     let number = number_of(jid);
@@ -135,7 +135,7 @@ impl JobFilter {
     }
 
     /// Whether a seat may have the job. Constant.
-    pub fn may_have(&self, jid: &Text) -> bool
+    pub fn may_have(&self, jid: &[u8]) -> bool
         ensures { result ≡ may_have jid.now self.now }
     {
         let places = places_of(jid, self.counts.len());
@@ -163,7 +163,7 @@ impl JobFilter {
     }
 
     /// Counts the job of a payload. Constant, and takes no memory.
-    pub fn add(&mut self, payload: &Payload)
+    pub fn add(&mut self, payload: &JobText)
         ensures { self.new ≡ with_job payload.now self.old }
     {
         if let Some(jid) = payload.jid() {
@@ -175,7 +175,7 @@ impl JobFilter {
     }
 
     /// No longer counts the job of a payload. Constant, and takes no memory.
-    pub fn remove(&mut self, payload: &Payload)
+    pub fn remove(&mut self, payload: &JobText)
         ensures { self.new ≡ without_job payload.now self.old }
     {
         if let Some(jid) = payload.jid() {

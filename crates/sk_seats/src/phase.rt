@@ -8,7 +8,7 @@ ghost use Rattle.sk_seats.specs.declared.work.Work.{Work};
 use crate::job_filter::JobFilter;
 use crate::work::Stage;
 use crate::works::Works;
-use sk_payload::Payload;
+use sk_payload::JobText;
 use sk_resp::Text;
 
 /// What a seat is doing. A seat is one connection: a client's, or that of one thread of a worker process.
@@ -22,7 +22,7 @@ pub enum Phase {
 
 impl Phase {
     /// A worker's seat has fetched a job. Takes no memory.
-    pub(crate) fn hold(&mut self, payload: Payload)
+    pub(crate) fn hold(&mut self, payload: JobText)
         requires { length (works_of self.old) < most_works }
         ensures { self.new ≡ holding payload self.old }
     {

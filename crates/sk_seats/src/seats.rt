@@ -17,7 +17,7 @@ use crate::phase::Phase;
 use crate::work::Stage;
 use crate::works::Works;
 use sk_base::limits::MOST_PREFETCH;
-use sk_payload::Payload;
+use sk_payload::JobText;
 use sk_resp::{Memory, Text};
 use std::alloc::Global;
 use std::collections::BTreeMap;
@@ -76,17 +76,17 @@ impl Seats {
     /// Whether some seat has a payload of this payload's job. Constant where none has, for all but about one in ten thousand jobs: else the workers'
     /// seats are looked at, one after another.
     #[tactic(auto, using(crate::proofs::Seating::among_values))]
-    pub fn have(&self, payload: &Payload) -> bool
+    pub fn have(&self, payload: &JobText) -> bool
         ensures { result ≡ held_by self.now payload.now }
     {
-        let Some(head) = payload.head() else {
+        let Some(jid) = payload.jid() else {
             return false;
         };
-        if !self.in_hands.may_have(&head.jid) {
+        if !self.in_hands.may_have(jid) {
             return false;
         }
         for phase in self.phases.values() {
-            if has(phase, &head.jid) {
+            if has(phase, jid) {
                 return true;
             }
         }
@@ -130,7 +130,7 @@ impl Seats {
     }
 
     /// A worker's seat has fetched a job. Takes no memory.
-    pub fn hold(&mut self, seat: u32, payload: Payload)
+    pub fn hold(&mut self, seat: u32, payload: JobText)
         requires joined { is_plain (phase_in self.old seat) ≡ false }
         requires room { length (works_of (phase_in self.old seat)) < most_works }
         ensures { self.new ≡ turned seat (holding payload (phase_in self.old seat)) self.old }
@@ -213,17 +213,17 @@ fn counted(alloc: Global, phases: &BTreeMap<u32, Phase>, size: usize) -> Result<
 fn let_go(_phase: Option<Phase>) {}
 
 // The payload's head names the job.
-fn names(payload: &Payload, jid: &Text) -> bool
+fn names(payload: &JobText, jid: &[u8]) -> bool
     ensures { result ≡ names payload.now jid.now }
 {
-    match payload.head() {
-        Some(head) => head.jid.text().as_bytes() == jid.text().as_bytes(),
+    match payload.jid() {
+        Some(named) => named == jid,
         None => false,
     }
 }
 
 // The seat has a payload of the job.
-fn has(phase: &Phase, jid: &Text) -> bool
+fn has(phase: &Phase, jid: &[u8]) -> bool
     ensures { result ≡ has jid.now phase.now }
 {
     match phase {

@@ -1,5 +1,5 @@
 // A job in a worker's hands, and how far it has come.
-use sk_payload::Payload;
+use sk_payload::JobText;
 
 /// How a worker is done with a job.
 #[derive(Clone, Copy, Debug, PartialEq, Eq)]
@@ -25,7 +25,7 @@ pub enum Stage {
 #[derive(Drop)]
 pub struct Work {
     /// The job as it was fetched.
-    pub payload: Payload,
+    pub payload: JobText,
     /// How far it has come.
     pub stage: Stage,
 }

@@ -5,7 +5,7 @@ ghost use Rattle.std.specs.List.{position};
 
 use crate::work::{Stage, Work};
 use sk_base::limits::MOST_PREFETCH;
-use sk_payload::{Payload, follows};
+use sk_payload::JobText;
 use sk_resp::{Memory, Word};
 use std::alloc::Global;
 use std::marker::Model;
@@ -39,11 +39,11 @@ fn is_held(stage: Stage) -> bool
 }
 
 // A failed text may be buried, and a payload itself that has no head.
-fn may_bury(payload: &Payload, next: &Payload) -> bool
+fn may_bury(payload: &JobText, next: &JobText) -> bool
     ensures { result ≡ may_bury payload.now next.now }
 {
     let is_same = payload.text().bytes() == next.text().bytes();
-    follows(payload, next) || is_same && payload.head().is_none()
+    payload.is_followed_by(next) || is_same && payload.head().is_none()
 }
 
 impl Works {
@@ -95,17 +95,15 @@ impl Works {
     }
 
     /// The index of the first that is held and that this payload follows after a failure.
-    pub fn find_retried(&self, next: &Payload) -> Option<usize>
+    pub fn find_retried(&self, next: &JobText) -> Option<usize>
         ensures is { result ≡ position (is_retried_as next.now) self.now }
         ensures within { IfSome result (λ at. at < length self.now) }
     {
-        self.list
-            .iter()
-            .position(|work| is_held(work.stage) && follows(&work.payload, next))
+        self.list.iter().position(|work| is_held(work.stage) && work.payload.is_followed_by(next))
     }
 
     /// The index of the first that is held and that this payload follows after a failure, or equals, where that has no head.
-    pub fn find_buried(&self, next: &Payload) -> Option<usize>
+    pub fn find_buried(&self, next: &JobText) -> Option<usize>
         ensures is { result ≡ position (is_buried_as next.now) self.now }
         ensures within { IfSome result (λ at. at < length self.now) }
     {
@@ -122,7 +120,7 @@ impl Works {
     }
 
     /// A job was fetched.
-    pub(crate) fn hold(&mut self, payload: Payload)
+    pub(crate) fn hold(&mut self, payload: JobText)
         requires { length self.old < most_works }
         ensures { self.new ≡ self.old ++ held payload ∷ [] }
     {

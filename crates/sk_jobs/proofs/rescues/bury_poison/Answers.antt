@@ -21,7 +21,7 @@ returns-clause-ok c = λ row found h named.
     let same_text : c.text.result.now ≡ c.args.payload.now = c.text.ensures in
     let gone : new ≡ changed mid (Forgets h.jid) = elim c.match-head.branch [
       | in-Some+in_ok-forget u ↦ (
-          let same : u.in-Some.head.now ≡ h = same_head u.in-Some.head.now h (head_of c.args.payload.now) u.in-Some.ensures.value there in
+          let same : u.in-Some.head ≡ h = same_head u.in-Some.head h (head_of c.args.payload.now) u.in-Some.ensures there in
           ap world u.store-is ∙ ap (λ s. record mid { leases = s.current }) u.in_ok-forget.ensures.ok ∙ ap (λ (o : Head). record mid { leases = forgotten o.jid mid.leases }) same
           )
       | in_default u ↦ absurd (cc there)

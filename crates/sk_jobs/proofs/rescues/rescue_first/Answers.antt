@@ -18,12 +18,12 @@ pub returns-then-recoveries-ge-MOST_RECOVERIES-clause-ok : goal.returns-then-rec
 returns-then-recoveries-ge-MOST_RECOVERIES-clause-ok c =
     if_ok _ _ c.bury_poison.result (λ report ok. λ row more front.
     let s = c.args.store.now in
-    let h = c.in-Some-head.head.now in
+    let h = c.in-Some-head.head in
     let old : World = world s in
     let mid : World = world (record s { leases = c.recovered.new.self }) in
     let new : World = world c.bury_poison.new.store in
     let text : c.in-Some.payload.now ≡ row.text = front_text c.args.list.now row more old.rows (c.in-Some.field-0-0, c.in-Some.payload.now) front c.in-Some.ensures in
-    let named : head_of row.text ≡ Some h = ap head_of (sym text) ∙ sym c.in-Some-head.ensures.value in
+    let named : head_of row.text ≡ Some h = ap head_of (sym text) ∙ sym c.in-Some-head.ensures in
     let found : row_of c.in_ok-payload.payload (rows_at c.args.list.now old.rows) ≡ Some row = front_named c.in_ok-payload.payload row more (rows_at c.args.list.now old.rows) front (c.in_ok-payload.ensures ∙ text) in
     let leases = ap (λ l. l.current) c.in_ok-recoveries.ensures.ok in
     let noted : mid ≡ changed old (Recovers h.jid) = ap (λ l. record old { leases = l }) leases in

@@ -4,4 +4,4 @@ use Rattle.sk_seats.proofs.job_filter.number_of.Given as goal
 
 -- the bytes that are left lead to the same number
 abbrev pub invariant-loop-byte : goal.invariant-loop-byte
-invariant-loop-byte l = number_from l.number (drop l.byte-index l.byte-items) ≡ number_from 0 l.jid
+invariant-loop-byte l = number_from l.number (drop l.byte-index l.jid) ≡ number_from 0 l.jid
