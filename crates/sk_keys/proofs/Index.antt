@@ -2,16 +2,19 @@
 use Rattle.std.proofs.Common.{◌≡◌, ◌≤◌, ℕ, refl, sym, ap, ◌∙◌, subst, arith, Bool, true, false, nat_eq}
 use Rattle.std.specs.Ordering.{nat_cmp, ordering_then, is_gt, is_eq}
 use Rattle.std.specs.declared.cmp.Ordering.{Ordering}
-use Rattle.std.specs.Prelude.{IsSome, Option, Some, None, ◌==◌, ◌&&◌, cond}
+use Rattle.std.specs.Prelude.{Option, Some, None, option_map, ◌==◌, ◌&&◌, cond}
 use Rattle.std.specs.Option.{option_eq}
 use Rattle.std.specs.declared.cmp.Ordering.TheVariants.{Less, Equal, Greater}
-use Rattle.std.specs.BTreeMap.{BTreeMap, WritesThrough, is_at}
+use Rattle.std.specs.BTreeMap.{is_at}
+use Rattle.std.specs.List.Sorted.{IsStrictlySortedBy}
+use Rattle.std.specs.Map.{keys_of, set_value}
 use Rattle.std.specs.BTreeSet.{BTreeSet}
 use Rattle.std.proofs.lemmas.Map.Lookups.{exact_bytes}
 use Rattle.sk_resp.specs.Spelling.{Bytes}
 use Rattle.sk_value.specs.declared.entry.Entry.{Entry}
 use Rattle.sk_resp.specs.WordOrder.{text_cmp}
-use Rattle.sk_value.specs.Keys.{Keys, at}
+use Rattle.sk_value.specs.Keys.{Keys, at, put, without}
+use Rattle.sk_table.proofs.Ordered.{at_set, at_with, at_without}
 use Rattle.sk_keys.specs.Index.{Expiry, expiry_cmp, has, is_moment, goes_at, HasExpiry, SetsExpiry, AddsExpiry, DropsExpiry, IsIndexed}
 
 pub equal_at : (o : Ordering) → is_eq o ≡ true → o ≡ Equal
@@ -108,5 +111,22 @@ index_edited name old new keys after expiries indexed there stays holds = λ mom
     holding : goes_at moment (at other after) ≡ goes_at moment (cond (is_at (text_cmp name) other) (Some new) (at other keys)) → has moment other expiries ≡ goes_at moment (at other after)
     holding e = grind (arith, e, is, stays, has_at moment name other expiries is, indexed moment name, there)
 
-pub index_written : (name : Bytes) (old new : Entry) (before after : BTreeMap Bytes Entry) (expiries : BTreeSet Expiry) → IsIndexed before.entries expiries → Some old ≡ at name before.entries → new.deadline ≡ old.deadline → WritesThrough text_cmp (text_cmp name) before new after → IsIndexed after.entries expiries
-index_written name old new before after expiries indexed there stays writes = index_edited name old new before.entries after.entries expiries indexed (sym there) stays ((writes.3 (subst (λ (held : Option Entry). IsSome held) there refl)).0)
+pub holds_set : (name : Bytes) (old new : Entry) (keys : Keys) → Some old ≡ at name keys → Holds name (Some new) keys (set_value (is_at (text_cmp name)) keys new)
+holds_set name old new keys there = λ other. at_set name other new keys ∙ ap (λ held. cond (is_at (text_cmp name) other) (option_map (λ _. new) held) (at other keys)) (sym there)
+
+-- another value comes with its pair
+pub index_set : (name : Bytes) (new : Entry) (keys after : Keys) (expiries more : BTreeSet Expiry) → IsIndexed keys expiries → SetsExpiry name new.deadline expiries more → Holds name (Some new) keys after → IsIndexed after more
+index_set name new keys after expiries more indexed sets holds = λ moment other. at_other moment other (is_at (text_cmp name) other) refl where
+  at_other : (moment : ℕ) (other : Bytes) (b : Bool) → is_at (text_cmp name) other ≡ b → has moment other more ≡ goes_at moment (at other after)
+  at_other moment other false is = grind (arith, is, holds other, sets moment other, indexed moment other)
+  at_other moment other true is = grind (arith, is, holds other, sets moment other)
+
+pub holds_put : (name : Bytes) (entry : Entry) (keys : Keys) → Holds name (Some entry) keys (put name entry keys)
+holds_put name entry keys = λ other. at_with name other entry keys
+
+pub holds_without : (name : Bytes) (keys : Keys) → IsStrictlySortedBy text_cmp (keys_of keys) → Holds name None keys (without name keys)
+holds_without name keys up = λ other. at_without name other keys up
+
+pub index_written : (name : Bytes) (old new : Entry) (keys after : Keys) (expiries : BTreeSet Expiry) → IsIndexed keys expiries → Some old ≡ at name keys → new.deadline ≡ old.deadline → after ≡ set_value (is_at (text_cmp name)) keys new → IsIndexed after expiries
+index_written name old new keys after expiries indexed there stays written =
+    index_edited name old new keys after expiries indexed (sym there) stays (subst (Holds name (Some new) keys) (sym written) (holds_set name old new keys there))

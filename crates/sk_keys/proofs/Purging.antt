@@ -1,10 +1,12 @@
 -- What a purge leaves.
 use Rattle.std.proofs.Common.{◌≡◌, ℕ, [], ◌∷◌, refl, sym, ap, ◌∙◌, arith, true, false, suc, slice_get}
 use Rattle.std.specs.Prelude.{Option, Some, None, nat_lt}
-use Rattle.std.specs.BTreeMap as tree
-use Rattle.std.specs.BTreeMap.{BTreeMap}
+use Rattle.std.specs.Cmp.{eq_by_cmp_equiv}
+use Rattle.std.specs.List.Sorted.{IsStrictlySortedBy}
+use Rattle.std.specs.Map.{keys_of}
 use Rattle.std.specs.BTreeSet.{BTreeSet}
-use Rattle.std.proofs.lemmas.Map.Entries.{btree_map_get_place}
+use Rattle.std.proofs.lemmas.Map.Entries.{lookup_from_place}
+use Rattle.std.proofs.lemmas.Map.Keys.{IsDistinct-from_sorted}
 use Rattle.std.proofs.lemmas.Cmp.{nat_list_cmp_total}
 use Rattle.sk_resp.specs.Spelling.{Bytes}
 use Rattle.sk_value.specs.declared.entry.Entry.{Entry}
@@ -36,7 +38,7 @@ not_over now name None expiries clear is = refl
 not_over now name (Some deadline) expiries clear is = let ahead = clear deadline name (grind (arith, is deadline)) in grind (arith, ahead)
 
 -- where each deadline is ahead, a purge leaves all
-pub purge_clear : (now : ℕ) (entries : BTreeMap Bytes Entry) (expiries : BTreeSet Expiry) → tree.IsOrdered text_cmp entries → IsIndexed entries.entries expiries → IsClear now expiries → purged now entries.entries ≡ entries.entries
-purge_clear now entries expiries ordered indexed clear = purge_nothing now entries.entries (λ i key is.
-    let there : at key.0 entries.entries ≡ Some key.1 = btree_map_get_place nat_list_cmp_total entries i key.0 key.1 ordered is in
+pub purge_clear : (now : ℕ) (keys : Keys) (expiries : BTreeSet Expiry) → IsStrictlySortedBy text_cmp (keys_of keys) → IsIndexed keys expiries → IsClear now expiries → purged now keys ≡ keys
+purge_clear now keys expiries up indexed clear = purge_nothing now keys (λ i key is.
+    let there : at key.0 keys ≡ Some key.1 = lookup_from_place (eq_by_cmp_equiv nat_list_cmp_total) keys i key.0 key.1 (IsDistinct-from_sorted text_cmp (keys_of keys) up) is in
     not_over now key.0 key.1.deadline expiries clear (λ moment. indexed moment key.0 ∙ ap (goes_at moment) there))

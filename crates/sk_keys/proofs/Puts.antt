@@ -1,5 +1,5 @@
 -- Edits of the keys at one name.
-use Rattle.std.proofs.Common.{◌≡◌, [], ◌∷◌, refl, arith}
+use Rattle.std.proofs.Common.{◌≡◌, ◌+◌, [], ◌∷◌, length, refl, arith}
 use Rattle.std.specs.Prelude.{Some, None}
 use Rattle.std.specs.Map.{set_value, keys_of}
 use Rattle.std.specs.BTreeMap.{is_at}
@@ -29,3 +29,7 @@ without_set name entry (key ∷ keys) = grind (arith, without_set name entry key
 pub without_absent : (name : Bytes) (keys : Keys) → at name keys ≡ None → without name keys ≡ keys
 without_absent name [] none = refl
 without_absent name (key ∷ keys) none = grind (arith, without_absent name keys)
+
+pub count_without : (name : Bytes) (entry : Entry) (keys : Keys) → at name keys ≡ Some entry → length (without name keys) + 1 ≡ length keys
+count_without name entry [] there = cc
+count_without name entry (key ∷ keys) there = grind (arith, count_without name entry keys)

@@ -24,11 +24,11 @@ pub fn act(
     now: u64,
     action: Action,
 ) -> Result<Reply, KeysFault>
-    requires { IsIndexed entries.old.entries expiries.old }
-    ensures answer { AnswersWith (applied now action entries.old.entries).answer result }
-    ensures ok { OnOk result (entries.new.entries ≡ (applied now action entries.old.entries).keys) }
-    ensures err { OnErr result (entries.new.entries ≡ entries.old.entries) }
-    ensures indexed { IsIndexed entries.new.entries expiries.new }
+    requires { IsIndexed entries.old expiries.old }
+    ensures answer { AnswersWith (applied now action entries.old).answer result }
+    ensures ok { OnOk result (entries.new ≡ (applied now action entries.old).keys) }
+    ensures err { OnErr result (entries.new ≡ entries.old) }
+    ensures indexed { IsIndexed entries.new expiries.new }
 {
     match action {
         Action::Ping => Ok(Reply::Say(Say::Pong)),

@@ -13,13 +13,14 @@ use sk_value::counted;
 
 /// Removes a key with its deadline, and answers whether it was there.
 pub fn remove(entries: &mut Entries, expiries: &mut Expiries, name: &Word) -> bool
-    requires { IsIndexed entries.old.entries expiries.old }
-    ensures was { result ≡ is_some (at name.now entries.old.entries) }
-    ensures rest { entries.new.entries ≡ without name.now entries.old.entries }
-    ensures count { length entries.new.entries + (if result then 1 else 0) ≡ length entries.old.entries }
-    ensures indexed { IsIndexed entries.new.entries expiries.new }
+    requires { IsIndexed entries.old expiries.old }
+    ensures was { result ≡ is_some (at name.now entries.old) }
+    ensures rest { entries.new ≡ without name.now entries.old }
+    ensures count { length entries.new + (if result then 1 else 0) ≡ length entries.old }
+    ensures indexed { IsIndexed entries.new expiries.new }
 {
-    let Some((name, entry)) = entries.remove_entry(name) else {
+    entries.in_order();
+    let Some((name, entry)) = entries.remove(name) else {
         return false;
     };
     drop_expiry(expiries, name, entry.deadline);
@@ -28,30 +29,35 @@ pub fn remove(entries: &mut Entries, expiries: &mut Expiries, name: &Word) -> bo
 
 /// Removes all keys.
 pub fn clear(entries: &mut Entries, expiries: &mut Expiries)
-    ensures keys { entries.new.entries ≡ [] }
-    ensures indexed { IsIndexed entries.new.entries expiries.new }
+    ensures keys { entries.new ≡ [] }
+    ensures indexed { IsIndexed entries.new expiries.new }
 {
     entries.clear();
     expiries.clear();
 }
 
 /// Removes each key in turn, and answers how many were there.
+#[tactic(auto, using(crate::proofs::Puts::without_absent, crate::proofs::Puts::count_without))]
 pub fn delete(entries: &mut Entries, expiries: &mut Expiries, names: &Words) -> Reply
-    requires { IsIndexed entries.old.entries expiries.old }
-    ensures answer { result ≡ counted (length entries.old.entries - length (without_all names.now entries.old.entries)) }
-    ensures keys { entries.new.entries ≡ without_all names.now entries.old.entries }
-    ensures indexed { IsIndexed entries.new.entries expiries.new }
+    requires { IsIndexed entries.old expiries.old }
+    ensures answer { result ≡ counted (length entries.old - length (without_all names.now entries.old)) }
+    ensures keys { entries.new ≡ without_all names.now entries.old }
+    ensures indexed { IsIndexed entries.new expiries.new }
 {
-    let before = entries.len();
-    for name in names.list() {
-        remove(entries, expiries, name);
+    let list = names.list();
+    let _len = list.len(); // for what it says of their number
+    let mut count = 0;
+    for name in list {
+        if remove(entries, expiries, name) {
+            count += 1;
+        }
     }
-    Reply::Int((before - entries.len()) as i64)
+    counted(count)
 }
 
 // Whether the key holds a string, and exactly this one.
 fn holds_string(entries: &Entries, name: &Word, text: &Word) -> bool
-    ensures { result ≡ holds_string text.now (at name.now entries.now.entries) }
+    ensures { result ≡ holds_string text.now (at name.now entries.now) }
 {
     match entries.get(name) {
         Some(there) => there.value.is_string(text),
@@ -62,10 +68,10 @@ fn holds_string(entries: &Entries, name: &Word, text: &Word) -> bool
 /// Removes a key that holds exactly this string, and answers whether it did. Any other stays. Takes no memory.
 #[tactic(auto, unfolding(sk_value::specs::Apply::give_at))]
 pub fn give(entries: &mut Entries, expiries: &mut Expiries, name: &Word, text: &Word) -> Reply
-    requires { IsIndexed entries.old.entries expiries.old }
-    ensures answer { Ok result ≡ (give_at text.now (at name.now entries.old.entries)).answer }
-    ensures keys { entries.new.entries ≡ changed name.now (give_at text.now (at name.now entries.old.entries)).change entries.old.entries }
-    ensures indexed { IsIndexed entries.new.entries expiries.new }
+    requires { IsIndexed entries.old expiries.old }
+    ensures answer { Ok result ≡ (give_at text.now (at name.now entries.old)).answer }
+    ensures keys { entries.new ≡ changed name.now (give_at text.now (at name.now entries.old)).change entries.old }
+    ensures indexed { IsIndexed entries.new expiries.new }
 {
     if !holds_string(entries, name, text) {
         return Reply::Int(0);
@@ -76,18 +82,15 @@ pub fn give(entries: &mut Entries, expiries: &mut Expiries, name: &Word, text: &
 
 // How many of the words name a key.
 fn count_there(entries: &Entries, names: &[Word]) -> usize
-    ensures is { result ≡ how_many (λ name. at name entries.now.entries) names.now }
+    ensures is { result ≡ how_many (λ name. at name entries.now) names.now }
     ensures few { result ≤ length names.now }
 {
-    names
-        .iter()
-        .filter(|name| entries.contains_key(*name))
-        .count()
+    names.iter().filter(|name| entries.has(*name)).count()
 }
 
 /// Answers how many of the words name a key. Repeats are counted.
 pub fn exists(entries: &Entries, names: &Words) -> Reply
-    ensures { result ≡ counted (how_many (λ name. at name entries.now.entries) names.now) }
+    ensures { result ≡ counted (how_many (λ name. at name entries.now) names.now) }
 {
     let names = names.list();
     let _len = names.len(); // for what it says of their number

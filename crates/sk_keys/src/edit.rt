@@ -22,11 +22,11 @@ pub fn edit(
     name: Word,
     edit: WriteOp,
 ) -> Result<Reply, KeysFault>
-    requires { IsIndexed entries.old.entries expiries.old }
-    ensures answer { AnswersWith (edit_at edit (at name entries.old.entries)).answer result }
-    ensures ok { OnOk result (entries.new.entries ≡ changed name (edit_at edit (at name entries.old.entries)).change entries.old.entries) }
-    ensures err { OnErr result (entries.new.entries ≡ entries.old.entries) }
-    ensures indexed { IsIndexed entries.new.entries expiries.new }
+    requires { IsIndexed entries.old expiries.old }
+    ensures answer { AnswersWith (edit_at edit (at name entries.old)).answer result }
+    ensures ok { OnOk result (entries.new ≡ changed name (edit_at edit (at name entries.old)).change entries.old) }
+    ensures err { OnErr result (entries.new ≡ entries.old) }
+    ensures indexed { IsIndexed entries.new expiries.new }
 {
     let Some(there) = entries.get_mut(&name) else {
         return edit_new(alloc, entries, expiries, name, edit);
@@ -47,12 +47,12 @@ fn edit_new(
     name: Word,
     edit: WriteOp,
 ) -> Result<Reply, KeysFault>
-    requires indexed { IsIndexed entries.old.entries expiries.old }
-    requires absent { at name entries.old.entries ≡ None }
+    requires indexed { IsIndexed entries.old expiries.old }
+    requires absent { at name entries.old ≡ None }
     ensures answer { AnswersWith (edit_at edit None).answer result }
-    ensures ok { OnOk result (entries.new.entries ≡ changed name (edit_at edit None).change entries.old.entries) }
-    ensures err { OnErr result (entries.new.entries ≡ entries.old.entries) }
-    ensures indexed { IsIndexed entries.new.entries expiries.new }
+    ensures ok { OnOk result (entries.new ≡ changed name (edit_at edit None).change entries.old) }
+    ensures err { OnErr result (entries.new ≡ entries.old) }
+    ensures indexed { IsIndexed entries.new expiries.new }
 {
     let mut value = edit.blank(alloc)?;
     let reply = value.edit(alloc, edit)?;

@@ -60,11 +60,11 @@ pub fn expire(
     name: Word,
     millis: i64,
 ) -> Result<Reply, KeysFault>
-    requires { IsIndexed entries.old.entries expiries.old }
-    ensures answer { AnswersWith (expires_at now millis (at name entries.old.entries)).answer result }
-    ensures ok { OnOk result (entries.new.entries ≡ changed name (expires_at now millis (at name entries.old.entries)).change entries.old.entries) }
-    ensures err { OnErr result (entries.new.entries ≡ entries.old.entries) }
-    ensures indexed { IsIndexed entries.new.entries expiries.new }
+    requires { IsIndexed entries.old expiries.old }
+    ensures answer { AnswersWith (expires_at now millis (at name entries.old)).answer result }
+    ensures ok { OnOk result (entries.new ≡ changed name (expires_at now millis (at name entries.old)).change entries.old) }
+    ensures err { OnErr result (entries.new ≡ entries.old) }
+    ensures indexed { IsIndexed entries.new expiries.new }
 {
     if millis < 1 {
         return Ok(Reply::Int(i64::from(remove(entries, expiries, &name))));

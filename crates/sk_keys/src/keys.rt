@@ -1,4 +1,4 @@
-// The plain keys: an ordered map from the name, and beside it the index of their deadlines.
+// The plain keys: a table by the names' hashes, and beside it the index of their deadlines.
 ghost use Rattle.std.specs.Prelude.{◌≡◌, [], OnErr, OnOk};
 ghost use Rattle.std.specs.Option.{is_some};
 ghost use Rattle.sk_value.specs.Action.{action_of};
@@ -13,14 +13,15 @@ use crate::expiries::{Expiries, has_expired};
 use crate::removed::RemovedKeys;
 use sk_cmd::PlainCommand;
 use sk_resp::{Reply, Word};
+use sk_table::TextTable;
 use sk_value::{Action, Entry, KeysFault, action_of};
 use std::alloc::Global;
-use std::collections::{BTreeMap, BTreeSet};
+use std::collections::BTreeSet;
 use std::marker::Model;
 use std::mem;
 
 /// What stands under each name.
-pub type Entries = BTreeMap<Word, Entry>;
+pub type Entries = TextTable<Word, Entry>;
 
 /// The plain keys, each with a value and perhaps a deadline. Contracts see the list of them, in the order of the names' bytes.
 #[derive(Drop)]
@@ -38,25 +39,26 @@ impl Model for Keys {
 
     ghost Value = { List (List ℕ × Entry) };
 
-    ghost view = { λ keys. keys.entries.entries };
+    ghost view = { λ keys. keys.entries };
 
     ghost use Rattle.sk_keys.specs.Index.{IsIndexed};
 
-    ghost invariant = { λ keys. IsIndexed keys.entries.entries keys.expiries };
+    ghost invariant = { λ keys. IsIndexed keys.entries keys.expiries };
 }
 
 // Removes each key whose deadline is over. What stays isn't looked at.
 fn purge(entries: &mut Entries, expiries: &mut Expiries, now: u64)
-    requires { IsIndexed entries.old.entries expiries.old }
-    ensures keys { entries.new.entries ≡ purged now entries.old.entries }
-    ensures indexed { IsIndexed entries.new.entries expiries.new }
+    requires { IsIndexed entries.old expiries.old }
+    ensures keys { entries.new ≡ purged now entries.old }
+    ensures indexed { IsIndexed entries.new expiries.new }
 {
     while has_expired(expiries, now) {
         if let Some((_, name)) = expiries.pop_first() {
+            entries.in_order();
             entries.remove(&name);
         }
     }
-    let _count = entries.len(); // its contract says that the names ascend
+    entries.in_order();
 }
 
 impl Keys {
@@ -66,7 +68,7 @@ impl Keys {
     {
         Keys {
             alloc,
-            entries: BTreeMap::new(alloc),
+            entries: TextTable::new(alloc),
             expiries: BTreeSet::new(alloc),
             removed: None,
         }
@@ -83,7 +85,7 @@ impl Keys {
     pub fn has(&self, name: &Word) -> bool
         ensures { result ≡ is_some (at name.now self.now) }
     {
-        self.entries.contains_key(name)
+        self.entries.has(name)
     }
 
     /// Removes a key, and answers whether it was there. Takes no memory.
@@ -99,7 +101,7 @@ impl Keys {
         ensures { self.new ≡ [] }
     {
         self.removed = Some(RemovedKeys {
-            entries: mem::replace(&mut self.entries, BTreeMap::new(self.alloc)),
+            entries: mem::replace(&mut self.entries, TextTable::new(self.alloc)),
             expiries: mem::replace(&mut self.expiries, BTreeSet::new(self.alloc)),
         });
     }

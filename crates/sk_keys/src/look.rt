@@ -16,7 +16,7 @@ pub fn look(
     name: &Word,
     look: &ReadOp,
 ) -> Result<Reply, KeysFault>
-    ensures { AnswersWith (look_at now look.now (at name.now entries.now.entries)) result }
+    ensures { AnswersWith (look_at now look.now (at name.now entries.now)) result }
 {
     match entries.get(name) {
         None => Ok(look.absent(alloc)),

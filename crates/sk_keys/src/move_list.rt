@@ -1,7 +1,8 @@
 // `LMOVE source destination LEFT|RIGHT LEFT|RIGHT`. A copy of the text goes to the destination first, which may fail with nothing changed. Only
 // then the text is taken from the source, which can't fail.
 ghost use Rattle.std.specs.Prelude.{◌≡◌, None, Some, IfOk, MatchOption, OnErr, OnOk, option_map, true, false};
-ghost use Rattle.std.specs.BTreeMap.{IsOrdered};
+ghost use Rattle.std.specs.List.Sorted.{IsStrictlySortedBy};
+ghost use Rattle.std.specs.Map.{keys_of};
 ghost use Rattle.std.specs.Option.{is_some};
 ghost use Rattle.std.specs.Str.{bytes_eq};
 ghost use Rattle.sk_value.specs.Answer.{AnswersWith, text_or_null};
@@ -23,7 +24,7 @@ use std::alloc::Global;
 
 // Whether the name is that of a list, or of no key.
 fn may_hold_list(entries: &Entries, name: &Word) -> bool
-    ensures { result ≡ is_some (list_at (at name.now entries.now.entries)) }
+    ensures { result ≡ is_some (list_at (at name.now entries.now)) }
 {
     match entries.get(name) {
         None => true,
@@ -41,12 +42,12 @@ fn push_at(
     side: Side,
     text: Word,
 ) -> Result<(), Memory>
-    requires indexed { IsIndexed entries.old.entries expiries.old }
-    requires list { is_some (list_at (at name entries.old.entries)) ≡ true }
-    ensures ok { OnOk result (entries.new.entries ≡ push_at name side text entries.old.entries) }
-    ensures err { OnErr result (entries.new.entries ≡ entries.old.entries) }
-    ensures was_ordered { OnOk result (IsOrdered text_cmp entries.old) }
-    ensures indexed { IsIndexed entries.new.entries expiries.new }
+    requires indexed { IsIndexed entries.old expiries.old }
+    requires list { is_some (list_at (at name entries.old)) ≡ true }
+    ensures ok { OnOk result (entries.new ≡ push_at name side text entries.old) }
+    ensures err { OnErr result (entries.new ≡ entries.old) }
+    ensures was_ordered { OnOk result (IsStrictlySortedBy text_cmp (keys_of entries.old)) }
+    ensures indexed { IsIndexed entries.new expiries.new }
 {
     if let Some(there) = entries.get_mut(&name) {
         let Value::List(list) = &mut there.value else {
@@ -66,9 +67,9 @@ fn push_at(
 // Takes the text from that end of the list under the name, which goes when it is empty.
 #[tactic(auto, using(crate::proofs::Puts::put_present, crate::proofs::Puts::without_set, std::proofs::lemmas::Map::Steps::set_value_same))]
 fn take_at(entries: &mut Entries, expiries: &mut Expiries, name: &Word, side: Side) -> Option<Word>
-    requires { IsIndexed entries.old.entries expiries.old }
-    ensures taken { MatchOption result (take_at name.now side entries.old.entries ≡ None) (λ text. take_at name.now side entries.old.entries ≡ Some (text, entries.new.entries)) }
-    ensures indexed { IsIndexed entries.new.entries expiries.new }
+    requires { IsIndexed entries.old expiries.old }
+    ensures taken { MatchOption result (take_at name.now side entries.old ≡ None) (λ text. take_at name.now side entries.old ≡ Some (text, entries.new)) }
+    ensures indexed { IsIndexed entries.new expiries.new }
 {
     let there = entries.get_mut(name)?;
     let Value::List(list) = &mut there.value else {
@@ -114,11 +115,11 @@ fn move_within(
     from: Side,
     to: Side,
 ) -> Result<Reply, KeysFault>
-    requires { IsIndexed entries.old.entries expiries.now }
-    ensures answer { AnswersWith (move_keys name.now name.now from to entries.old.entries).answer result }
-    ensures ok { OnOk result (entries.new.entries ≡ (move_keys name.now name.now from to entries.old.entries).keys) }
-    ensures err { OnErr result (entries.new.entries ≡ entries.old.entries) }
-    ensures indexed { IsIndexed entries.new.entries expiries.now }
+    requires { IsIndexed entries.old expiries.now }
+    ensures answer { AnswersWith (move_keys name.now name.now from to entries.old).answer result }
+    ensures ok { OnOk result (entries.new ≡ (move_keys name.now name.now from to entries.old).keys) }
+    ensures err { OnErr result (entries.new ≡ entries.old) }
+    ensures indexed { IsIndexed entries.new expiries.now }
 {
     let Some(there) = entries.get_mut(name) else {
         return Ok(Reply::Null);
@@ -140,12 +141,12 @@ fn move_between(
     from: Side,
     to: Side,
 ) -> Result<Reply, KeysFault>
-    requires indexed { IsIndexed entries.old.entries expiries.old }
+    requires indexed { IsIndexed entries.old expiries.old }
     requires apart { bytes_eq source.now destination ≡ false }
-    ensures answer { AnswersWith (move_keys source.now destination from to entries.old.entries).answer result }
-    ensures ok { OnOk result (entries.new.entries ≡ (move_keys source.now destination from to entries.old.entries).keys) }
-    ensures err { OnErr result (entries.new.entries ≡ entries.old.entries) }
-    ensures indexed { IsIndexed entries.new.entries expiries.new }
+    ensures answer { AnswersWith (move_keys source.now destination from to entries.old).answer result }
+    ensures ok { OnOk result (entries.new ≡ (move_keys source.now destination from to entries.old).keys) }
+    ensures err { OnErr result (entries.new ≡ entries.old) }
+    ensures indexed { IsIndexed entries.new expiries.new }
 {
     let Some(there) = entries.get(source) else {
         return Ok(Reply::Null);
@@ -173,11 +174,11 @@ pub fn move_text(
     from: Side,
     to: Side,
 ) -> Result<Reply, KeysFault>
-    requires { IsIndexed entries.old.entries expiries.old }
-    ensures answer { AnswersWith (move_keys source destination from to entries.old.entries).answer result }
-    ensures ok { OnOk result (entries.new.entries ≡ (move_keys source destination from to entries.old.entries).keys) }
-    ensures err { OnErr result (entries.new.entries ≡ entries.old.entries) }
-    ensures indexed { IsIndexed entries.new.entries expiries.new }
+    requires { IsIndexed entries.old expiries.old }
+    ensures answer { AnswersWith (move_keys source destination from to entries.old).answer result }
+    ensures ok { OnOk result (entries.new ≡ (move_keys source destination from to entries.old).keys) }
+    ensures err { OnErr result (entries.new ≡ entries.old) }
+    ensures indexed { IsIndexed entries.new expiries.new }
 {
     if source == destination {
         move_within(entries, expiries, &source, from, to)

@@ -1,6 +1,7 @@
 // Putting a key, whatever stood there, with the pair of the index that its deadline asks for.
 ghost use Rattle.std.specs.Prelude.{◌≡◌, None, OnErr, OnOk};
-ghost use Rattle.std.specs.BTreeMap.{IsOrdered};
+ghost use Rattle.std.specs.List.Sorted.{IsStrictlySortedBy};
+ghost use Rattle.std.specs.Map.{keys_of};
 ghost use Rattle.sk_resp.specs.WordOrder.{text_cmp};
 ghost use Rattle.sk_value.specs.Keys.{at, put};
 ghost use Rattle.sk_keys.specs.Index.{IsIndexed};
@@ -17,20 +18,20 @@ pub fn put_new(
     name: Word,
     entry: Entry,
 ) -> Result<(), Memory>
-    requires indexed { IsIndexed entries.old.entries expiries.old }
-    requires absent { at name entries.old.entries ≡ None }
-    ensures ok { OnOk result (entries.new.entries ≡ put name entry entries.old.entries) }
-    ensures err { OnErr result (entries.new.entries ≡ entries.old.entries) }
-    ensures was_ordered { OnOk result (IsOrdered text_cmp entries.old) }
-    ensures indexed { IsIndexed entries.new.entries expiries.new }
+    requires indexed { IsIndexed entries.old expiries.old }
+    requires absent { at name entries.old ≡ None }
+    ensures ok { OnOk result (entries.new ≡ put name entry entries.old) }
+    ensures err { OnErr result (entries.new ≡ entries.old) }
+    ensures was_ordered { OnOk result (IsStrictlySortedBy text_cmp (keys_of entries.old)) }
+    ensures indexed { IsIndexed entries.new expiries.new }
 {
     let deadline = entry.deadline;
     add_expiry(expiries, &name, deadline)?;
-    match entries.insert(name, entry) {
-        Ok(_) => Ok(()),
-        Err(failed) => {
-            let (name, _) = failed.value;
-            drop_expiry(expiries, name, deadline);
+    entries.in_order();
+    match entries.insert_new(name, entry) {
+        Ok(()) => Ok(()),
+        Err(refused) => {
+            drop_expiry(expiries, refused.key, deadline);
             Err(Memory)
         }
     }
@@ -44,10 +45,10 @@ pub fn put(
     name: Word,
     entry: Entry,
 ) -> Result<(), Memory>
-    requires { IsIndexed entries.old.entries expiries.old }
-    ensures ok { OnOk result (entries.new.entries ≡ put name entry entries.old.entries) }
-    ensures err { OnErr result (entries.new.entries ≡ entries.old.entries) }
-    ensures indexed { IsIndexed entries.new.entries expiries.new }
+    requires { IsIndexed entries.old expiries.old }
+    ensures ok { OnOk result (entries.new ≡ put name entry entries.old) }
+    ensures err { OnErr result (entries.new ≡ entries.old) }
+    ensures indexed { IsIndexed entries.new expiries.new }
 {
     if let Some(there) = entries.get_mut(&name) {
         set_expiry(expiries, name, there.deadline, entry.deadline)?;

@@ -23,11 +23,11 @@ pub fn set(
     text: Word,
     options: SetOptions,
 ) -> Result<Reply, KeysFault>
-    requires { IsIndexed entries.old.entries expiries.old }
-    ensures answer { AnswersWith (set_at now text options (at name entries.old.entries)).answer result }
-    ensures ok { OnOk result (entries.new.entries ≡ changed name (set_at now text options (at name entries.old.entries)).change entries.old.entries) }
-    ensures err { OnErr result (entries.new.entries ≡ entries.old.entries) }
-    ensures indexed { IsIndexed entries.new.entries expiries.new }
+    requires { IsIndexed entries.old expiries.old }
+    ensures answer { AnswersWith (set_at now text options (at name entries.old)).answer result }
+    ensures ok { OnOk result (entries.new ≡ changed name (set_at now text options (at name entries.old)).change entries.old) }
+    ensures err { OnErr result (entries.new ≡ entries.old) }
+    ensures indexed { IsIndexed entries.new expiries.new }
 {
     let deadline = deadline_of(now, options.expire)?;
     if options.only_new && entries.contains_key(&name) {

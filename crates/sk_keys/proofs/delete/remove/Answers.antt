@@ -1,12 +1,12 @@
-use Rattle.std.proofs.Common.{sym, subst}
-use Rattle.std.proofs.lemmas.Map.Lookups.{exact_bytes}
+use Rattle.std.proofs.Common.{None, sym, subst}
+use Rattle.sk_value.specs.Keys.{Keys}
 use Rattle.sk_keys.specs.Index.{DropsExpiry}
-use Rattle.sk_keys.proofs.Index.{has_expiry, index_removed}
+use Rattle.sk_keys.proofs.Index.{Holds, has_expiry, holds_without, index_removed}
 use Rattle.sk_keys.proofs.delete.remove.Goals as goal
 
 pub returns-clause-indexed : goal.returns-clause-indexed
 returns-clause-indexed c =
-    let same = exact_bytes c.args.name.now c.in-Some.name c.in-Some.ensures.same_key in
+    let same = sym c.in-Some.ensures.same in
     let drops = subst (λ n. DropsExpiry n c.in-Some.entry.deadline c.args.expiries.now c.drop_expiry.new.expiries) (sym same) c.drop_expiry.ensures in
-    let expiry = has_expiry c.args.name.now c.in-Some.entry c.args.entries.now.entries c.args.expiries.now c.requires (sym c.in-Some.ensures.value) in
-    index_removed c.args.name.now c.in-Some.entry.deadline c.args.entries.now.entries c.remove_entry.new.self.entries c.args.expiries.now c.drop_expiry.new.expiries c.requires expiry c.remove_entry.ensures.updates.0 drops
+    let expiry = has_expiry c.args.name.now c.in-Some.entry c.args.entries.now c.args.expiries.now c.requires (sym c.in-Some.ensures.is) in
+    index_removed c.args.name.now c.in-Some.entry.deadline c.args.entries.now c.remove.new.self c.args.expiries.now c.drop_expiry.new.expiries c.requires expiry (subst (λ (keys : Keys). Holds c.args.name.now None c.args.entries.now keys) (sym c.remove.ensures.rest) (holds_without c.args.name.now c.args.entries.now c.in_order.ensures)) drops
