@@ -5,3 +5,4 @@ mod Finds
 mod Growth
 pub mod Ordered
 mod Slots
+mod Counts

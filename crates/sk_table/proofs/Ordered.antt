@@ -165,7 +165,7 @@ module _ {V : Type 0} where
   at_first : (first : Bytes × V) (rest : List (Bytes × V)) → at first.0 (first ∷ rest) ≡ Some first.1
   at_first first rest = ap (λ b. cond b (Some first.1) (at first.0 rest)) (at_itself first.0)
 
-  none_before : (first : Bytes × V) (rest : List (Bytes × V)) (text : Bytes) → IsUp (first ∷ rest) → text_cmp text first.0 ≡ Less → at text (first ∷ rest) ≡ None
+  pub none_before : (first : Bytes × V) (rest : List (Bytes × V)) (text : Bytes) → IsUp (first ∷ rest) → text_cmp text first.0 ≡ Less → at text (first ∷ rest) ≡ None
   none_before first rest text up less = lookup-none (is_at (text_cmp text)) (first ∷ rest) (none_below_head nat_list_cmp_total text first rest up less)
 
   none_behind : (first : Bytes × V) (rest : List (Bytes × V)) → IsUp (first ∷ rest) → at first.0 rest ≡ None

@@ -1,3 +1,6 @@
+pub mod Counts
+pub mod CountsInvariant
+pub mod CountsView
 pub mod Entries
 pub mod Hashing
 pub mod Lends

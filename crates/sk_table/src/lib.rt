@@ -3,13 +3,17 @@
 #![tactic(auto)]
 
 mod bucket;
+mod count_table;
 mod hashing;
+mod logged;
 mod no_room;
 mod slot;
 mod text_key;
 mod text_table;
+mod undo_counts;
 
 pub use no_room::NoRoom;
 pub use std::alloc::AllocError as Memory;
 pub use text_key::TextKey;
 pub use text_table::TextTable;
+pub use undo_counts::UndoCounts;

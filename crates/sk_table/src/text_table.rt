@@ -208,3 +208,52 @@ impl<K: TextKey + Drop, V: Drop> TextTable<K, V> {
         }
     }
 }
+
+impl<K: TextKey + Drop, V: Drop> TextTable<K, V> {
+    /// What stands under these bytes.
+    pub fn get_by(&self, text: &[u8]) -> Option<&V>
+        ensures { option_map (λ value. value.now) result ≡ at text.now self.now }
+    {
+        let hash = hash_of(text);
+        let here = address_of(self.half, self.buckets.len(), hash);
+        if here >= self.buckets.len() {
+            return None;
+        }
+        self.buckets[here].get(hash, text)
+    }
+
+    /// Takes out what stands under these bytes. Takes no memory.
+    pub fn remove_by(&mut self, text: &[u8]) -> Option<(K, V)>
+        ensures is { option_map (λ entry. entry.1) result ≡ at text.now self.old }
+        ensures same { IfSome result (λ entry. K.text entry.0 ≡ text.now) }
+        ensures rest { self.new ≡ without_text text.now self.old }
+    {
+        let hash = hash_of(text);
+        let here = address_of(self.half, self.buckets.len(), hash);
+        if here >= self.buckets.len() {
+            return None;
+        }
+        let slot = self.buckets[here].take(self.alloc, hash, text)?;
+        self.count = self.count.saturating_sub(1);
+        Some((slot.key, slot.value))
+    }
+}
+
+impl<K: TextKey, V> TextTable<K, V> {
+    ghost use Rattle.std.specs.Borrow.{sem};
+    ghost use Rattle.sk_table.specs.TableLends.{lends_at};
+
+    /// Lends what stands under these bytes.
+    pub fn get_mut_by(&mut self, text: &[u8]) -> Option<&mut V>
+        ensures* writes_back { sem 𝓛 (lends_at K.row V.row K.TextKey self.entry text.now result) }
+        ensures value { option_map (λ value. value.now) result ≡ at text.now self.old }
+        ensures ordered { IsStrictlySortedBy text_cmp (keys_of self.old) }
+    {
+        let hash = hash_of(text);
+        let here = address_of(self.half, self.buckets.len(), hash);
+        match self.buckets.get_mut(here) {
+            Some(bucket) => bucket.get_mut(hash, text),
+            None => None,
+        }
+    }
+}
