@@ -238,7 +238,7 @@ module _ {K : Type 0} (text_of : K → Bytes) where
           ap (λ b. is_some (cond b (Some edit.count) (before x log))) here ∙ more (grind (arith, apart, among))
         where
           other_text : (b : Bool) → is_at (text_cmp text) (text_of edit.key) ≡ b → is_at (text_cmp text) (text_of edit.key) ≡ false
-          other_text true e = absurd (true≢false (sym (ap (λ y. is_at (text_cmp y) x) (sym (same_text text (text_of edit.key) e)) ∙ same) ∙ sym here ∙ here))
+          other_text true e = absurd (true≢false (sym same ∙ ap (λ y. is_at (text_cmp y) x) (same_text text (text_of edit.key) e) ∙ here))
           other_text false e = e
 
   -- edits of a text of the log change nothing of what was before
@@ -270,11 +270,11 @@ module _ {K : Type 0} (text_of : K → Bytes) where
 
   pub among_there : (text : Bytes) (log : List (Logged K)) (t : Counts) → AreThere text_of log t → is_among text (map (λ edit. text_of edit.key) log) ≡ true → is_some (at text t) ≡ true
   among_there text [] t there among = absurd (true≢false (sym among))
-  among_there text (edit ∷ log) t there among = by_test (is_at (text_cmp text) (text_of edit.key)) refl
+  among_there text (edit ∷ log) t there among = by_test (is_at (text_cmp text) (text_of edit.key)) refl (among_there text log t there.1)
     where
-      by_test : (b : Bool) → is_at (text_cmp text) (text_of edit.key) ≡ b → is_some (at text t) ≡ true
-      by_test true here = ap (λ y. is_some (at y t)) (same_text text (text_of edit.key) here) ∙ there.0
-      by_test false here = among_there text log t there.1 (grind (arith, here, among))
+      by_test : (b : Bool) → is_at (text_cmp text) (text_of edit.key) ≡ b → (is_among text (map (λ edit. text_of edit.key) log) ≡ true → is_some (at text t) ≡ true) → is_some (at text t) ≡ true
+      by_test true here more = ap (λ y. is_some (at y t)) (same_text text (text_of edit.key) here) ∙ there.0
+      by_test false here more = more (grind (arith, here, among))
 
 pub among_keys : (text : Bytes) (t : Counts) → is_among text (keys_of t) ≡ is_some (at text t)
 among_keys text [] = refl

@@ -168,7 +168,7 @@ module _ {V : Type 0} where
   pub none_before : (first : Bytes × V) (rest : List (Bytes × V)) (text : Bytes) → IsUp (first ∷ rest) → text_cmp text first.0 ≡ Less → at text (first ∷ rest) ≡ None
   none_before first rest text up less = lookup-none (is_at (text_cmp text)) (first ∷ rest) (none_below_head nat_list_cmp_total text first rest up less)
 
-  none_behind : (first : Bytes × V) (rest : List (Bytes × V)) → IsUp (first ∷ rest) → at first.0 rest ≡ None
+  pub none_behind : (first : Bytes × V) (rest : List (Bytes × V)) → IsUp (first ∷ rest) → at first.0 rest ≡ None
   none_behind first rest up =
       lookup-none (is_at (text_cmp first.0)) rest (none_past_head (eq_by_cmp_equiv nat_list_cmp_total) first.0 first rest (IsDistinct-from_sorted text_cmp (keys_of (first ∷ rest)) up) (at_itself first.0))
 

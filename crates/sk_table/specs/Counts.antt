@@ -42,11 +42,11 @@ module _ {K : Type 0} (text_of : K → Bytes) where
 
   -- what counts now, and what did at the begin of an open step
   abbrev pub counts_in : Bool → List (Logged K) → Counts → Versions Counts
-  counts_in open log entries = record { current = counted entries; saved = cond open (Some (rewound log (counted entries))) None }
+  counts_in in_step log entries = record { current = counted entries; saved = cond in_step (Some (rewound log (counted entries))) None }
 
-  -- the texts whose counts can be changed without memory: while a step is open, those of which the log has what they were
+  -- the texts whose counts can be changed without memory: while a step is in_step, those of which the log has what they were
   abbrev pub ready_in : Bool → List (Logged K) → Counts → List Bytes
-  ready_in open log entries = cond open (map (λ edit. text_of edit.key) log) (keys_of entries)
+  ready_in in_step log entries = cond in_step (map (λ edit. text_of edit.key) log) (keys_of entries)
 
 abbrev pub is_among : Bytes → List Bytes → Bool
 is_among text texts = list_any (is_at (text_cmp text)) texts

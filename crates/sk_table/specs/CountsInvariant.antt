@@ -13,11 +13,11 @@ module _ {K : Type 0} (text_of : K → Bytes) where
   abbrev pub AreThere : List (Logged K) → Counts → Type 0
   AreThere log entries = AllByRecursion (λ edit. is_some (at (text_of edit.key) entries) ≡ true) log
 
-  pub record AreCounts (open : Bool) (log : List (Logged K)) (entries : Counts) (len len_then : ℕ) : Type 0 where
+  pub record AreCounts (in_step : Bool) (log : List (Logged K)) (entries : Counts) (len len_then : ℕ) : Type 0 where
     pub there : AreThere log entries
-    pub idle : open ≡ false → log ≡ []
+    pub idle : in_step ≡ false → log ≡ []
     pub is_len : len ≡ length (counted entries)
-    pub was_len : open ≡ true → len_then ≡ length (rewound text_of log (counted entries))
+    pub was_len : in_step ≡ true → len_then ≡ length (rewound text_of log (counted entries))
     pub small : len ≤ most
     pub was_small : len_then ≤ most
 

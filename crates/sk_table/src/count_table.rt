@@ -1,5 +1,5 @@
 // The table of counts behind `UndoCounts`: an entry may count none until the step that emptied it ends.
-ghost use Rattle.std.specs.Prelude.{◌≡◌, IfOk, None, Some, length};
+ghost use Rattle.std.specs.Prelude.{◌≡◌, [], true, IfOk, None, Some, length};
 ghost use Rattle.std.specs.BTreeMap.{is_at};
 ghost use Rattle.std.specs.Map.{keys_of, set_value};
 ghost use Rattle.std.specs.List.Sorted.{IsStrictlySortedBy};
@@ -26,24 +26,38 @@ pub fn count_of<K: TextKey + Drop>(table: &CountTable<K>, text: &[u8]) -> u32
     }
 }
 
+// A new entry of the key, which counts none.
+fn enter_new<K: TextKey + Drop>(table: &mut CountTable<K>, key: K) -> Result<u32, Memory>
+    requires { at (K.text key) table.old ≡ None }
+    ensures same { counted table.new ≡ counted table.old }
+    ensures keeps { Keeps table.old table.new }
+    ensures there { IfOk result (λ count. at (K.text key) table.new ≡ Some count) }
+{
+    table.in_order();
+    let Ok(()) = table.insert_new(key, 0) else {
+        return Err(Memory);
+    };
+    Ok(0)
+}
+
 /// An entry of the key, which counts none where there was no entry. Answers what it counts.
 pub fn enter<K: TextKey + Drop>(table: &mut CountTable<K>, key: K) -> Result<u32, Memory>
     ensures same { counted table.new ≡ counted table.old }
     ensures keeps { Keeps table.old table.new }
     ensures there { IfOk result (λ count. at (K.text key) table.new ≡ Some count) }
 {
-    table.in_order();
     if let Some(count) = table.get(&key) {
         return Ok(*count);
     }
-    match table.insert_new(key, 0) {
-        Ok(()) => Ok(0),
-        Err(_) => Err(Memory),
-    }
+    enter_new(table, key)
 }
 
 /// Puts a count into an entry, and answers what it was.
-pub fn exchange<K: TextKey + Drop>(table: &mut CountTable<K>, text: &[u8], count: u32) -> Option<u32>
+pub fn exchange<K: TextKey + Drop>(
+    table: &mut CountTable<K>,
+    text: &[u8],
+    count: u32,
+) -> Option<u32>
     ensures is { result ≡ at text.now table.old }
     ensures counts { IsSome (at text.now table.old) → counted table.new ≡ with_count text.now count (counted table.old) }
     ensures keys { keys_of table.new ≡ keys_of table.old }
@@ -59,16 +73,22 @@ pub fn exchange<K: TextKey + Drop>(table: &mut CountTable<K>, text: &[u8], count
     }
 }
 
-/// Takes an entry out, where it counts none.
+// Whether an entry is there and counts none.
+fn counts_none<K: TextKey + Drop>(table: &CountTable<K>, key: &K) -> bool
+    ensures { result ≡ true → at (K.text key.now) table.now ≡ Some 0 }
+{
+    match table.get(key) {
+        Some(count) => *count == 0,
+        None => false,
+    }
+}
+
+// Takes an entry out, where it counts none.
 fn drop_none<K: TextKey + Drop>(table: &mut CountTable<K>, key: &K)
     ensures { counted table.new ≡ counted table.old }
 {
     table.in_order();
-    let is_none = match table.get(key) {
-        Some(count) => *count == 0,
-        None => false,
-    };
-    if is_none {
+    if counts_none(table, key) {
         table.remove(key);
     }
 }

@@ -25,7 +25,7 @@ const MOST: usize = 1 << 60;
 pub struct UndoCounts<K: TextKey> {
     table: CountTable<K>,
     log: Vec<Logged<K>>,
-    open: bool,
+    in_step: bool,
     // How many texts count.
     len: usize,
     // At the begin of an open step.
@@ -43,9 +43,9 @@ impl<K: TextKey> Model for UndoCounts<K> {
 
     ghost coded = { counts_view_code };
 
-    ghost view = { λ s. record { list = counts_in K.text s.open s.log.items s.table; ready = ready_in K.text s.open s.log.items s.table } };
+    ghost view = { λ s. record { list = counts_in K.text s.in_step s.log.items s.table; ready = ready_in K.text s.in_step s.log.items s.table } };
 
-    ghost invariant = { λ s. AreCounts K.text s.open s.log.items s.table s.len s.len_then };
+    ghost invariant = { λ s. AreCounts K.text s.in_step s.log.items s.table s.len s.len_then };
 }
 
 // How many texts count, where one of them counted so many before and so many after.
@@ -71,7 +71,7 @@ impl<K: TextKey + Drop> UndoCounts<K> {
         UndoCounts {
             table: TextTable::new(alloc),
             log: Vec::new(alloc),
-            open: false,
+            in_step: false,
             len: 0,
             len_then: 0,
             nones: 0,
@@ -121,7 +121,7 @@ impl<K: TextKey + Drop> UndoCounts<K> {
         if count == 0 {
             self.nones = self.nones.saturating_add(1);
         }
-        if self.open {
+        if self.in_step {
             self.log.push_reserved(Logged { key: again, count });
         }
         Ok(count)
@@ -178,7 +178,7 @@ impl<K: TextKey + Drop> UndoCounts<K> {
         requires { self.old.list.saved ≡ None }
         ensures { self.new.list ≡ begun self.old.list }
     {
-        self.open = true;
+        self.in_step = true;
         self.len_then = self.len;
     }
 
@@ -189,7 +189,7 @@ impl<K: TextKey + Drop> UndoCounts<K> {
     {
         rewind(&mut self.table, &self.log);
         clean(&mut self.table, &mut self.log);
-        self.open = false;
+        self.in_step = false;
         self.len = self.len_then;
         self.nones = 0;
     }
@@ -205,6 +205,6 @@ impl<K: TextKey + Drop> UndoCounts<K> {
             clean(&mut self.table, &mut self.log);
             self.nones = 0;
         }
-        self.open = false;
+        self.in_step = false;
     }
 }
