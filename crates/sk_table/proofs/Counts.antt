@@ -1,5 +1,5 @@
 -- Counts, and the entries that they are kept as.
-use Rattle.std.proofs.Common.{◌≡◌, ◌+◌, ◌-◌, ◌<◌, ◌≤◌, ℕ, zero, suc, Bool, true, false, cond, not, ◌&&◌, List, [], ◌∷◌, ◌++◌, Option, Some, None, length, map, nat_eq, option_map, refl, sym, ap, subst, ◌∙◌, true≢false, arith}
+use Rattle.std.proofs.Common.{◌≡◌, ◌+◌, ◌-◌, ◌<◌, ◌≤◌, ℕ, zero, suc, Bool, true, false, cond, not, ◌&&◌, List, [], ◌∷◌, ◌++◌, Option, Some, None, length, map, nat_eq, nat_lt, option_map, slice_index_or, take, refl, sym, ap, subst, ◌∙◌, true≢false, arith}
 use Rattle.std.specs.Prelude.{filter}
 use Rattle.std.specs.BTreeMap.{is_at}
 use Rattle.std.specs.List.{AllByRecursion, list_any}
@@ -156,6 +156,14 @@ count_kept (Some n) = by_test (nat_eq n 0) refl
 pub count_is : (text : Bytes) (t : Counts) → IsUp t → count_in text (counted t) ≡ count_in text t
 count_is text t up = ap (λ o. unwrap_or o 0) (at_counted text t up) ∙ count_kept (at text t)
 
+-- what an entry counts tells whether its text counts
+pub is_some_kept : (n : ℕ) (text : Bytes) (t : Counts) → IsUp t → Some n ≡ at text t → nat_lt 0 n ≡ is_some (at text (counted t))
+is_some_kept n text t up there = by_test (nat_eq n 0) refl ∙ ap (λ o. is_some (kept o)) there ∙ ap is_some (sym (at_counted text t up))
+  where
+    by_test : (b : Bool) → nat_eq n 0 ≡ b → nat_lt 0 n ≡ is_some (cond (nat_eq n 0) None (Some n))
+    by_test true e = grind (arith, nat_tests, e)
+    by_test false e = grind (arith, nat_tests, e)
+
 -- ## How many texts count
 
 length_with : (text : Bytes) (n : ℕ) (c : Counts) → IsUp c → length (with_text text n c) ≡ length c + cond (is_some (at text c)) 0 1
@@ -168,7 +176,7 @@ length_with text n (first ∷ rest) up = by_order (text_cmp text first.0) refl (
     by_order Equal e more = let here : is_at (text_cmp text) first.0 ≡ true = ap is_eq e in grind (arith, here)
     by_order Greater e more = let past : is_at (text_cmp text) first.0 ≡ false = ap is_eq e in grind (arith, past, more)
 
-length_without : (text : Bytes) (c : Counts) → length (without_text text c) + cond (is_some (at text c)) 1 0 ≡ length c
+pub length_without : (text : Bytes) (c : Counts) → length (without_text text c) + cond (is_some (at text c)) 1 0 ≡ length c
 length_without text [] = refl
 length_without text (first ∷ rest) = by_test (is_at (text_cmp text) first.0) refl (length_without text rest)
   where
@@ -176,7 +184,7 @@ length_without text (first ∷ rest) = by_test (is_at (text_cmp text) first.0) r
     by_test true here more = grind (arith, here)
     by_test false here more = grind (arith, here, more)
 
-some_kept : (o : Option ℕ) → is_some (kept o) ≡ not (nat_eq (unwrap_or (kept o) 0) 0)
+pub some_kept : (o : Option ℕ) → is_some (kept o) ≡ not (nat_eq (unwrap_or (kept o) 0) 0)
 some_kept None = refl
 some_kept (Some n) = by_test (nat_eq n 0) refl
   where
@@ -257,6 +265,16 @@ module _ {K : Type 0} (text_of : K → Bytes) where
   pub rewound_append : (log : List (Logged K)) (edit : Logged K) (c : Counts) → rewound text_of (log ++ edit ∷ []) c ≡ rewound text_of log (with_count (text_of edit.key) edit.count c)
   rewound_append [] edit c = refl
   rewound_append (first ∷ log) edit c = ap (with_count (text_of first.key) first.count) (rewound_append log edit c)
+
+  pub rewound_take : (log : List (Logged K)) (n : ℕ) (edit : Logged K) (c : Counts) → n < length log → edit ≡ slice_index_or log n edit → rewound text_of (take (suc n) log) c ≡ rewound text_of (take n log) (with_count (text_of edit.key) edit.count c)
+  rewound_take [] n edit c within read = absurd (grind (arith, within))
+  rewound_take (first ∷ log) zero edit c within read = ap (λ e. with_count (text_of e.key) e.count c) (sym read)
+  rewound_take (first ∷ log) (suc n) edit c within read = ap (with_count (text_of first.key) first.count) (rewound_take log n edit c (grind (arith, within)) read)
+
+  pub there_at : (log : List (Logged K)) (n : ℕ) (edit : Logged K) (t : Counts) → n < length log → edit ≡ slice_index_or log n edit → AreThere text_of log t → is_some (at (text_of edit.key) t) ≡ true
+  there_at [] n edit t within read there = absurd (grind (arith, within))
+  there_at (first ∷ log) zero edit t within read there = ap (λ e. is_some (at (text_of e.key) t)) read ∙ there.0
+  there_at (first ∷ log) (suc n) edit t within read there = there_at log n edit t (grind (arith, within)) read there.1
 
   -- ## Entries of the log's texts
 

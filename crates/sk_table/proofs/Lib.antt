@@ -6,3 +6,4 @@ mod Growth
 pub mod Ordered
 mod Slots
 mod Counts
+mod CountSteps

@@ -1,5 +1,5 @@
 -- How much is counted under each text: in the order of the texts, and no text of which there is none.
-use Rattle.std.specs.Prelude.{◌^◌, ◌-◌, ◌+◌, ◌&&◌, ℕ, Bool, List, [], ◌∷◌, Option, Some, None, cond, filter, map, nat_eq, not, unwrap_or}
+use Rattle.std.specs.Prelude.{◌^◌, ◌-◌, ◌+◌, ◌&&◌, ℕ, Bool, List, [], ◌∷◌, ◌++◌, Option, Some, None, cond, filter, map, nat_eq, not, unwrap_or}
 use Rattle.std.specs.BTreeMap.{is_at}
 use Rattle.std.specs.List.{list_any}
 use Rattle.std.specs.Map.{keys_of}
@@ -33,6 +33,11 @@ len_after len before after = cond (nat_eq before 0 && not (nat_eq after 0)) (len
 -- without the entries that count none
 abbrev pub counted : Counts → Counts
 counted entries = filter (λ entry. not (nat_eq entry.1 0)) entries
+
+module _ {K : Type 0} where
+  -- the log of an open step with one more edit
+  abbrev pub noted : Bool → Logged K → List (Logged K) → List (Logged K)
+  noted in_step edit log = cond in_step (log ++ edit ∷ []) log
 
 module _ {K : Type 0} (text_of : K → Bytes) where
   -- what was counted before the edits of the log, the last of which stands last

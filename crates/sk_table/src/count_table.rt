@@ -3,7 +3,7 @@ ghost use Rattle.std.specs.Prelude.{◌≡◌, [], true, IfOk, None, Some, lengt
 ghost use Rattle.std.specs.BTreeMap.{is_at};
 ghost use Rattle.std.specs.Map.{keys_of, set_value};
 ghost use Rattle.std.specs.List.Sorted.{IsStrictlySortedBy};
-ghost use Rattle.std.specs.Option.{IsSome};
+ghost use Rattle.std.specs.Option.{IsSome, is_some};
 ghost use Rattle.sk_resp.specs.WordOrder.{text_cmp};
 ghost use Rattle.sk_table.specs.Counts.{count_in, counted, rewound, with_count};
 ghost use Rattle.sk_table.specs.CountsInvariant.{AreThere, Keeps};
@@ -73,6 +73,18 @@ pub fn exchange<K: TextKey + Drop>(
     }
 }
 
+/// Takes an entry out, and answers whether it counted any.
+pub fn take_out<K: TextKey + Drop>(table: &mut CountTable<K>, text: &[u8]) -> bool
+    ensures answer { result ≡ is_some (at text.now (counted table.old)) }
+    ensures counts { counted table.new ≡ with_count text.now 0 (counted table.old) }
+{
+    table.in_order();
+    let Some((_key, count)) = table.remove_by(text) else {
+        return false;
+    };
+    count > 0
+}
+
 // Whether an entry is there and counts none.
 fn counts_none<K: TextKey + Drop>(table: &CountTable<K>, key: &K) -> bool
     ensures { result ≡ true → at (K.text key.now) table.now ≡ Some 0 }
@@ -103,6 +115,15 @@ pub fn clean<K: TextKey + Drop>(table: &mut CountTable<K>, log: &mut Vec<Logged<
     }
 }
 
+// An entry counts what it did before an edit.
+fn restore<K: TextKey + Drop>(table: &mut CountTable<K>, edit: &Logged<K>)
+    requires { is_some (at (K.text edit.now.key) table.old) ≡ true }
+    ensures counts { counted table.new ≡ with_count (K.text edit.now.key) edit.now.count (counted table.old) }
+    ensures keeps { Keeps table.old table.new }
+{
+    exchange(table, edit.key.bytes(), edit.count);
+}
+
 /// Each entry counts what it did before the edits of the log, the newest of which is taken back first.
 pub fn rewind<K: TextKey + Drop>(table: &mut CountTable<K>, log: &Vec<Logged<K>>)
     requires { AreThere K.text log.now.items table.old }
@@ -111,6 +132,6 @@ pub fn rewind<K: TextKey + Drop>(table: &mut CountTable<K>, log: &Vec<Logged<K>>
     let mut left = log.len();
     while left > 0 {
         left -= 1;
-        exchange(table, log[left].key.bytes(), log[left].count);
+        restore(table, &log[left]);
     }
 }

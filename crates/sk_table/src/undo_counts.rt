@@ -1,16 +1,16 @@
 // Counts under texts, by hash, whose edits in an open step can be taken back. What an entry counted is logged before it is changed, and an entry
 // that counts none any more stays until its step ends, so that taking a step back takes no memory.
-ghost use Rattle.std.specs.Prelude.{◌≡◌, ◌-◌, ◌^◌, ◌<◌, ◌≤◌, [], true, IfOk, IsSome, None, OnOk, length};
+ghost use Rattle.std.specs.Prelude.{◌≡◌, ◌-◌, ◌^◌, ◌<◌, ◌≤◌, [], true, IfOk, IsSome, None, OnOk, length, vec_capacity, vec_len};
 ghost use Rattle.std.specs.List.Sorted.{IsStrictlySortedBy};
 ghost use Rattle.std.specs.Map.{keys_of};
 ghost use Rattle.std.specs.Option.{is_some};
 ghost use Rattle.sk_resp.specs.WordOrder.{text_cmp};
 ghost use Rattle.sk_undo.specs.Balance.{most};
 ghost use Rattle.sk_undo.specs.Versions.{begun, closed, committed, edited, undone};
-ghost use Rattle.sk_table.specs.Counts.{count_in, is_among, len_after, most_count, with_count};
+ghost use Rattle.sk_table.specs.Counts.{count_in, is_among, len_after, most_count, noted, with_count};
 ghost use Rattle.sk_table.specs.Entries.{at};
 
-use crate::count_table::{CountTable, clean, count_of, enter, exchange, rewind};
+use crate::count_table::{CountTable, clean, count_of, enter, exchange, rewind, take_out};
 use crate::logged::Logged;
 use crate::{Memory, TextKey, TextTable};
 use std::alloc::Global;
@@ -51,8 +51,10 @@ impl<K: TextKey> Model for UndoCounts<K> {
 // How many texts count, where one of them counted so many before and so many after.
 fn len_after(len: usize, before: u32, after: u32) -> usize
     requires some { 0 < before → 0 < len }
-    requires few { len < 2 ^ 64 - 1 }
-    ensures { result ≡ len_after len before after }
+    requires few { before ≡ 0 → len < most }
+    requires small { len ≤ most }
+    ensures is { result ≡ len_after len before after }
+    ensures small { result ≤ most }
 {
     if before == 0 && after > 0 {
         len + 1
@@ -60,6 +62,27 @@ fn len_after(len: usize, before: u32, after: u32) -> usize
         len - 1
     } else {
         len
+    }
+}
+
+// How many entries count none, likewise.
+fn nones_after(nones: usize, before: u32, after: u32) -> usize {
+    if after == 0 {
+        nones.saturating_add(1)
+    } else if before == 0 {
+        nones.saturating_sub(1)
+    } else {
+        nones
+    }
+}
+
+// Notes an edit down in the log of an open step.
+fn note_down<K: Drop>(log: &mut Vec<Logged<K>>, in_step: bool, edit: Logged<K>)
+    requires { vec_len log.old < vec_capacity log.old }
+    ensures { log.new.items ≡ noted in_step edit log.old.items }
+{
+    if in_step {
+        log.push_reserved(edit);
     }
 }
 
@@ -118,29 +141,22 @@ impl<K: TextKey + Drop> UndoCounts<K> {
         if count == u32::MAX {
             return Err(Memory);
         }
-        if count == 0 {
-            self.nones = self.nones.saturating_add(1);
-        }
-        if self.in_step {
-            self.log.push_reserved(Logged { key: again, count });
-        }
+        self.table.in_order();
+        self.nones = nones_after(self.nones, count, count);
+        note_down(&mut self.log, self.in_step, Logged { key: again, count });
         Ok(count)
     }
 
     /// So many count under a text that was prepared. Takes no memory.
     pub fn put(&mut self, text: &[u8], count: u32)
         requires ready { is_among text.now self.old.ready ≡ true }
-        requires room { length self.old.list.current < most }
+        requires room { count_in text.now self.old.list.current ≡ 0 → length self.old.list.current < most }
         ensures list { self.new.list ≡ edited (with_count text.now count self.old.list.current) self.old.list }
         ensures ready { self.new.ready ≡ self.old.ready }
     {
         if let Some(before) = exchange(&mut self.table, text, count) {
             self.len = len_after(self.len, before, count);
-            if count == 0 {
-                self.nones = self.nones.saturating_add(1);
-            } else if before == 0 {
-                self.nones = self.nones.saturating_sub(1);
-            }
+            self.nones = nones_after(self.nones, before, count);
         }
     }
 
@@ -150,14 +166,11 @@ impl<K: TextKey + Drop> UndoCounts<K> {
         ensures answer { result ≡ is_some (at text.now self.old.list.current) }
         ensures list { self.new.list ≡ edited (with_count text.now 0 self.old.list.current) self.old.list }
     {
-        self.table.in_order();
-        match self.table.remove_by(text) {
-            Some((_, count)) if count > 0 => {
-                self.len -= 1;
-                true
-            }
-            _ => false,
+        let counted = take_out(&mut self.table, text);
+        if counted {
+            self.len -= 1;
         }
+        counted
     }
 
     /// One less counts under the text, if any does; no step is open. Takes no memory.
@@ -165,9 +178,10 @@ impl<K: TextKey + Drop> UndoCounts<K> {
         requires { self.old.list.saved ≡ None }
         ensures { self.new.list ≡ edited (with_count text.now (count_in text.now self.old.list.current - 1) self.old.list.current) self.old.list }
     {
+        self.table.in_order();
         let count = count_of(&self.table, text);
         if count > 1 {
-            exchange(&mut self.table, text, count - 1);
+            self.put(text, count - 1);
         } else {
             self.take(text);
         }
