@@ -4,6 +4,7 @@ mod Edits
 mod Finds
 mod Growth
 pub mod Ordered
+mod Renewed
 mod Slots
 mod Counts
 mod CountSteps

@@ -1,5 +1,5 @@
 -- The entries of a bucket, with the hashes of their texts.
-use Rattle.std.specs.Prelude.{◌≡◌, ◌%◌, ◌+◌, ℕ, zero, suc, Bool, List, [], ◌∷◌, Option, map, nat_eq}
+use Rattle.std.specs.Prelude.{◌≡◌, ◌%◌, ◌+◌, ℕ, zero, suc, Bool, List, [], ◌∷◌, Option, cond, map, nat_eq}
 use Rattle.std.specs.BTreeMap.{is_at}
 use Rattle.std.specs.List.{AllByRecursion, IsDistinct, position_or_len}
 use Rattle.std.specs.Map.{keys_of}
@@ -37,6 +37,11 @@ module _ {K V : Type 0} (text_of : K → Bytes) where
     pub hashed : AreHashed slots
     pub placed : AllByRecursion (λ slot. address half count slot.hash ≡ here) slots
     pub distinct : AreDistinct slots
+
+  -- with this key in the place of the one of its text
+  abbrev pub with_key : K → List (Slot K V) → List (Slot K V)
+  with_key key [] = []
+  with_key key (slot ∷ slots) = cond (has_text (text_of key) slot) (record slot { key = key } ∷ slots) (slot ∷ with_key key slots)
 
 module _ {K V : Type 0} where
   -- with this value in the entry at the index

@@ -2,7 +2,7 @@
 ghost use Rattle.std.specs.Prelude.{◌≡◌, ◌<◌, ◌≤◌, ◌++◌, ◌∷◌, [], IfErr, IfOk, IfSome, None, OnErr, OnOk, Some, filter, length, not, option_map};
 ghost use Rattle.std.specs.List.{remove};
 ghost use Rattle.sk_table.specs.Hashing.{hash_of, most_half};
-ghost use Rattle.sk_table.specs.Slots.{AreHashed, goes_to, has_text, place_of, value_in};
+ghost use Rattle.sk_table.specs.Slots.{AreHashed, goes_to, has_text, place_of, value_in, with_key};
 
 use crate::slot::Slot;
 use crate::{Memory, NoRoom, TextKey};
@@ -105,6 +105,18 @@ impl<K: TextKey, V> Bucket<K, V> {
 }
 
 impl<K: TextKey + Drop, V: Drop> Bucket<K, V> {
+    /// The key takes the place of the one of the same text, if there is one.
+    pub fn renew(&mut self, hash: u32, key: K)
+        requires hashed { AreHashed K.text self.old }
+        requires hash { hash ≡ hash_of (K.text key) }
+        ensures { self.new ≡ with_key K.text key self.old }
+    {
+        let at = self.place_of(hash, key.bytes());
+        if at < self.slots.len() {
+            self.slots[at].key = key;
+        }
+    }
+
     /// Takes a text's entry out. Takes no memory.
     pub fn take(&mut self, alloc: Global, hash: u32, text: &[u8]) -> Option<Slot<K, V>>
         requires hashed { AreHashed K.text self.old }

@@ -222,6 +222,17 @@ impl<K: TextKey + Drop, V: Drop> TextTable<K, V> {
         self.buckets[here].get(hash, text)
     }
 
+    /// The key takes the place of an equal one, if there is one.
+    pub fn renew(&mut self, key: K)
+        ensures { self.new ≡ self.old }
+    {
+        let hash = hash_of(key.bytes());
+        let here = address_of(self.half, self.buckets.len(), hash);
+        if here < self.buckets.len() {
+            self.buckets[here].renew(hash, key);
+        }
+    }
+
     /// Takes out what stands under these bytes. Takes no memory.
     pub fn remove_by(&mut self, text: &[u8]) -> Option<(K, V)>
         ensures is { option_map (λ entry. entry.1) result ≡ at text.now self.old }

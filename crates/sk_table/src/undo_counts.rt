@@ -187,6 +187,13 @@ impl<K: TextKey + Drop> UndoCounts<K> {
         }
     }
 
+    /// The key takes the place of an equal one, if there is one.
+    pub fn renew(&mut self, key: K)
+        ensures { self.new ≡ self.old }
+    {
+        self.table.renew(key);
+    }
+
     /// Opens a step. Takes no memory.
     pub fn begin(&mut self)
         requires { self.old.list.saved ≡ None }
