@@ -227,9 +227,10 @@ impl Load {
     fn settle(&mut self, seat: u32, work: &Work) -> Result<Events, Memory>
         ensures { IfOk result (λ events. Gives (stage_part self.old seat work.now.payload work.now.stage) events self.new) }
     {
+        let payload = Payload::of(self.alloc, work.payload.text().copy()?)?;
         match work.stage {
-            Stage::Held => self.run(seat, &work.payload),
-            Stage::Put | Stage::Settled(_) => self.release(seat, &work.payload),
+            Stage::Held => self.run(seat, &payload),
+            Stage::Put | Stage::Settled(_) => self.release(seat, &payload),
         }
     }
 

@@ -1,5 +1,5 @@
 -- What a rescue makes of one row, of the rows of a process, and of all that are left.
-use Rattle.std.proofs.Common.{◌≡◌, ◌≤◌, ◌+◌, ℕ, Bool, true, false, List, [], ◌∷◌, ◌++◌, refl, sym, ap, ap₂, subst, ◌∙◌, append_assoc, arith, filter, length, length-append, not}
+use Rattle.std.proofs.Common.{◌≡◌, ◌≤◌, ◌<◌, ◌+◌, ℕ, Bool, true, false, List, [], ◌∷◌, ◌++◌, refl, sym, ap, ap₂, subst, ◌∙◌, append_assoc, arith, filter, length, length-append, not}
 use Rattle.std.specs.Prelude.{Option, Some, None, cond, nat_le, nat_lt}
 use Rattle.std.specs.List.{list_all}
 use Rattle.std.proofs.lemmas.List.Elements.{filter_agree}
@@ -41,17 +41,21 @@ poison_sent old mid new report row jid sent e = record {
   world = e ∙ ap (λ u. changed u (Forgets jid)) sent.world ∙ sym (perform-append old (bury old row).changes (Forgets jid ∷ []));
 }
 
--- The recovery was noted, and then the row was buried as one too many.
-pub noted_sent : (old mid new : World) (report : Report) (row : Row) (h : Head) (found : Option Head) → found ≡ Some h → mid ≡ changed old (Recovers h.jid) → is_poison mid h.jid ≡ true → IsRouted mid new report (bury_poison mid row h.jid)
+-- what becomes of the row, by whether so many recoveries stand
+abbrev pub recover_by : Bool → World → Row → Head → Routed
+recover_by poison w row h = cond poison (bury_poison w row h.jid) (to_queue Right row h)
+
+-- The recovery was noted, and then the row was buried as one too many, or it went to its queue.
+pub noted_sent : (old mid new : World) (report : Report) (row : Row) (h : Head) (found : Option Head) (poison : Bool) → found ≡ Some h → mid ≡ changed old (Recovers h.jid) → is_poison mid h.jid ≡ poison → IsRouted mid new report (recover_by poison mid row h)
     → IsRouted old new report (rescue_row old row found)
-noted_sent old mid new report row h found is noted poison sent =
-    subst (λ o. IsRouted old new report (rescue_row old row o)) (sym is) (done (subst (λ u. is_poison u h.jid ≡ true) noted poison) (subst (λ u. IsRouted u new report (bury_poison u row h.jid)) noted sent)) where
+noted_sent old mid new report row h found poison is noted so sent =
+    subst (λ o. IsRouted old new report (rescue_row old row o)) (sym is) (done (subst (λ u. is_poison u h.jid ≡ poison) noted so) (subst (λ u. IsRouted u new report (recover_by poison u row h)) noted sent)) where
       after : World
       after = changed old (Recovers h.jid)
 
-      done : is_poison after h.jid ≡ true → IsRouted after new report (bury_poison after row h.jid) → IsRouted old new report (rescue_row old row (Some h))
+      done : is_poison after h.jid ≡ poison → IsRouted after new report (recover_by poison after row h) → IsRouted old new report (rescue_row old row (Some h))
       done p s =
-          let same : recover after row h ≡ bury_poison after row h.jid = ap (λ b. cond b (bury_poison after row h.jid) (to_queue Right row h)) p in
+          let same : recover after row h ≡ recover_by poison after row h = ap (λ b. recover_by b after row h) p in
           let t : IsRouted after new report (recover after row h) = subst (λ (sent : Routed). IsRouted after new report sent) (sym same) s in
           record { moved = t.moved; buried = t.buried; fired = t.fired; trimmed = t.trimmed; world = t.world }
 
@@ -78,6 +82,14 @@ at_least n m e h = grind (arith, nat_tests, e, h)
 pub poisoned : (w : World) (jid : Bytes) (moment count : ℕ) (was : Leased) → w.moment ≡ moment → w.leases ≡ recovered jid moment was → count ≡ standing jid moment (recovered jid moment was) → 3 ≤ count → is_poison w jid ≡ true
 poisoned w jid moment count was now noted is enough =
     at_least count (standing jid w.moment w.leases) (is ∙ ap₂ (λ m l. standing jid m l) (sym now) (sym noted)) enough
+
+fewer : (n m : ℕ) → n ≡ m → n < 3 → nat_le 3 m ≡ false
+fewer n m e h = grind (arith, nat_tests, e, h)
+
+-- So few stand that it isn't.
+pub spared : (w : World) (jid : Bytes) (moment count : ℕ) (was : Leased) → w.moment ≡ moment → w.leases ≡ recovered jid moment was → count ≡ standing jid moment (recovered jid moment was) → count < 3 → is_poison w jid ≡ false
+spared w jid moment count was now noted is few =
+    fewer count (standing jid w.moment w.leases) (is ∙ ap₂ (λ m l. standing jid m l) (sym now) (sym noted)) few
 
 -- ## Rows of several processes
 

@@ -39,7 +39,8 @@ fn bury_poison(store: &mut Store, list: &Place, payload: &JobText) -> Result<Rep
     let member = member_of(store.alloc, payload)?;
     let report = bury(store, list, payload.text(), member)?;
     if let Some(head) = payload.head() {
-        store.leases.forget(&head.jid_text(store.alloc)?)?;
+        let jid = head.jid_text(store.alloc)?;
+        store.leases.forget(&jid)?;
     }
     Ok(report)
 }
@@ -63,9 +64,8 @@ fn rescue_first(store: &mut Store, list: &Place) -> Result<Report, Memory>
         let text = payload.text().copy()?;
         return bury(store, list, &text, None);
     };
-    let recoveries = store
-        .leases
-        .recovered(&head.jid_text(store.alloc)?, store.moment)?;
+    let jid = head.jid_text(store.alloc)?;
+    let recoveries = store.leases.recovered(&jid, store.moment)?;
     if recoveries >= MOST_RECOVERIES {
         let payload = payload.copy()?;
         return bury_poison(store, list, &payload);

@@ -22,4 +22,4 @@ returns c =
     let found = found_in c.args.phase.now c.in-Joined.ident c.in-Joined.works (is_held_as text) c.args.at c.in-Joined.is c.requires in
     let same = held_text text c.in-Joined.works c.get.result.now (first_is (is_held_as text) c.in-Joined.works c.get.result.now c.args.at found c.get.ensures) in
     let there : head text ≡ Some c.in-Some.head = sym (ap head same) ∙ sym c.head.ensures ∙ c.in-Some.is in
-    ap₂ (λ (ident queue : Bytes). Some (ident, queue)) (c.in_ok-word_of.ensures ∙ sym (ap ident_in c.in-Joined.is)) c.in_ok-queue_text.ensures ∙ sym (ap (way_of (ident_in c.args.phase.now)) there)
+    ap₂ (λ (ident queue : Bytes). Some (ident, queue)) (c.in_ok-word_of.ensures ∙ c.as_bytes.ensures.value ∙ c.text.ensures ∙ sym (ap ident_in c.in-Joined.is)) c.in_ok-queue_text.ensures ∙ sym (ap (way_of (ident_in c.args.phase.now)) there)

@@ -1,5 +1,6 @@
 use Rattle.std.proofs.Common.{◌≡◌, ◌∙◌, ap}
 use Rattle.std.specs.Prelude.{Some}
+use Rattle.sk_resp.specs.Spelling.{Bytes}
 use Rattle.sk_payload.specs.Head.{head as head_of}
 use Rattle.sk_payload.specs.declared.head.Head.{Head}
 use Rattle.sk_leases.specs.Leased.{forgotten}
@@ -10,7 +11,7 @@ use Rattle.sk_store.specs.Stored.{world}
 use Rattle.sk_jobs.proofs.Fronts.{text_of_row}
 use Rattle.sk_jobs.proofs.Rescuing.{poison_sent, same_head}
 use Rattle.sk_jobs.proofs.rescues.bury_poison.Goals as goal
-use Rattle.sk_jobs.proofs.rescues.bury_poison.Goals.{in-Some+in_ok-forget, in_default}
+use Rattle.sk_jobs.proofs.rescues.bury_poison.Goals.{in-Some+in_ok-jid+in_ok-forget, in_default}
 
 pub returns-clause-ok : goal.returns-clause-ok
 returns-clause-ok c = λ row found h named.
@@ -20,9 +21,10 @@ returns-clause-ok c = λ row found h named.
     let there : head_of c.args.payload.now ≡ Some h = ap head_of (text_of_row c.args.payload.now row (rows_at c.args.list.now old.rows) found) ∙ named in
     let same_text : c.text.result.now ≡ c.args.payload.now = c.text.ensures in
     let gone : new ≡ changed mid (Forgets h.jid) = elim c.match-head.branch [
-      | in-Some+in_ok-forget u ↦ (
-          let same : u.in-Some.head ≡ h = same_head u.in-Some.head h (head_of c.args.payload.now) u.in-Some.ensures there in
-          ap world u.store-is ∙ ap (λ s. record mid { leases = s.current }) u.in_ok-forget.ensures.ok ∙ ap (λ (o : Head). record mid { leases = forgotten o.jid mid.leases }) same
+      | in-Some+in_ok-jid+in_ok-forget u ↦ (
+          let same = same_head u.in-Some.head h (head_of c.args.payload.now) u.in-Some.ensures there in
+          let job : u.in_ok-jid.jid ≡ h.jid = u.in_ok-jid.ensures ∙ ap (λ (o : Head). o.jid) same in
+          ap world u.store-is ∙ ap (λ s. record mid { leases = s.current }) u.in_ok-forget.ensures.ok ∙ ap (λ (jid : Bytes). record mid { leases = forgotten jid mid.leases }) job
           )
       | in_default u ↦ absurd (cc there)
     ] in

@@ -7,4 +7,4 @@ pub returns-in-Some : goal.returns-in-Some
 returns-in-Some c = c.number_at_end.ensures ∙ tag_named c.args.payload.now c.in-Some.jid.now (sym c.jid.ensures ∙ ap (option_map (λ jid. jid.now)) c.in-Some.is)
 
 pub returns-in-None : goal.returns-in-None
-returns-in-None c = c.number_at_end-in-None.ensures ∙ ap number_at_end (c.bytes.ensures ∙ c.text-in-None.ensures) ∙ tag_unnamed c.args.payload.now (sym c.jid.ensures ∙ ap (option_map (λ jid. jid.now)) c.in-None.is)
+returns-in-None c = c.number_at_end-in-None.ensures ∙ ap number_at_end (c.bytes.ensures ∙ c.text.ensures) ∙ tag_unnamed c.args.payload.now (sym c.jid.ensures ∙ ap (option_map (λ jid. jid.now)) c.in-None.is)
