@@ -6,5 +6,5 @@ mod Growth
 pub mod Ordered
 mod Renewed
 mod Slots
-mod Counts
+pub mod Counts
 mod CountSteps
