@@ -89,7 +89,9 @@ impl Store {
     pub fn free_removed(&mut self)
         ensures { self.new ≡ self.old }
     {
-        self.take_removed();
+        if self.places.has_removed() {
+            self.take_removed();
+        }
     }
 
     /// With so many texts of so many bytes, all counted as new, there would be more than the store takes. Takes no memory.
