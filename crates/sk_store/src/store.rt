@@ -90,8 +90,16 @@ impl Store {
         ensures { self.new ≡ self.old }
     {
         if self.places.has_removed() {
-            self.take_removed();
+            self.free_all_removed();
         }
+    }
+
+    // Apart from its caller, which each step calls, so that a step that finds nothing doesn't pay for the room that this takes.
+    #[inline(never)]
+    fn free_all_removed(&mut self)
+        ensures { self.new ≡ self.old }
+    {
+        self.take_removed();
     }
 
     /// With so many texts of so many bytes, all counted as new, there would be more than the store takes. Takes no memory.
