@@ -12,6 +12,7 @@ use sk_resp::{Reply, Word, Words};
 use sk_value::counted;
 
 /// Removes a key with its deadline, and answers whether it was there.
+#[tactic(auto, using(crate::proofs::Puts::without_absent, crate::proofs::Puts::count_without))]
 pub fn remove(entries: &mut Entries, expiries: &mut Expiries, name: &Word) -> bool
     requires { IsIndexed entries.old expiries.old }
     ensures was { result ≡ is_some (at name.now entries.old) }

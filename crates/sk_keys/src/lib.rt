@@ -1,4 +1,4 @@
-//! The plain keys of the store, with their deadlines: a small Redis over an ordered map, and an index of the deadlines in order.
+//! The plain keys of the store, with their deadlines: a small Redis over a hash table, and an index of the deadlines in order.
 #![tactic(auto)]
 
 mod apply;

@@ -8,7 +8,7 @@ ghost use Rattle.sk_keys.specs.Index.{IsIndexed};
 use crate::expire::deadline_of;
 use crate::expiries::Expiries;
 use crate::keys::Entries;
-use crate::put::put;
+use crate::put::{put, put_new};
 use sk_cmd::SetOptions;
 use sk_resp::{Reply, Say, Word};
 use sk_value::{Entry, KeysFault, Value};
@@ -30,10 +30,16 @@ pub fn set(
     ensures indexed { IsIndexed entries.new expiries.new }
 {
     let deadline = deadline_of(now, options.expire)?;
-    if options.only_new && entries.contains_key(&name) {
+    let entry = Entry {
+        value: Value::String(text),
+        deadline,
+    };
+    if !options.only_new {
+        put(entries, expiries, name, entry)?;
+    } else if entries.has(&name) {
         return Ok(Reply::Null);
+    } else {
+        put_new(entries, expiries, name, entry)?;
     }
-    let value = Value::String(text);
-    put(entries, expiries, name, Entry { value, deadline })?;
     Ok(Reply::Say(Say::Ok))
 }

@@ -89,6 +89,16 @@ impl Store {
     pub fn free_removed(&mut self)
         ensures { self.new ≡ self.old }
     {
+        if self.places.has_removed() {
+            self.free_all_removed();
+        }
+    }
+
+    // Apart from its caller, which each step calls, so that a step that finds nothing doesn't pay for the room that this takes.
+    #[inline(never)]
+    fn free_all_removed(&mut self)
+        ensures { self.new ≡ self.old }
+    {
         self.take_removed();
     }
 

@@ -117,8 +117,8 @@ impl<K: TextKey + Drop, V: Drop> Bucket<K, V> {
         }
     }
 
-    /// Takes a text's entry out. Takes no memory.
-    pub fn take(&mut self, alloc: Global, hash: u32, text: &[u8]) -> Option<Slot<K, V>>
+    /// Takes a text's entry out. A bucket with nothing left in it keeps its memory, unless it is told to give it back. Takes no memory.
+    pub fn take(&mut self, give_back: Option<Global>, hash: u32, text: &[u8]) -> Option<Slot<K, V>>
         requires hashed { AreHashed K.text self.old }
         requires hash { hash ≡ hash_of text.now }
         ensures is { option_map (λ slot. slot.value) result ≡ value_in K.text text.now self.old }
@@ -130,8 +130,10 @@ impl<K: TextKey + Drop, V: Drop> Bucket<K, V> {
             return None;
         }
         let slot = self.slots.remove(at);
-        if self.slots.is_empty() {
-            self.slots = Vec::new(alloc);
+        if let Some(alloc) = give_back {
+            if self.slots.is_empty() {
+                self.slots = Vec::new(alloc);
+            }
         }
         Some(slot)
     }

@@ -16,6 +16,9 @@ use std::marker::Model;
 // How many entries a bucket has on average before there is one more.
 const LOAD: usize = 4;
 
+// Up to so many buckets, one with nothing left in it keeps its memory for the next entry.
+const FEW: usize = 64;
+
 /// Entries of a key and a value, each found by the bytes of its key. Contracts see the list of texts with their values, in the order of the texts.
 #[derive(Drop)]
 pub struct TextTable<K: TextKey, V> {
@@ -186,7 +189,8 @@ impl<K: TextKey + Drop, V: Drop> TextTable<K, V> {
         if here >= self.buckets.len() {
             return None;
         }
-        let slot = self.buckets[here].take(self.alloc, hash, text)?;
+        let give_back = (self.buckets.len() > FEW).then_some(self.alloc);
+        let slot = self.buckets[here].take(give_back, hash, text)?;
         self.count = self.count.saturating_sub(1);
         Some((slot.key, slot.value))
     }
@@ -244,7 +248,8 @@ impl<K: TextKey + Drop, V: Drop> TextTable<K, V> {
         if here >= self.buckets.len() {
             return None;
         }
-        let slot = self.buckets[here].take(self.alloc, hash, text)?;
+        let give_back = (self.buckets.len() > FEW).then_some(self.alloc);
+        let slot = self.buckets[here].take(give_back, hash, text)?;
         self.count = self.count.saturating_sub(1);
         Some((slot.key, slot.value))
     }
