@@ -1,20 +1,21 @@
 // The jobs that are live, and the totals of what was pushed. Memory is taken before the first edit.
 ghost use Rattle.std.specs.Prelude.{◌≡◌, ◌<◌, ◌≤◌, Some, None, true, false, IfOk, IsSome, OnErr, OnOk, length, option_map};
-ghost use Rattle.std.specs.Option.{is_some};
+ghost use Rattle.std.specs.Map.{keys_of};
 ghost use Rattle.sk_undo.specs.Balance.{most};
 ghost use Rattle.sk_resp.specs.WordOrder.{text_cmp};
 ghost use Rattle.sk_undo.specs.Sorted.{is_sorted};
 ghost use Rattle.sk_undo.specs.Versions.{begun, closed, committed, edited, undone};
 ghost use Rattle.sk_payload.specs.Head.{jid_of};
 ghost use Rattle.sk_places.specs.Cleared.{every_deleted};
-ghost use Rattle.sk_places.specs.LiveJobs.{ended, is_among, job_pushed, no_jobs, one_if, pushed, without_jid};
+ghost use Rattle.sk_places.specs.Index.{IsReadyFor};
+ghost use Rattle.sk_places.specs.LiveJobs.{ended, is_among, job_pushed, no_jobs, one_if, pushed};
+ghost use Rattle.sk_table.specs.Counts.{count_in, with_count};
 ghost use Rattle.sk_places.specs.Totals.{accounted, count_end, last_push, pushes_in, IsCountable, last_outside};
 
-use crate::index::jid_of;
-use crate::job_key::{JobKey, OfJob};
+use crate::index::{JobIndex, jid_of, prepare_job, renew_job};
 use crate::{Ending, Memory, Origin, Totals};
 use sk_payload::JobText;
-use sk_undo::UndoSet;
+use sk_table::UndoCounts;
 use std::alloc::Global;
 use std::marker::Model;
 
@@ -23,7 +24,7 @@ use std::marker::Model;
 #[derive(Drop)]
 pub struct LiveJobs {
     // The ids of the jobs that are live.
-    live: UndoSet<JobKey>,
+    live: JobIndex,
     totals: Totals,
     // What the totals were at the begin of the open step.
     totals_then: Totals,
@@ -35,33 +36,26 @@ impl Model for LiveJobs {
 
     ghost Value = { Versions Lived };
 
+    ghost use Rattle.std.specs.Map.{keys_of};
+    ghost use Rattle.sk_undo.specs.Versions.{map_versions};
     ghost use Rattle.sk_places.specs.LiveJobs.{AreAccounted, jobs_in};
 
-    ghost view = { λ l. jobs_in l.live.list l.totals l.totals_then };
+    ghost view = { λ l. jobs_in (map_versions keys_of l.live.list) l.totals l.totals_then };
 
-    ghost invariant = { λ l. AreAccounted (jobs_in l.live.list l.totals l.totals_then) };
+    ghost invariant = { λ l. AreAccounted (jobs_in (map_versions keys_of l.live.list) l.totals l.totals_then) };
 }
 
-// The job ends, if it is live.
-fn end_job(live: &mut UndoSet<JobKey>, totals: &mut Totals, jid: &[u8], how: Ending)
-    requires room { 0 < live.old.room }
+// The job ends, if it is live, which `count` tells.
+fn end_job(live: &mut JobIndex, totals: &mut Totals, jid: &[u8], count: u32, how: Ending)
+    requires ready { IsReadyFor jid.now live.old }
+    requires count { count ≡ count_in jid.now live.old.list.current }
     requires few { accounted totals.old 0 ≤ last_push }
-    ensures live { live.new.list ≡ edited (without_jid jid.now live.old.list.current) live.old.list }
-    ensures totals { totals.new ≡ count_end how (one_if (is_among jid.now live.old.list.current)) totals.old }
+    ensures live { live.new.list ≡ edited (with_count jid.now 0 live.old.list.current) live.old.list }
+    ensures totals { totals.new ≡ count_end how (one_if (is_among jid.now (keys_of live.old.list.current))) totals.old }
 {
-    if live.remove(&OfJob { jid }) {
+    live.put(jid, 0);
+    if count > 0 {
         totals.count_end(how);
-    }
-}
-
-// The key takes the place of an equal one, if there is one.
-fn put_again(live: &mut UndoSet<JobKey>, key: JobKey)
-    requires room { 1 < live.old.room }
-    requires sorted { is_sorted text_cmp live.old.list.current ≡ true }
-    ensures { live.new.list ≡ live.old.list }
-{
-    if live.remove(&key) {
-        live.insert(key);
     }
 }
 
@@ -71,7 +65,7 @@ impl LiveJobs {
         ensures { result ≡ closed no_jobs }
     {
         LiveJobs {
-            live: UndoSet::new(alloc),
+            live: UndoCounts::new(alloc),
             totals: Totals::none(),
             totals_then: Totals::none(),
         }
@@ -106,10 +100,11 @@ impl LiveJobs {
         ensures is { result ≡ closed (every_deleted self.now.current) }
         ensures order { is_sorted text_cmp self.now.current.live ≡ true }
     {
+        self.live.in_order();
         let mut totals = self.totals;
         totals.count_deleted(self.live.len() as u64);
         LiveJobs {
-            live: UndoSet::new(alloc),
+            live: UndoCounts::new(alloc),
             totals,
             totals_then: totals,
         }
@@ -125,27 +120,36 @@ impl LiveJobs {
     }
 
     // A row of a fresh job is pushed.
-    fn push_fresh(&mut self, key: JobKey, from: Origin) -> Result<(), Memory>
-        requires { IsCountable from self.old.current.totals }
-        ensures ok { OnOk result (self.new ≡ edited (job_pushed from true (Some key) self.old.current) self.old) }
+    fn push_fresh(&mut self, payload: &JobText, jid: &[u8], from: Origin) -> Result<(), Memory>
+        requires named { jid_of payload.now ≡ Some jid.now }
+        requires countable { IsCountable from self.old.current.totals }
+        ensures ok { OnOk result (self.new ≡ edited (job_pushed from true (Some jid.now) self.old.current) self.old) }
         ensures err { OnErr result (self.new ≡ self.old) }
     {
-        self.live.reserve(1)?;
+        let _count = prepare_job(&mut self.live, payload)?;
+        self.live.in_order();
         self.totals.count_push(from);
-        self.live.insert(key);
+        self.live.put(jid, 1);
         Ok(())
     }
 
     // A row of a job that isn't fresh is pushed.
-    fn push_again(&mut self, jid: &[u8], from: Origin) -> Result<(), Memory>
-        requires { IsCountable from self.old.current.totals }
+    fn push_again(&mut self, payload: &JobText, jid: &[u8], from: Origin) -> Result<(), Memory>
+        requires named { jid_of payload.now ≡ Some jid.now }
+        requires countable { IsCountable from self.old.current.totals }
         ensures ok { OnOk result (self.new ≡ edited (job_pushed from false (Some jid.now) self.old.current) self.old) }
         ensures err { OnErr result (self.new ≡ self.old) }
     {
-        self.live.reserve(1)?;
+        let count = prepare_job(&mut self.live, payload)?;
         self.totals.count_push(from);
         self.totals.again += 1;
-        end_job(&mut self.live, &mut self.totals, jid, Ending::Muddled);
+        end_job(
+            &mut self.live,
+            &mut self.totals,
+            jid,
+            count,
+            Ending::Muddled,
+        );
         Ok(())
     }
 
@@ -156,13 +160,13 @@ impl LiveJobs {
         ensures ok { OnOk result (self.new ≡ edited (pushed from (λ jid. fresh) payload.now self.old.current) self.old) }
         ensures err { OnErr result (self.new ≡ self.old) }
     {
-        match JobKey::of(payload)? {
+        match jid_of(payload) {
             None => {
                 self.push_bare(from);
                 Ok(())
             }
-            Some(key) if fresh => self.push_fresh(key, from),
-            Some(key) => self.push_again(key.jid(), from),
+            Some(jid) if fresh => self.push_fresh(payload, jid, from),
+            Some(jid) => self.push_again(payload, jid, from),
         }
     }
 
@@ -170,12 +174,7 @@ impl LiveJobs {
     pub fn share_key(&mut self, payload: &JobText) -> Result<(), Memory>
         ensures { self.new ≡ self.old }
     {
-        let _len = self.live.len(); // its contract says that they are in order
-        if let Some(key) = JobKey::of(payload)? {
-            self.live.reserve(2)?;
-            put_again(&mut self.live, key);
-        }
-        Ok(())
+        renew_job(&mut self.live, payload)
     }
 
     /// The job of this payload ends, if it is live. Takes no memory.
@@ -184,7 +183,7 @@ impl LiveJobs {
         ensures { self.new ≡ edited (ended how payload.now self.old.current) self.old }
     {
         if let Some(jid) = jid_of(payload) {
-            if self.live.take(&OfJob { jid }) {
+            if self.live.take(jid) {
                 self.totals.count_end(how);
             }
         }
@@ -196,8 +195,8 @@ impl LiveJobs {
         ensures err { OnErr result (self.new ≡ self.old) }
     {
         if let Some(jid) = jid_of(payload) {
-            self.live.reserve(1)?;
-            end_job(&mut self.live, &mut self.totals, jid, how);
+            let count = prepare_job(&mut self.live, payload)?;
+            end_job(&mut self.live, &mut self.totals, jid, count, how);
         }
         Ok(())
     }

@@ -18,8 +18,7 @@ ghost use Rattle.sk_zset.specs.Bounds.{is_below};
 ghost use Rattle.sk_places.specs.Segments.{is_text};
 ghost use Rattle.sk_places.specs.RowFilter.{selects};
 
-use crate::index::{JobIndex, add_job, drop_job, take_job};
-use crate::job_key::{JobKey, OfJob};
+use crate::index::{JobIndex, add_job, drop_job, prepare_job, renew_job, take_job};
 use crate::row::{Place, RowKey};
 use crate::row_filter::RowFilter;
 use crate::row_lists::{RowLists, are_lists};
@@ -30,6 +29,7 @@ use sk_base::{Bound, Score};
 use sk_cmd::{Scored, Side};
 use sk_payload::JobText;
 use sk_resp::Word;
+use sk_table::UndoCounts;
 use sk_undo::UndoMultiset;
 use std::alloc::Global;
 use std::marker::Model;
@@ -99,6 +99,7 @@ fn lowered(size: Size, text: &Word) -> Size
 
 impl Rows {
     /// Takes no memory.
+    #[tactic(auto, unfolding(std::specs::List::Sorted::IsStrictlySortedBy))]
     pub fn new(alloc: Global) -> Rows
         ensures { result ≡ closed [] }
     {
@@ -107,7 +108,7 @@ impl Rows {
             lists: RowLists::new(alloc),
             size: none,
             size_then: none,
-            index: UndoMultiset::new(alloc),
+            index: UndoCounts::new(alloc),
             text_index: UndoMultiset::new(alloc),
         }
     }
@@ -133,12 +134,12 @@ impl Rows {
         self.size.bytes
     }
 
-    /// How many rows name the job. Logarithmic.
+    /// How many rows name the job.
     pub fn count_of(&self, jid: &[u8]) -> usize
         ensures is { result ≡ rows_of jid.now self.now.current }
         ensures small { result ≤ most }
     {
-        self.index.count(&OfJob { jid })
+        self.index.count(jid) as usize
     }
 
     /// How many rows a place has.
@@ -263,15 +264,14 @@ impl Rows {
         if self.size.rows == MOST_ROWS {
             return Err(Memory);
         }
-        let job = JobKey::of(&payload)?;
         let key = key_of(&row_key, &payload)?;
         self.lists.prepare(&row_key.place, 1)?;
-        self.index.reserve(1)?;
+        let count = prepare_job(&mut self.index, &payload)?;
         self.text_index.reserve(1)?;
         jobs.push(&payload, from, fresh)?;
         self.size = raised(self.size, payload.text());
+        add_job(&mut self.index, &payload, count);
         self.lists.put(row_key, payload, end);
-        add_job(&mut self.index, job);
         add_key(&mut self.text_index, key);
         Ok(())
     }
@@ -284,14 +284,14 @@ impl Rows {
         if self.size.rows == MOST_ROWS {
             return Err(Memory);
         }
-        let job = JobKey::of(&payload)?;
         let key = key_of(&row_key, &payload)?;
         self.lists.prepare(&row_key.place, 1)?;
-        self.index.reserve(1)?;
+        renew_job(&mut self.index, &payload)?;
+        let count = prepare_job(&mut self.index, &payload)?;
         self.text_index.reserve(1)?;
         self.size = raised(self.size, payload.text());
+        add_job(&mut self.index, &payload, count);
         self.lists.put(row_key, payload, end);
-        add_job(&mut self.index, job);
         add_key(&mut self.text_index, key);
         Ok(())
     }
@@ -364,10 +364,10 @@ impl Rows {
         ensures err { OnErr result (self.new ≡ self.old) }
     {
         self.lists.reserve()?;
-        self.index.reserve(1)?;
         self.text_index.reserve(1)?;
         let (score, payload) = self.lists.get(place, at);
-        drop_job(&mut self.index, payload);
+        let count = prepare_job(&mut self.index, payload)?;
+        drop_job(&mut self.index, payload, count);
         drop_key(&mut self.text_index, place, score, payload);
         self.size = lowered(self.size, payload.text());
         self.lists.drop_out(place, at);
@@ -389,11 +389,11 @@ impl Rows {
         ensures jobs_err { OnErr result (jobs.new ≡ jobs.old) }
     {
         self.lists.reserve()?;
-        self.index.reserve(1)?;
         self.text_index.reserve(1)?;
         let (score, payload) = self.lists.get(place, at);
+        let count = prepare_job(&mut self.index, payload)?;
         jobs.end_in_step(payload, how)?;
-        drop_job(&mut self.index, payload);
+        drop_job(&mut self.index, payload, count);
         drop_key(&mut self.text_index, place, score, payload);
         self.size = lowered(self.size, payload.text());
         self.lists.drop_out(place, at);

@@ -16,9 +16,9 @@ lowered-self-inside-requires-clause-enough c = subst (λ t. length t ≤ c.self.
 pub invariant_of-self-2 : goal.invariant_of-self-2
 invariant_of-self-2 c =
     let rows = c.drop_out.ensures.rows ∙ ap (λ s. edited (remove s.current (start_of c.args.place.now s.current + c.args.at)) s) c.reserve.ensures.rows in
-    let index = c.drop_job.ensures ∙ ap (λ s. edited (without_job (jid_of c.get-score.result.1.now) s.current) s) c.reserve-2.ensures.list in
+    let index = c.drop_job.ensures ∙ ap (λ s. edited (without_job (jid_of c.get-score.result.1.now) s.current) s) c.prepare_job.ensures.list in
     let bytes = ap (λ t. c.lowered-self-inside.result.bytes + length t) (sym c.text.ensures) ∙ c.lowered-self-inside.ensures.bytes in
-    let keys = c.drop_key.ensures.list ∙ ap (λ s. edited (without_key (key_at c.args.place.now c.get-score.result.0 c.get-score.result.1.now) s.current) s) c.reserve-3.ensures.list in
+    let keys = c.drop_key.ensures.list ∙ ap (λ s. edited (without_key (key_at c.args.place.now c.get-score.result.0 c.get-score.result.1.now) s.current) s) c.reserve-2.ensures.list in
     removed_sound c.self.inside.lists c.drop_out.new.self c.self.inside.size c.self.inside.size_then c.self.inside.index.list c.self.inside.text_index.list c.self.invariant c.drop_out.ensures.lists (start_of c.args.place.now (rows_in c.self.inside.lists).current + c.args.at) (listed c.args.place.now (c.get-score.result.0, c.get-score.result.1.now)) c.lowered-self-inside.result c.drop_job.new.index.list c.drop_key.new.index.list rows (row_there c.self.inside.lists c.self.inside.size c.self.inside.size_then c.self.inside.index.list c.self.inside.text_index.list c.self.invariant c.args.place.now c.args.at (c.get-score.result.0, c.get-score.result.1.now) (subst (λ v. c.args.at < length (rows_at c.args.place.now v.current)) (sym c.self.view_is) c.requires) (subst (λ s. slice_get (rows_at c.args.place.now s.current) c.args.at ≡ Some (listed c.args.place.now (c.get-score.result.0, c.get-score.result.1.now))) c.reserve.ensures.rows c.get-score.ensures)) c.lowered-self-inside.ensures.rows bytes index keys
 
 pub returns-clause-jobs : goal.returns-clause-jobs
