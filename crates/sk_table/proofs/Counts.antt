@@ -164,6 +164,18 @@ is_some_kept n text t up there = by_test (nat_eq n 0) refl ∙ ap (λ o. is_some
     by_test true e = grind (arith, nat_tests, e)
     by_test false e = grind (arith, nat_tests, e)
 
+some_kept : (o : Option ℕ) → is_some (kept o) ≡ not (nat_eq (unwrap_or (kept o) 0) 0)
+some_kept None = refl
+some_kept (Some n) = by_test (nat_eq n 0) refl
+  where
+    by_test : (b : Bool) → nat_eq n 0 ≡ b → is_some (cond b None (Some n)) ≡ not (nat_eq (unwrap_or (cond b None (Some n)) 0) 0)
+    by_test true e = refl
+    by_test false e = sym (ap not e)
+
+-- none counts 0
+pub some_counts_some : (text : Bytes) (t : Counts) → IsUp t → is_some (at text (counted t)) ≡ not (nat_eq (count_in text (counted t)) 0)
+some_counts_some text t up = ap is_some (at_counted text t up) ∙ some_kept (at text t) ∙ ap (λ o. not (nat_eq (unwrap_or o 0) 0)) (sym (at_counted text t up))
+
 -- ## How many texts count
 
 length_with : (text : Bytes) (n : ℕ) (c : Counts) → IsUp c → length (with_text text n c) ≡ length c + cond (is_some (at text c)) 0 1
@@ -184,17 +196,9 @@ length_without text (first ∷ rest) = by_test (is_at (text_cmp text) first.0) r
     by_test true here more = grind (arith, here)
     by_test false here more = grind (arith, here, more)
 
-pub some_kept : (o : Option ℕ) → is_some (kept o) ≡ not (nat_eq (unwrap_or (kept o) 0) 0)
-some_kept None = refl
-some_kept (Some n) = by_test (nat_eq n 0) refl
-  where
-    by_test : (b : Bool) → nat_eq n 0 ≡ b → is_some (cond b None (Some n)) ≡ not (nat_eq (unwrap_or (cond b None (Some n)) 0) 0)
-    by_test true e = refl
-    by_test false e = sym (ap not e)
-
 pub length_count : (text : Bytes) (n : ℕ) (t : Counts) → IsUp t → length (with_count text n (counted t)) ≡ len_after (length (counted t)) (count_in text (counted t)) n
 length_count text n t up =
-    let some : is_some (at text (counted t)) ≡ not (nat_eq (count_in text (counted t)) 0) = ap is_some (at_counted text t up) ∙ some_kept (at text t) ∙ ap (λ o. not (nat_eq (unwrap_or o 0) 0)) (sym (at_counted text t up)) in
+    let some = some_counts_some text t up in
     let more = length_with text n (counted t) (up_counted t up) in
     let less = length_without text (counted t) in
     by_tests (nat_eq n 0) (nat_eq (count_in text (counted t)) 0) refl refl some more less

@@ -1,6 +1,6 @@
 // Counts under texts, by hash, whose edits in an open step can be taken back. What an entry counted is logged before it is changed, and an entry
 // that counts none any more stays until its step ends, so that taking a step back takes no memory.
-ghost use Rattle.std.specs.Prelude.{◌≡◌, ◌-◌, ◌^◌, ◌<◌, ◌≤◌, [], true, IfOk, IsSome, None, OnOk, length, vec_capacity, vec_len};
+ghost use Rattle.std.specs.Prelude.{◌≡◌, ◌-◌, ◌^◌, ◌<◌, ◌≤◌, [], true, IfOk, IsSome, None, OnOk, length, nat_eq, not, vec_capacity, vec_len};
 ghost use Rattle.std.specs.List.Sorted.{IsStrictlySortedBy};
 ghost use Rattle.std.specs.Map.{keys_of};
 ghost use Rattle.std.specs.Option.{is_some};
@@ -129,6 +129,7 @@ impl<K: TextKey + Drop> UndoCounts<K> {
         requires { K.text again ≡ K.text key }
         ensures list { self.new.list ≡ self.old.list }
         ensures is { IfOk result (λ count. count ≡ count_in (K.text key) self.old.list.current) }
+        ensures some { IfOk result (λ count. is_some (at (K.text key) self.old.list.current) ≡ not (nat_eq count 0)) }
         ensures small { IfOk result (λ count. count < most_count) }
         ensures room { OnOk result (length self.new.list.current < most) }
         ensures ready { OnOk result (is_among (K.text key) self.new.ready ≡ true) }
