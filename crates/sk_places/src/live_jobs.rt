@@ -1,5 +1,5 @@
 // The jobs that are live, and the totals of what was pushed. Memory is taken before the first edit.
-ghost use Rattle.std.specs.Prelude.{◌≡◌, ◌<◌, ◌≤◌, Some, None, true, false, IfOk, IsSome, OnErr, OnOk, length, option_map};
+ghost use Rattle.std.specs.Prelude.{◌≡◌, ◌<◌, ◌≤◌, Some, None, true, false, IfOk, IsSome, OnErr, OnOk, length, nat_eq, not, option_map};
 ghost use Rattle.std.specs.Map.{keys_of};
 ghost use Rattle.sk_undo.specs.Balance.{most};
 ghost use Rattle.sk_resp.specs.WordOrder.{text_cmp};
@@ -48,7 +48,7 @@ impl Model for LiveJobs {
 // The job ends, if it is live, which `count` tells.
 fn end_job(live: &mut JobIndex, totals: &mut Totals, jid: &[u8], count: u32, how: Ending)
     requires ready { IsReadyFor jid.now live.old }
-    requires count { count ≡ count_in jid.now live.old.list.current }
+    requires live { is_among jid.now (keys_of live.old.list.current) ≡ not (nat_eq count 0) }
     requires few { accounted totals.old 0 ≤ last_push }
     ensures live { live.new.list ≡ edited (with_count jid.now 0 live.old.list.current) live.old.list }
     ensures totals { totals.new ≡ count_end how (one_if (is_among jid.now (keys_of live.old.list.current))) totals.old }
@@ -120,6 +120,7 @@ impl LiveJobs {
     }
 
     // A row of a fresh job is pushed.
+    #[tactic(auto, using(crate::proofs::LiveKeys::keys_with))]
     fn push_fresh(&mut self, payload: &JobText, jid: &[u8], from: Origin) -> Result<(), Memory>
         requires named { jid_of payload.now ≡ Some jid.now }
         requires countable { IsCountable from self.old.current.totals }
@@ -134,6 +135,7 @@ impl LiveJobs {
     }
 
     // A row of a job that isn't fresh is pushed.
+    #[tactic(auto, using(crate::proofs::LiveKeys::keys_without))]
     fn push_again(&mut self, payload: &JobText, jid: &[u8], from: Origin) -> Result<(), Memory>
         requires named { jid_of payload.now ≡ Some jid.now }
         requires countable { IsCountable from self.old.current.totals }
@@ -178,6 +180,7 @@ impl LiveJobs {
     }
 
     /// The job of this payload ends, if it is live. Takes no memory.
+    #[tactic(auto, using(crate::proofs::LiveKeys::keys_without, sk_table::proofs::Counts::among_keys))]
     pub fn end(&mut self, payload: &JobText, how: Ending)
         requires { self.old.saved ≡ None }
         ensures { self.new ≡ edited (ended how payload.now self.old.current) self.old }
@@ -190,6 +193,7 @@ impl LiveJobs {
     }
 
     /// The same in an open step.
+    #[tactic(auto, using(crate::proofs::LiveKeys::keys_without))]
     pub fn end_in_step(&mut self, payload: &JobText, how: Ending) -> Result<(), Memory>
         ensures ok { OnOk result (self.new ≡ edited (ended how payload.now self.old.current) self.old) }
         ensures err { OnErr result (self.new ≡ self.old) }

@@ -99,7 +99,7 @@ fn lowered(size: Size, text: &Word) -> Size
 
 impl Rows {
     /// Takes no memory.
-    #[tactic(auto, unfolding(std::specs::List::Sorted::IsStrictlySortedBy))]
+    #[tactic(auto, using(crate::proofs::Indexed::none_indexed))]
     pub fn new(alloc: Global) -> Rows
         ensures { result ≡ closed [] }
     {
