@@ -924,8 +924,9 @@ def memory(process):
 
 
 def old_texts_go(_, jobs=60, length=300_000):
-    """A failed job's old text is given up: a server whose jobs have all failed needs no more memory than before."""
-    server = Server(16)
+    """A failed job's old text is given up: a server whose jobs have all failed needs no more memory than before. Each text has pages of its own here,
+    so that what is freed goes back at once, whichever thread frees it."""
+    server = Server(16, under=('env', 'MALLOC_MMAP_THRESHOLD_=131072'))
     with server.client() as it:
         for n in range(jobs):
             it.ask(b':%d\r\n' % (n + 1), 'LPUSH', 'queue:old', FAILING % (n, 'x' * length))
