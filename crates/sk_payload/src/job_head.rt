@@ -12,7 +12,7 @@ use crate::after::{is_one_more, is_same_lock};
 use crate::head::{Head, Lock};
 use crate::lock_digest::digest_of_parts;
 use crate::span::part_at;
-use crate::spans::Spans;
+use crate::spans::{Spans, lock_of};
 use sk_resp::Text;
 use std::alloc::Global;
 use std::marker::Model;
@@ -135,7 +135,7 @@ impl<'a> JobHead<'a> {
         ensures { result ≡ self.now.lock }
     {
         match self.parts {
-            Parts::Spans(spans) => spans.lock,
+            Parts::Spans(spans) => lock_of(spans.seconds),
             Parts::Head(head) => head.lock,
         }
     }

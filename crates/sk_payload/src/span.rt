@@ -2,19 +2,19 @@
 ghost use Rattle.std.specs.Prelude.{◌≡◌, IfSome};
 ghost use Rattle.sk_payload.specs.Span.{IsWithin, Stands, part};
 
-/// Where a part of a text stands: from which byte on, and before which one it ends.
+/// Where a part of a text of less than 64 KiB stands: from which byte on, and before which one it ends.
 #[derive(Clone, Copy, Debug, Drop)]
 pub struct Span {
-    pub start: u32,
-    pub end: u32,
+    pub start: u16,
+    pub end: u16,
 }
 
-// A place in a text as 32 bits, where it fits.
-fn place(at: usize) -> Option<u32>
+// A place in a text as 16 bits, where it fits.
+fn place(at: usize) -> Option<u16>
     ensures { IfSome result (λ n. n ≡ at) }
 {
-    if at <= u32::MAX as usize {
-        Some(at as u32)
+    if at <= u16::MAX as usize {
+        Some(at as u16)
     } else {
         None
     }

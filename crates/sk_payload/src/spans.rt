@@ -5,6 +5,7 @@ ghost use Rattle.sk_payload.specs.Member.{lock_of};
 ghost use Rattle.sk_payload.specs.Spans.{AreSpans, HasSpans};
 ghost use Rattle.sk_payload.specs.Span.{Stands, StandsIf};
 ghost use Rattle.sk_payload.specs.Usual.{head_of_sketch};
+ghost use Rattle.sk_payload.specs.declared.head.Until.TheVariants.{Success};
 
 use crate::head::{Lock, Until};
 use crate::sketch::{Sketch, sketch_of};
@@ -12,7 +13,7 @@ use crate::slots::slots_of;
 use crate::span::{Span, span_to};
 use std::str;
 
-/// Where the parts of a head stand in its text, and its numbers that aren't text.
+/// Where the parts of a head stand in its text, and its numbers that aren't text. A lock stands until the job succeeds.
 #[derive(Clone, Copy, Debug, Drop)]
 pub struct Spans {
     pub jid: Span,
@@ -21,7 +22,7 @@ pub struct Spans {
     pub args: Span,
     pub bid: Option<Span>,
     pub gen_: u32,
-    pub lock: Option<Lock>,
+    pub seconds: Option<u32>,
 }
 
 // The span of a string, behind which stands its last quote.
@@ -40,16 +41,23 @@ fn bid_span(text: &[u8], bid: Option<&str>, end: usize) -> Option<Option<Span>>
     }
 }
 
-fn lock_of(seconds: Option<u32>, until: Until) -> Option<Lock>
-    ensures { result ≡ lock_of seconds until }
+/// A lock of so many seconds, where there is one, until the job succeeds.
+pub fn lock_of(seconds: Option<u32>) -> Option<Lock>
+    ensures { result ≡ lock_of seconds Success }
 {
-    seconds.map(|seconds| Lock { seconds, until })
+    seconds.map(|seconds| Lock {
+        seconds,
+        until: Until::Success,
+    })
 }
 
 // The spans of what a sketch shows of the text, whose members end there.
 fn spans_in(text: &[u8], ends: &[usize; 13], sketch: &Sketch<'_>) -> Option<Spans>
     ensures { IfSome result (λ spans. AreSpans spans text.now (head_of_sketch sketch.now)) }
 {
+    let Until::Success = sketch.until else {
+        return None;
+    };
     Some(Spans {
         jid: quoted_span(text, sketch.jid, ends[0])?,
         class: quoted_span(text, sketch.class, ends[1])?,
@@ -57,7 +65,7 @@ fn spans_in(text: &[u8], ends: &[usize; 13], sketch: &Sketch<'_>) -> Option<Span
         args: span_to(text, sketch.args.as_bytes(), ends[3])?,
         bid: bid_span(text, sketch.bid, ends[4])?,
         gen_: sketch.gen_,
-        lock: lock_of(sketch.seconds, sketch.until),
+        seconds: sketch.seconds,
     })
 }
 

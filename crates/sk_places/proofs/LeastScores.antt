@@ -10,15 +10,14 @@ use Rattle.sk_undo.specs.Partitioned.{all_pass}
 use Rattle.sk_undo.specs.Queries.{lt_le}
 use Rattle.sk_undo.specs.Sorted.{is_ordered, rank}
 use Rattle.sk_places.specs.LiveJobs.{one_if}
-use Rattle.sk_places.specs.declared.text_key.TextKey.{TextKey}
 use Rattle.sk_places.specs.TextIndex.{IsLeastScore, count_in}
-use Rattle.sk_places.specs.TextKey.{key_cmp, key_in, key_total, text_order}
+use Rattle.sk_places.specs.TextKey.{Key, key_cmp, key_in, key_total, text_order}
 use Rattle.sk_places.proofs.TextIndexed.{count_first, key_itself, same_place_of}
 
 -- ## Keys in order
 
 -- the key stands before this one, if there is one
-abbrev is_before : TextKey → Option TextKey → Bool
+abbrev is_before : Key → Option Key → Bool
 is_before key None = true
 is_before key (Some other) = is_lt (key_cmp key other)
 
@@ -27,7 +26,7 @@ not_at Less h = refl
 not_at Equal h = absurd (cc h)
 not_at Greater h = absurd (cc h)
 
-none_behind : (key first : TextKey) (keys : List TextKey) → is_lt (key_cmp key first) ≡ true → all_pass (λ other. is_le (key_cmp first other)) keys ≡ true → count_in key keys ≡ 0
+none_behind : (key first : Key) (keys : List Key) → is_lt (key_cmp key first) ≡ true → all_pass (λ other. is_le (key_cmp first other)) keys ≡ true → count_in key keys ≡ 0
 none_behind key first [] h k = refl
 none_behind key first (x ∷ keys) h k =
     let s = count_first key x keys in
@@ -36,7 +35,7 @@ none_behind key first (x ∷ keys) h k =
     let m = none_behind key first keys h (grind (arith, k)) in
     s ∙ grind (arith, n, m)
 
-none_first : (key first : TextKey) (keys : List TextKey) → is_lt (key_cmp key first) ≡ true → all_pass (λ other. is_le (key_cmp first other)) keys ≡ true → count_in key (first ∷ keys) ≡ 0
+none_first : (key first : Key) (keys : List Key) → is_lt (key_cmp key first) ≡ true → all_pass (λ other. is_le (key_cmp first other)) keys ≡ true → count_in key (first ∷ keys) ≡ 0
 none_first key first keys h k =
     let s = count_first key first keys in
     let n = not_at (key_cmp key first) h in
@@ -44,15 +43,15 @@ none_first key first keys h k =
     s ∙ grind (arith, n, m)
 
 -- what is equal to a key of the text is a key of the text
-at_text : (set : Scored) (text : Bytes) (score : ℤ) (other : TextKey) → is_le (text_order set text other) ≡ false → is_at (key_cmp (key_in set text score)) other ≡ false
-at_text set text score other h = cases (text_order set text other) (int_cmp score other.score) h
+at_text : (set : Scored) (text : Bytes) (score : ℤ) (other : Key) → is_le (text_order set text other) ≡ false → is_at (key_cmp (key_in set text score)) other ≡ false
+at_text set text score other h = cases (text_order set text other) (int_cmp score other.2) h
   where
     cases : (o p : Ordering) → is_le o ≡ false → is_eq (ordering_then o p) ≡ false
     cases Less p h = absurd (cc h)
     cases Equal p h = absurd (cc h)
     cases Greater p h = refl
 
-none_below : (set : Scored) (text : Bytes) (score : ℤ) (keys : List TextKey) → is_ordered key_cmp keys ≡ true → is_before (key_in set text score) (slice_get keys (rank (text_order set text) keys)) ≡ true → count_in (key_in set text score) keys ≡ 0
+none_below : (set : Scored) (text : Bytes) (score : ℤ) (keys : List Key) → is_ordered key_cmp keys ≡ true → is_before (key_in set text score) (slice_get keys (rank (text_order set text) keys)) ≡ true → count_in (key_in set text score) keys ≡ 0
 none_below set text score [] up h = refl
 none_below set text score (first ∷ keys) up h = cases (is_le (text_order set text first)) refl (none_below set text score keys)
   where
@@ -74,7 +73,7 @@ none_below set text score (first ∷ keys) up h = cases (is_le (text_order set t
 -- ## What was found
 
 -- the first key that isn't before the text's
-found_le : (set : Scored) (text : Bytes) (keys : List TextKey) (key : TextKey) → slice_get keys (rank (text_order set text) keys) ≡ Some key → is_le (text_order set text key) ≡ true
+found_le : (set : Scored) (text : Bytes) (keys : List Key) (key : Key) → slice_get keys (rank (text_order set text) keys) ≡ Some key → is_le (text_order set text key) ≡ true
 found_le set text [] key h = cc h
 found_le set text (first ∷ keys) key h = cases (is_le (text_order set text first)) refl (found_le set text keys key)
   where
@@ -98,7 +97,7 @@ level Equal p h l = l
 level Greater p h l = absurd (cc h)
 
 -- a key that is there is counted
-counted : (key : TextKey) (keys : List TextKey) (at : ℕ) → slice_get keys at ≡ Some key → 0 < count_in key keys
+counted : (key : Key) (keys : List Key) (at : ℕ) → slice_get keys at ≡ Some key → 0 < count_in key keys
 counted key [] at h = cc h
 counted key (first ∷ keys) zero h =
     let e : first ≡ key = cc h in
@@ -110,17 +109,17 @@ counted key (first ∷ keys) (suc at) h =
     let more = counted key keys at h in
     omega (arith, s, more)
 
-there_is : (xs : List TextKey) (i : ℕ) (x : TextKey) → i < length xs → x ≡ get_or xs i x → slice_get xs i ≡ Some x
+there_is : (xs : List Key) (i : ℕ) (x : Key) → i < length xs → x ≡ get_or xs i x → slice_get xs i ≡ Some x
 there_is [] i x h e = absurd (omega (arith, h))
 there_is (y ∷ xs) zero x h e = ap Some (sym e)
 there_is (y ∷ xs) (suc i) x h e = there_is xs i x (omega (arith, h)) e
 
-past_is : (xs : List TextKey) (i : ℕ) → i ≡ length xs → slice_get xs i ≡ None
+past_is : (xs : List Key) (i : ℕ) → i ≡ length xs → slice_get xs i ≡ None
 past_is [] i h = refl
 past_is (y ∷ xs) zero h = absurd (omega (arith, h))
 past_is (y ∷ xs) (suc i) h = past_is xs i (omega (arith, h))
 
-module _ (set : Scored) (text : Bytes) (keys : List TextKey) (up : is_ordered key_cmp keys ≡ true) (at : ℕ) (here : at ≡ rank (text_order set text) keys) where
+module _ (set : Scored) (text : Bytes) (keys : List Key) (up : is_ordered key_cmp keys ≡ true) (at : ℕ) (here : at ≡ rank (text_order set text) keys) where
   -- all keys stand before the text's
   pub none_found : at ≡ length keys → IsLeastScore set text None keys
   none_found end = record {
@@ -128,20 +127,20 @@ module _ (set : Scored) (text : Bytes) (keys : List TextKey) (up : is_ordered ke
     there = tt;
   }
 
-  module _ (key : TextKey) (within : at < length keys) (is : key ≡ get_or keys at key) where
+  module _ (key : Key) (within : at < length keys) (is : key ≡ get_or keys at key) where
     found : slice_get keys (rank (text_order set text) keys) ≡ Some key
     found = ap (slice_get keys) (sym here) ∙ there_is keys at key within is
 
     -- a key of another text was found
     pub other_found : is_eq (text_order set text key) ≡ false → IsLeastScore set text None keys
     other_found other = record {
-      none = λ score l. none_below set text score keys up (ap (is_before (key_in set text score)) found ∙ strictly (text_order set text key) (int_cmp score key.score) (found_le set text keys key found) other);
+      none = λ score l. none_below set text score keys up (ap (is_before (key_in set text score)) found ∙ strictly (text_order set text key) (int_cmp score key.2) (found_le set text keys key found) other);
       there = tt;
     }
 
     -- one of the text was
-    pub text_found : is_eq (text_order set text key) ≡ true → IsLeastScore set text (Some key.score) keys
+    pub text_found : is_eq (text_order set text key) ≡ true → IsLeastScore set text (Some key.2) keys
     text_found it = record {
-      none = λ score l. none_below set text score keys up (ap (is_before (key_in set text score)) found ∙ level (text_order set text key) (int_cmp score key.score) it l);
-      there = (let s = same_place_of set text key it in subst (λ k. 0 < count_in k keys) (sym (ap₂ (λ a b. key_in a b key.score) s.0 s.1)) (counted key keys at (there_is keys at key within is)));
+      none = λ score l. none_below set text score keys up (ap (is_before (key_in set text score)) found ∙ level (text_order set text key) (int_cmp score key.2) it l);
+      there = (let s = same_place_of set text key it in subst (λ k. 0 < count_in k keys) (sym (ap₂ (λ a b. key_in a b key.2) s.0 s.1)) (counted key keys at (there_is keys at key within is)));
     }

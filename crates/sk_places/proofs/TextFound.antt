@@ -18,13 +18,12 @@ use Rattle.sk_places.specs.LiveJobs.{one_if}
 use Rattle.sk_places.specs.declared.row.Place.{Place}
 use Rattle.sk_places.specs.declared.row.Place.TheVariants.{Queue, Private, Set}
 use Rattle.sk_places.specs.declared.row.Row.{Row}
-use Rattle.sk_places.specs.declared.text_key.TextKey.{TextKey}
 use Rattle.sk_places.specs.Order.{is_first, is_ordered}
 use Rattle.sk_places.specs.PlaceOrder.{place_total, same_place, same_text}
 use Rattle.sk_places.specs.Rows.{is_at, pair_of, place_cmp, row_cmp, rows_at}
 use Rattle.sk_places.specs.Segments.{is_text}
 use Rattle.sk_places.specs.TextIndex.{IsLeastScore, IsTextIndex, count_in, is_below, is_from, is_key, key_at, key_of, rows_with}
-use Rattle.sk_places.specs.TextKey.{key_cmp, key_in}
+use Rattle.sk_places.specs.TextKey.{Key, key_cmp, key_in}
 use Rattle.sk_places.proofs.Lists.{place_no, place_yes}
 use Rattle.sk_places.proofs.Rising.{all_at, ordered_filter, set_cmp}
 use Rattle.sk_places.proofs.TextIndexed.{key_itself, rows_more, same_key}
@@ -91,9 +90,9 @@ with_key_at set text score (Set other) row p h = cases (is_match (key_cmp (key_i
     cases false e n = absurd (omega (arith, n))
     cases true e n =
         let k = same_key (key_in set text score) (key_in other row.text row.score) e in
-        let s : set ≡ other = ap (λ (k : TextKey). k.set) k in
-        let t : text ≡ row.text = ap (λ (k : TextKey). k.payload) k in
-        let z : score ≡ row.score = ap (λ (k : TextKey). k.score) k in
+        let s : set ≡ other = ap (λ (k : Key). k.set) k in
+        let t : text ≡ row.text = ap (λ (k : Key). k.payload) k in
+        let z : score ≡ row.score = ap (λ (k : Key). k.score) k in
         let at : place_cmp (Set set) row.place ≡ Equal = ap₂ (λ a b. place_cmp (Set a) b) s p ∙ tied_itself place_total (Set other) in
         let word : is_text text row ≡ true = ap (λ w. bytes_eq w row.text) t ∙ bytes_itself row.text in
         let level : int_cmp row.score score ≡ Equal = ap (int_cmp row.score) z ∙ tied_itself int_cmp_total row.score in
@@ -189,7 +188,7 @@ same_first set score text (x ∷ rows) all up none any = cases (is_from score te
 
 -- ## Look-ups
 
-module _ (set : Scored) (text : Bytes) (rows : List Row) (keys : List TextKey) (index : IsTextIndex rows keys) where
+module _ (set : Scored) (text : Bytes) (rows : List Row) (keys : List Key) (index : IsTextIndex rows keys) where
   none_in : (least : Option ℤ) → IsLeastScore set text least keys → all_pass (λ row. not (is_lesser text least row)) (rows_at (Set set) rows) ≡ true
   none_in least n = none_lesser set text least rows (λ score l. sym (index.counts (key_in set text score)) ∙ n.none score l)
 

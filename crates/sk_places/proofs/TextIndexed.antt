@@ -21,13 +21,12 @@ use Rattle.sk_places.specs.declared.row.Place.{Place}
 use Rattle.sk_places.specs.declared.row.Place.TheVariants.{Queue, Private, Set}
 use Rattle.sk_places.specs.declared.row.Row.{Row}
 use Rattle.sk_places.specs.declared.row.RowKey.{RowKey}
-use Rattle.sk_places.specs.declared.text_key.TextKey.{TextKey}
 use Rattle.sk_places.specs.Entries.{put_again, respotted, shifted}
 use Rattle.sk_places.specs.PlaceOrder.{same_set, same_text}
 use Rattle.sk_places.specs.RowLists.{is_list}
 use Rattle.sk_places.specs.Rows.{put_row, set_rank, stands_before}
 use Rattle.sk_places.specs.TextIndex.{AreTextsIndexed, IsTextIndex, WasTextIndex, count_in, is_key, key_at, key_of, rows_with, with_key, without_key}
-use Rattle.sk_places.specs.TextKey.{key_cmp, key_in, key_total, text_order}
+use Rattle.sk_places.specs.TextKey.{Key, key_cmp, key_in, key_total, text_order}
 use Rattle.sk_places.proofs.Lists.{inserted_after}
 
 -- ## Equal keys are the same
@@ -43,30 +42,30 @@ same_score : (m n : ℤ) → int_cmp m n ≡ Equal → m ≡ n
 same_score m n h = grind (arith, ints, h)
 
 -- a key of the same set and text
-pub same_place_of : (set : Scored) (text : Bytes) (key : TextKey) → is_eq (text_order set text key) ≡ true → (set ≡ key.set) × (text ≡ key.payload)
+pub same_place_of : (set : Scored) (text : Bytes) (key : Key) → is_eq (text_order set text key) ≡ true → (set ≡ key.0) × (text ≡ key.1)
 same_place_of set text key h =
-    let p = both_equal (nat_cmp (set_rank set) (set_rank key.set)) (slice_cmp nat_cmp text key.payload) h in
-    (same_set set key.set p.0, same_text text key.payload p.1)
+    let p = both_equal (nat_cmp (set_rank set) (set_rank key.0)) (slice_cmp nat_cmp text key.1) h in
+    (same_set set key.0 p.0, same_text text key.1 p.1)
 
 equal_is : (o : Ordering) → o ≡ Equal → is_eq o ≡ true
 equal_is o h = ap is_eq h
 
-pub same_key : (key other : TextKey) → is_at (key_cmp key) other ≡ true → key ≡ other
+pub same_key : (key other : Key) → is_at (key_cmp key) other ≡ true → key ≡ other
 same_key key other h =
-    let p = both_equal (text_order key.set key.payload other) (int_cmp key.score other.score) h in
-    let q = same_place_of key.set key.payload other (equal_is (text_order key.set key.payload other) p.0) in
-    ap₂ (λ s t. key_in s t key.score) q.0 q.1 ∙ ap (key_in other.set other.payload) (same_score key.score other.score p.1)
+    let p = both_equal (text_order key.0 key.1 other) (int_cmp key.2 other.2) h in
+    let q = same_place_of key.0 key.1 other (equal_is (text_order key.0 key.1 other) p.0) in
+    ap₂ (λ s t. key_in s t key.2) q.0 q.1 ∙ ap (key_in other.0 other.1) (same_score key.2 other.2 p.1)
 
-pub key_itself : (key : TextKey) → is_at (key_cmp key) key ≡ true
+pub key_itself : (key : Key) → is_at (key_cmp key) key ≡ true
 key_itself key = equal_is (key_cmp key key) (tied_itself key_total key)
 
 -- ## How often there is a key
 
-pub count_first : (key first : TextKey) (keys : List TextKey) → count_in key (first ∷ keys) ≡ one_if (is_at (key_cmp key) first) + count_in key keys
+pub count_first : (key first : Key) (keys : List Key) → count_in key (first ∷ keys) ≡ one_if (is_at (key_cmp key) first) + count_in key keys
 count_first key first keys = sum_by-cons (λ k. one_if (is_at (key_cmp key) k)) first keys
 
 -- one less of the key that is taken out, and as many of each other key
-taken_counts : (key gone : TextKey) (keys : List TextKey) → 0 < count_in gone keys → count_in key (remove_key (is_at (key_cmp gone)) keys) + one_if (is_at (key_cmp key) gone) ≡ count_in key keys
+taken_counts : (key gone : Key) (keys : List Key) → 0 < count_in gone keys → count_in key (remove_key (is_at (key_cmp gone)) keys) + one_if (is_at (key_cmp key) gone) ≡ count_in key keys
 taken_counts key gone [] h = absurd (omega (arith, h))
 taken_counts key gone (first ∷ keys) h = cases (is_at (key_cmp gone) first) refl (taken_counts key gone keys)
   where
@@ -86,24 +85,24 @@ taken_counts key gone (first ∷ keys) h = cases (is_at (key_cmp gone) first) re
         let d = count_first key first (remove_key (is_at (key_cmp gone)) keys) in
         ap (λ l. count_in key l + one_if (is_at (key_cmp key) gone)) t ∙ omega (arith, c, d, m)
 
-with_counts : (new : Option TextKey) (key : TextKey) (keys : List TextKey) → count_in key (with_key new keys) ≡ is_key new key + count_in key keys
+with_counts : (new : Option Key) (key : Key) (keys : List Key) → count_in key (with_key new keys) ≡ is_key new key + count_in key keys
 with_counts None key keys = omega arith
 with_counts (Some other) key keys = let s = sum_by-insert (λ k. one_if (is_at (key_cmp key) k)) keys (rank_past (key_cmp other) keys) other in s ∙ omega arith
 
-without_counts : (gone : Option TextKey) (key : TextKey) (keys : List TextKey) → ((other : TextKey) → is_key gone other + 0 ≡ 1 → 0 < count_in other keys) → count_in key (without_key gone keys) + is_key gone key ≡ count_in key keys
+without_counts : (gone : Option Key) (key : Key) (keys : List Key) → ((other : Key) → is_key gone other + 0 ≡ 1 → 0 < count_in other keys) → count_in key (without_key gone keys) + is_key gone key ≡ count_in key keys
 without_counts None key keys h = omega arith
 without_counts (Some other) key keys h = taken_counts key other keys (h other (ap (λ b. one_if b + 0) (key_itself other)))
 
-pub rows_more : (key : TextKey) (row : Row) (rows : List Row) → rows_with key (row ∷ rows) ≡ is_key (key_of row) key + rows_with key rows
+pub rows_more : (key : Key) (row : Row) (rows : List Row) → rows_with key (row ∷ rows) ≡ is_key (key_of row) key + rows_with key rows
 rows_more key row rows = sum_by-cons (λ r. is_key (key_of r) key) row rows
 
-rows_put : (key : TextKey) (end : Side) (new : Row) (rows : List Row) → rows_with key (put_row end new rows) ≡ is_key (key_of new) key + rows_with key rows
+rows_put : (key : Key) (end : Side) (new : Row) (rows : List Row) → rows_with key (put_row end new rows) ≡ is_key (key_of new) key + rows_with key rows
 rows_put key end new rows =
     let is = inserted_after (stands_before end new) new rows in
     let sum = sum_by-insert (λ r. is_key (key_of r) key) rows (position_or_len (λ row. not (stands_before end new row)) rows) new in
     ap (rows_with key) is ∙ sum ∙ omega arith
 
-rows_removed : (key : TextKey) (rows : List Row) (at : ℕ) (row : Row) → slice_get rows at ≡ Some row → rows_with key (remove rows at) + is_key (key_of row) key ≡ rows_with key rows
+rows_removed : (key : Key) (rows : List Row) (at : ℕ) (row : Row) → slice_get rows at ≡ Some row → rows_with key (remove rows at) + is_key (key_of row) key ≡ rows_with key rows
 rows_removed key [] at row is = cc is
 rows_removed key (other ∷ rows) zero row is =
     let e : other ≡ row = cc is in
@@ -118,20 +117,20 @@ rows_removed key (other ∷ rows) (suc at) row is =
 
 -- ## Edits
 
-texts_put : (end : Side) (new : Row) (rows : List Row) (keys : List TextKey) → IsTextIndex rows keys → IsTextIndex (put_row end new rows) (with_key (key_of new) keys)
+texts_put : (end : Side) (new : Row) (rows : List Row) (keys : List Key) → IsTextIndex rows keys → IsTextIndex (put_row end new rows) (with_key (key_of new) keys)
 texts_put end new rows keys i = record { counts = λ key. with_counts (key_of new) key keys ∙ ap (λ n. is_key (key_of new) key + n) (i.counts key) ∙ sym (rows_put key end new rows) }
 
-texts_removed : (rows : List Row) (keys : List TextKey) (at : ℕ) (row : Row) → IsTextIndex rows keys → slice_get rows at ≡ Some row → IsTextIndex (remove rows at) (without_key (key_of row) keys)
+texts_removed : (rows : List Row) (keys : List Key) (at : ℕ) (row : Row) → IsTextIndex rows keys → slice_get rows at ≡ Some row → IsTextIndex (remove rows at) (without_key (key_of row) keys)
 texts_removed rows keys at row i is = record {
   counts = λ key.
-      let there : (other : TextKey) → is_key (key_of row) other + 0 ≡ 1 → 0 < count_in other keys = λ other h. let r = rows_removed other rows at row is in let c = i.counts other in omega (arith, r, c, h) in
+      let there : (other : Key) → is_key (key_of row) other + 0 ≡ 1 → 0 < count_in other keys = λ other h. let r = rows_removed other rows at row is in let c = i.counts other in omega (arith, r, c, h) in
       let w = without_counts (key_of row) key keys there in
       let r = rows_removed key rows at row is in
       let c = i.counts key in
       omega (arith, w, r, c);
 }
 
-texts_shifted : (end : Side) (row_key : RowKey) (rows : List Row) (keys : List TextKey) (at : ℕ) (row : Row) → IsTextIndex rows keys → slice_get rows at ≡ Some row → IsTextIndex (shifted end at row_key rows) (with_key (key_of (respotted row_key row)) (without_key (key_of row) keys))
+texts_shifted : (end : Side) (row_key : RowKey) (rows : List Row) (keys : List Key) (at : ℕ) (row : Row) → IsTextIndex rows keys → slice_get rows at ≡ Some row → IsTextIndex (shifted end at row_key rows) (with_key (key_of (respotted row_key row)) (without_key (key_of row) keys))
 texts_shifted end row_key rows keys at row i is =
     subst (λ o. IsTextIndex (put_again end row_key o (remove rows at)) (with_key (key_of (respotted row_key row)) (without_key (key_of row) keys))) (sym is)
     (texts_put end (respotted row_key row) (remove rows at) (without_key (key_of row) keys) (texts_removed rows keys at row i is))
@@ -144,7 +143,7 @@ no_key (Set set) score text h = absurd (cc h)
 
 -- ## In a step, or in none
 
-module _ (s : Versions (List Row)) (t : Versions (List TextKey)) (a : AreTextsIndexed s t) where
+module _ (s : Versions (List Row)) (t : Versions (List Key)) (a : AreTextsIndexed s t) where
   pub with_put : (end : Side) (new : Row) → AreTextsIndexed (edited (put_row end new s.current) s) (edited (with_key (key_of new) t.current) t)
   with_put end new = record { current = texts_put end new s.current t.current a.current; saved = a.saved }
 
@@ -169,22 +168,22 @@ module _ (s : Versions (List Row)) (t : Versions (List TextKey)) (a : AreTextsIn
   pub with_committed : AreTextsIndexed (committed s) (committed t)
   with_committed = record { current = a.current; saved = tt }
 
-saved_texts : (rows : List Row) (keys : List TextKey) (s : Option (List Row)) (t : Option (List TextKey)) → IsTextIndex rows keys → WasTextIndex s t → IsTextIndex (unwrap_or s rows) (unwrap_or t keys)
+saved_texts : (rows : List Row) (keys : List Key) (s : Option (List Row)) (t : Option (List Key)) → IsTextIndex rows keys → WasTextIndex s t → IsTextIndex (unwrap_or s rows) (unwrap_or t keys)
 saved_texts rows keys None None i w = i
 saved_texts rows keys None (Some b) i w = absurd w
 saved_texts rows keys (Some r) None i w = absurd w
 saved_texts rows keys (Some r) (Some b) i w = w
 
-pub with_undone : (s : Versions (List Row)) (t : Versions (List TextKey)) → AreTextsIndexed s t → AreTextsIndexed (undone s) (undone t)
+pub with_undone : (s : Versions (List Row)) (t : Versions (List Key)) → AreTextsIndexed s t → AreTextsIndexed (undone s) (undone t)
 with_undone s t a = record { current = saved_texts s.current t.current s.saved t.saved a.current a.saved; saved = tt }
 
 -- one is closed where the other is
-pub texts_closed : (s : Option (List Row)) (t : Option (List TextKey)) → WasTextIndex s t → s ≡ None → t ≡ None
+pub texts_closed : (s : Option (List Row)) (t : Option (List Key)) → WasTextIndex s t → s ≡ None → t ≡ None
 texts_closed None None w h = refl
 texts_closed None (Some b) w h = absurd w
 texts_closed (Some r) t w h = cc h
 
-pub texts_open : (s : Option (List Row)) (t : Option (List TextKey)) → WasTextIndex s t → IsSome s → IsSome t
+pub texts_open : (s : Option (List Row)) (t : Option (List Key)) → WasTextIndex s t → IsSome s → IsSome t
 texts_open None t w h = cc h
 texts_open (Some r) None w h = absurd w
 texts_open (Some r) (Some b) w h = refl

@@ -1,5 +1,5 @@
 -- The keys of the index of the sets' texts, and their order.
-use Rattle.std.specs.Prelude.{◌≡◌, ℤ, true, pos, refl}
+use Rattle.std.specs.Prelude.{◌≡◌, ◌×◌, ℤ, true, pos, refl}
 use Rattle.std.specs.Cmp.{IsTotalOrder}
 use Rattle.std.specs.Cmp.Lexicographic.{slice_cmp}
 use Rattle.std.specs.Ordering.{int_cmp, is_le, nat_cmp, ordering_then}
@@ -10,31 +10,39 @@ use Rattle.sk_resp.specs.Spelling.{Bytes}
 use Rattle.sk_cmd.specs.declared.argument.Scored.{Scored}
 use Rattle.sk_undo.specs.Queries.{key_query, le_le, lt_le}
 use Rattle.sk_undo.specs.Sorted.{IsQuery}
-use Rattle.sk_places.specs.declared.text_key.TextKey.{TextKey}
+use Rattle.sk_table.specs.Hashing.{hash_of}
 use Rattle.sk_places.specs.Rows.{set_rank}
 
--- the key of a text in a set, with its score there
-abbrev pub key_in : Scored → Bytes → ℤ → TextKey
-key_in set text score = record { set = set; payload = text; score = score }
+-- a set, a text, and its score there
+abbrev pub Key : Type 0
+Key = Scored × Bytes × ℤ
 
--- how a text in a set stands to a key: by the sets, and then by the texts' bytes
-abbrev pub text_order : Scored → Bytes → TextKey → Ordering
-text_order set text key = ordering_then (nat_cmp (set_rank set) (set_rank key.set)) (slice_cmp nat_cmp text key.payload)
+-- the key of a text in a set, with its score there
+abbrev pub key_in : Scored → Bytes → ℤ → Key
+key_in set text score = (set, text, score)
+
+-- the order of texts: by their hashes, and then by their bytes
+abbrev pub hash_cmp : Bytes → Bytes → Ordering
+hash_cmp x y = ordering_then (nat_cmp (hash_of x) (hash_of y)) (slice_cmp nat_cmp x y)
+
+-- how a text in a set stands to a key: by the sets, and then by the texts
+abbrev pub text_order : Scored → Bytes → Key → Ordering
+text_order set text key = ordering_then (nat_cmp (set_rank set) (set_rank key.0)) (hash_cmp text key.1)
 
 -- the order of keys: so, and then by the scores
-abbrev pub key_cmp : TextKey → TextKey → Ordering
-key_cmp x y = ordering_then (text_order x.set x.payload y) (int_cmp x.score y.score)
+abbrev pub key_cmp : Key → Key → Ordering
+key_cmp x y = ordering_then (text_order x.0 x.1 y) (int_cmp x.2 y.2)
 
 -- ## The order is total, and what is looked for is a query
 
-abbrev text_cmp : TextKey → TextKey → Ordering
-text_cmp x y = text_order x.set x.payload y
+abbrev text_cmp : Key → Key → Ordering
+text_cmp x y = text_order x.0 x.1 y
 
 text_total : IsTotalOrder text_cmp
-text_total = then_total (on_total (λ (k : TextKey). set_rank k.set) nat_cmp_total) (on_total (λ (k : TextKey). k.payload) nat_list_cmp_total)
+text_total = then_total (on_total (λ (k : Key). set_rank k.0) nat_cmp_total) (then_total (on_total (λ (k : Key). hash_of k.1) nat_cmp_total) (on_total (λ (k : Key). k.1) nat_list_cmp_total))
 
 pub key_total : IsTotalOrder key_cmp
-key_total = then_total text_total (on_total (λ (k : TextKey). k.score) int_cmp_total)
+key_total = then_total text_total (on_total (λ (k : Key). k.2) int_cmp_total)
 
 then_le : (o p : Ordering) → is_le (ordering_then o p) ≡ true → is_le o ≡ true
 then_le Less p h = refl
@@ -43,9 +51,9 @@ then_le Greater p h = h
 
 pub text_query : (set : Scored) (text : Bytes) → IsQuery key_cmp (text_order set text)
 text_query set text = record {
-  le = λ x y h k. le_le text_total (key_in set text (pos 0)) x y h (then_le (text_cmp x y) (int_cmp x.score y.score) k);
-  lt = λ x y h k. lt_le text_total (key_in set text (pos 0)) x y h (then_le (text_cmp x y) (int_cmp x.score y.score) k);
+  le = λ x y h k. le_le text_total (key_in set text (pos 0)) x y h (then_le (text_cmp x y) (int_cmp x.2 y.2) k);
+  lt = λ x y h k. lt_le text_total (key_in set text (pos 0)) x y h (then_le (text_cmp x y) (int_cmp x.2 y.2) k);
 }
 
-pub key_query_of : (key : TextKey) → IsQuery key_cmp (key_cmp key)
+pub key_query_of : (key : Key) → IsQuery key_cmp (key_cmp key)
 key_query_of key = key_query key_total key

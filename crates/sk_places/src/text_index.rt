@@ -12,8 +12,10 @@ use crate::text_key::{TextKey, compare_text};
 use sk_base::Score;
 use sk_cmd::Scored;
 use sk_payload::JobText;
+use sk_table::hash_of;
 use sk_undo::{Query, UndoMultiset};
 use std::cmp::Ordering;
+use std::marker::Model;
 
 /// The keys in order, each as often as rows have it.
 pub type TextIndex = UndoMultiset<TextKey>;
@@ -22,35 +24,76 @@ pub type TextIndex = UndoMultiset<TextKey>;
 #[derive(Drop)]
 struct OfText<'a> {
     set: Scored,
+    hash: u32,
     text: &'a [u8],
 }
 
+impl<'a> Model for OfText<'a> {
+    ghost use Rattle.std.specs.Prelude.{◌≡◌, ◌×◌};
+    ghost use Rattle.sk_resp.specs.Spelling.{Bytes};
+    ghost use Rattle.sk_cmd.specs.declared.argument.Scored.{Scored};
+    ghost use Rattle.sk_table.specs.Hashing.{hash_of};
+
+    ghost Value = { Scored × Bytes };
+
+    ghost view = { λ q. (q.set, q.text.now) };
+
+    ghost invariant = { λ q. q.hash ≡ hash_of q.text.now };
+}
+
 impl<'a> Query<TextKey> for OfText<'a> {
-    ghost order = { λ query. text_order query.set query.text.now };
+    ghost order = { λ query. text_order query.0 query.1 };
 
     fn cmp_key(&self, key: &TextKey) -> Ordering {
-        compare_text(self.set, self.text, key)
+        compare_text(self.set, self.hash, self.text, key)
     }
 
-    ghost is_query = { λ query. text_query query.set query.text.now };
+    ghost is_query = { λ query. text_query query.0 query.1 };
 }
 
 // The keys of a text in a set with this score.
 #[derive(Drop)]
 struct OfScore<'a> {
     set: Scored,
+    hash: u32,
     text: &'a [u8],
     score: Score,
 }
 
+impl<'a> Model for OfScore<'a> {
+    ghost use Rattle.std.specs.Prelude.{◌≡◌};
+    ghost use Rattle.sk_table.specs.Hashing.{hash_of};
+    ghost use Rattle.sk_places.specs.TextKey.{Key, key_in};
+
+    ghost Value = { Key };
+
+    ghost view = { λ q. key_in q.set q.text.now q.score };
+
+    ghost invariant = { λ q. q.hash ≡ hash_of q.text.now };
+}
+
 impl<'a> Query<TextKey> for OfScore<'a> {
-    ghost order = { λ query. key_cmp (key_in query.set query.text.now query.score) };
+    ghost order = { λ query. key_cmp query };
 
     fn cmp_key(&self, key: &TextKey) -> Ordering {
-        compare_text(self.set, self.text, key).then(compare_scores(self.score, key.score))
+        compare_text(self.set, self.hash, self.text, key)
+            .then(compare_scores(self.score, key.score()))
     }
 
-    ghost is_query = { λ query. key_query_of (key_in query.set query.text.now query.score) };
+    ghost is_query = { λ query. key_query_of query };
+}
+
+// The query for the keys of a payload in a set with this score.
+fn of_score(set: Scored, payload: &JobText, score: Score) -> OfScore<'_>
+    ensures { result ≡ key_in set payload.now score }
+{
+    let text = payload.text().bytes();
+    OfScore {
+        set,
+        hash: hash_of(text),
+        text,
+        score,
+    }
 }
 
 /// The key of a row, where it is in a set. It shares the text.
@@ -58,11 +101,10 @@ pub fn key_of(row_key: &RowKey, payload: &JobText) -> Result<Option<TextKey>, Me
     ensures { IfOk result (λ key. key ≡ key_at row_key.now.place row_key.now.score payload.now) }
 {
     match &row_key.place {
-        Place::Set(set) => Ok(Some(TextKey {
-            set: *set,
-            payload: payload.copy()?,
-            score: row_key.score,
-        })),
+        Place::Set(set) => {
+            let payload = payload.copy()?;
+            Ok(Some(TextKey::new(*set, payload, row_key.score)))
+        }
         _ => Ok(None),
     }
 }
@@ -84,11 +126,7 @@ pub fn drop_key(index: &mut TextIndex, place: &Place, score: Score, payload: &Jo
     ensures room { index.old.room ≤ index.new.room + 1 }
 {
     if let Place::Set(set) = place {
-        index.remove(&OfScore {
-            set: *set,
-            text: payload.text().bytes(),
-            score,
-        });
+        index.remove(&of_score(*set, payload, score));
     }
 }
 
@@ -98,11 +136,7 @@ pub fn take_key(index: &mut TextIndex, place: &Place, score: Score, payload: &Jo
     ensures { index.new.list ≡ edited (without_key (key_at place.now score payload.now) index.old.list.current) index.old.list }
 {
     if let Place::Set(set) = place {
-        index.take(&OfScore {
-            set: *set,
-            text: payload.text().bytes(),
-            score,
-        });
+        index.take(&of_score(*set, payload, score));
     }
 }
 
@@ -110,13 +144,14 @@ pub fn take_key(index: &mut TextIndex, place: &Place, score: Score, payload: &Jo
 pub fn least_score(index: &TextIndex, set: Scored, text: &[u8]) -> Option<Score>
     ensures { IsLeastScore set text.now result index.now.list.current }
 {
-    let at = index.rank(&OfText { set, text });
+    let hash = hash_of(text);
+    let at = index.rank(&OfText { set, hash, text });
     if at == index.len() {
         return None;
     }
     let key = index.at(at);
-    if compare_text(set, text, key).is_eq() {
-        Some(key.score)
+    if compare_text(set, hash, text, key).is_eq() {
+        Some(key.score())
     } else {
         None
     }

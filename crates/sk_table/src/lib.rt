@@ -12,6 +12,7 @@ mod text_key;
 mod text_table;
 mod undo_counts;
 
+pub use hashing::hash_of;
 pub use no_room::NoRoom;
 pub use std::alloc::AllocError as Memory;
 pub use text_key::TextKey;
