@@ -26,7 +26,8 @@ use Rattle.sk_places.specs.PlaceOrder.{same_set, same_text}
 use Rattle.sk_places.specs.RowLists.{is_list}
 use Rattle.sk_places.specs.Rows.{put_row, set_rank, stands_before}
 use Rattle.sk_places.specs.TextIndex.{AreTextsIndexed, IsTextIndex, WasTextIndex, count_in, is_key, key_at, key_of, rows_with, with_key, without_key}
-use Rattle.sk_places.specs.TextKey.{Key, key_cmp, key_in, key_total, text_order}
+use Rattle.sk_places.specs.TextKey.{Key, hash_cmp, key_cmp, key_in, key_total, text_order}
+use Rattle.sk_table.specs.Hashing.{hash_of}
 use Rattle.sk_places.proofs.Lists.{inserted_after}
 
 -- ## Equal keys are the same
@@ -38,17 +39,18 @@ both_equal Equal Equal h = (refl, refl)
 both_equal Equal Greater h = absurd (cc h)
 both_equal Greater p h = absurd (cc h)
 
+equal_is : (o : Ordering) → o ≡ Equal → is_eq o ≡ true
+equal_is o h = ap is_eq h
+
 same_score : (m n : ℤ) → int_cmp m n ≡ Equal → m ≡ n
 same_score m n h = grind (arith, ints, h)
 
 -- a key of the same set and text
 pub same_place_of : (set : Scored) (text : Bytes) (key : Key) → is_eq (text_order set text key) ≡ true → (set ≡ key.0) × (text ≡ key.1)
 same_place_of set text key h =
-    let p = both_equal (nat_cmp (set_rank set) (set_rank key.0)) (slice_cmp nat_cmp text key.1) h in
-    (same_set set key.0 p.0, same_text text key.1 p.1)
-
-equal_is : (o : Ordering) → o ≡ Equal → is_eq o ≡ true
-equal_is o h = ap is_eq h
+    let p = both_equal (nat_cmp (set_rank set) (set_rank key.0)) (hash_cmp text key.1) h in
+    let q = both_equal (nat_cmp (hash_of text) (hash_of key.1)) (slice_cmp nat_cmp text key.1) (equal_is (hash_cmp text key.1) p.1) in
+    (same_set set key.0 p.0, same_text text key.1 q.1)
 
 pub same_key : (key other : Key) → is_at (key_cmp key) other ≡ true → key ≡ other
 same_key key other h =

@@ -1,5 +1,5 @@
 -- The keys of the index of the sets' texts, and their order.
-use Rattle.std.specs.Prelude.{◌≡◌, ◌×◌, ℤ, true, pos, refl}
+use Rattle.std.specs.Prelude.{◌≡◌, ℤ, true, pos, refl}
 use Rattle.std.specs.Cmp.{IsTotalOrder}
 use Rattle.std.specs.Cmp.Lexicographic.{slice_cmp}
 use Rattle.std.specs.Ordering.{int_cmp, is_le, nat_cmp, ordering_then}

@@ -29,7 +29,7 @@ struct OfText<'a> {
 }
 
 impl<'a> Model for OfText<'a> {
-    ghost use Rattle.std.specs.Prelude.{◌≡◌, ◌×◌};
+    ghost use Rattle.std.specs.Prelude.{◌≡◌};
     ghost use Rattle.sk_resp.specs.Spelling.{Bytes};
     ghost use Rattle.sk_cmd.specs.declared.argument.Scored.{Scored};
     ghost use Rattle.sk_table.specs.Hashing.{hash_of};

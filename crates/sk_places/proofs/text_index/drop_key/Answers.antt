@@ -2,4 +2,4 @@ use Rattle.std.proofs.Common.{refl}
 use Rattle.sk_places.proofs.text_index.drop_key.Goals as goal
 
 pub returns-in-Set-clause-list : goal.returns-in-Set-clause-list
-returns-in-Set-clause-list c = rw (c.remove.ensures.list, c.in-Set.is, c.bytes.ensures, c.text.ensures) refl
+returns-in-Set-clause-list c = rw (c.remove.ensures.list, c.in-Set.is, c.of_score.ensures) refl
