@@ -76,8 +76,8 @@ impl<'a> Query<TextKey> for OfScore<'a> {
     ghost order = { λ query. key_cmp query };
 
     fn cmp_key(&self, key: &TextKey) -> Ordering {
-        compare_text(self.set, self.hash, self.text, key)
-            .then(compare_scores(self.score, key.score()))
+        let scores = compare_scores(self.score, key.score());
+        compare_text(self.set, self.hash, self.text, key).then(scores)
     }
 
     ghost is_query = { λ query. key_query_of query };

@@ -45,7 +45,9 @@ pub fn compare_text(set: Scored, hash: u32, text: &[u8], key: &TextKey) -> Order
     requires { hash ≡ hash_of text.now }
     ensures { result ≡ text_order set text.now key.now }
 {
-    let places = set_rank(set).cmp(&set_rank(key.set)).then(hash.cmp(&key.hash));
+    let places = set_rank(set)
+        .cmp(&set_rank(key.set))
+        .then(hash.cmp(&key.hash));
     match places {
         Ordering::Equal => compare_bytes(text, key.payload.text().bytes()),
         _ => places,
@@ -76,7 +78,8 @@ impl TextKey {
         ensures { result ≡ key_cmp self.now other.now }
     {
         let text = self.payload.text().bytes();
-        compare_text(self.set, self.hash, text, other).then(compare_scores(self.score, other.score))
+        let scores = compare_scores(self.score, other.score);
+        compare_text(self.set, self.hash, text, other).then(scores)
     }
 }
 
