@@ -65,7 +65,7 @@ pub fn numbers(store: &Store) -> Result<Numbers, Memory>
     Ok(Numbers {
         processed: count_of(&store.counters, b"processed"),
         failed: count_of(&store.counters, b"failed"),
-        processes: store.leases.idents(store.alloc, store.moment)?.len() as u64,
+        processes: store.leases.alive_count(store.moment) as u64,
         queues: queue_counts(store.alloc, places)?,
         busy: places.private_count() as u64,
         scheduled: places.len(&Place::Set(Scored::Schedule)) as u64,

@@ -255,7 +255,7 @@ fn has(store: &Store, key: Word) -> Result<bool, Memory>
         KeyClass::Queue => Ok(places.len(&Place::Queue(queue_of(key))) > 0),
         KeyClass::Queues => Ok(places.name_count() > 0),
         KeyClass::Private => Ok(places.len(&Place::Private(ident_of(key))) > 0),
-        KeyClass::Processes => Ok(!store.leases.idents(store.alloc, store.moment)?.is_empty()),
+        KeyClass::Processes => Ok(store.leases.alive_count(store.moment) > 0),
         KeyClass::Jobs(set) => Ok(places.len(&Place::Set(set)) > 0),
         KeyClass::Counter => Ok(count_of(&store.counters, key).is_some()),
         _ => Ok(false),

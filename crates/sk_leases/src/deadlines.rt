@@ -1,5 +1,5 @@
 // Names with deadlines: a multiset with undo, and the index of its deadlines. Memory is taken before the first edit.
-ghost use Rattle.std.specs.Prelude.{◌≡◌, [], None, true, IfOk, IsSome, OnErr, OnOk};
+ghost use Rattle.std.specs.Prelude.{◌≡◌, [], None, true, IfOk, IsSome, OnErr, OnOk, length};
 ghost use Rattle.sk_undo.specs.Versions.{begun, closed, committed, edited, undone};
 ghost use Rattle.sk_leases.specs.Lists.{count_standing, names_of, put, standing, without};
 ghost use Rattle.sk_leases.specs.Order.{is_ordered};
@@ -51,6 +51,20 @@ fn standing_names(alloc: Global, entries: &Entries, now: u64) -> Result<Vec<Word
         }
     }
     Ok(names)
+}
+
+// How many leases stand. Looks at each.
+fn standing_len(entries: &Entries, now: u64) -> usize
+    ensures { result ≡ length (names_of (standing now entries.now.list.current)) }
+{
+    let mut len = 0;
+    for at in 0..entries.len() {
+        let (_, deadline) = entries.at(at);
+        if now < *deadline {
+            len += 1;
+        }
+    }
+    len
 }
 
 impl Deadlines {
@@ -125,6 +139,13 @@ impl Deadlines {
     {
         let _len = self.entries.len(); // its contract says that the leases are in order
         standing_names(alloc, &self.entries, now)
+    }
+
+    /// How many leases stand, of all names.
+    pub fn len(&self, now: u64) -> usize
+        ensures { result ≡ length (names_of (standing now self.now.current)) }
+    {
+        standing_len(&self.entries, now)
     }
 
     pub fn begin(&mut self)

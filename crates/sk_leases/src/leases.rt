@@ -1,7 +1,7 @@
 // Everything that stands until its deadline. A process that sends no heartbeat for a minute counts as dead. A recovery is noted when a job is
 // taken back from a dead process, so that a job which kills its process again and again is found out. A lock keeps a second job of the same work
 // from being pushed.
-ghost use Rattle.std.specs.Prelude.{◌≡◌, ◌+◌, ◌*◌, ◌<◌, ◌^◌, not, cond, None, Some, true, IfOk, IfSome, IsSome, OnErr, OnOk};
+ghost use Rattle.std.specs.Prelude.{◌≡◌, ◌+◌, ◌*◌, ◌<◌, ◌^◌, not, cond, None, Some, true, IfOk, IfSome, IsSome, OnErr, OnOk, length};
 ghost use Rattle.sk_undo.specs.Versions.{begun, closed, committed, edited, undone};
 ghost use Rattle.sk_leases.specs.Leased.{beat, beat_life, forgotten, holder_at, holds, idents, is_alive, is_led_by_another, last, lead_life, leads, led, locked, loops, marked, nothing, purged, recovered, recovery_life, standing, unlocked};
 ghost use Rattle.sk_leases.specs.Order.{is_ordered};
@@ -91,6 +91,13 @@ impl Leases {
         ensures order { is_ordered self.now.current.beats ≡ true }
     {
         self.beats.names(alloc, now)
+    }
+
+    /// How many processes have a heartbeat that stands. Looks at each, and takes no memory.
+    pub fn alive_count(&self, now: u64) -> usize
+        ensures { result ≡ length (idents now self.now.current) }
+    {
+        self.beats.len(now)
     }
 
     /// Notes that the job was taken back from a dead process, and answers how many of its recoveries stand, this one counted.

@@ -1,6 +1,6 @@
-use Rattle.std.proofs.Common.{◌≡◌, ◌∙◌, ◌==◌, List, ap, length, rules, vec_len, not, nat_lt, sym}
+use Rattle.std.proofs.Common.{◌≡◌, ◌∙◌, ◌==◌, ℕ, ap, arith, length, not, nat_lt, sym}
 use Rattle.std.specs.Option.{is_some}
-use Rattle.sk_resp.specs.Spelling.{Bytes}
+use Rattle.std.proofs.lemmas.Bool.Decides.{nat_tests}
 use Rattle.sk_counters.specs.Counters.{count_in}
 use Rattle.sk_leases.specs.Leased.{idents}
 use Rattle.sk_value.specs.declared.value.Value.TheVariants as value
@@ -25,13 +25,14 @@ returns-in-Private c =
     ap (nat_lt 0) c.len-in-Private.ensures.is ∙ sym (there_if_any value.List (λ row. row.text) (rows_at (Private c.ident_of.result) s.places.current.rows))
     ∙ ap is_some (sym (held_private (world s) c.args.key c.ident_of.result is c.ident_of.ensures))
 
-pub returns-in_ok-idents-in-Processes : goal.returns-in_ok-idents-in-Processes
-returns-in_ok-idents-in-Processes c =
+above : (n : ℕ) → nat_lt 0 n ≡ not (n == 0)
+above n = grind (arith, nat_tests)
+
+pub returns-in-Processes : goal.returns-in-Processes
+returns-in-Processes c =
     let s = c.args.store.now in
     let is = (ap class_of (sym c.bytes.ensures) ∙ sym c.class_of.ensures ∙ c.in-Processes.is) in
-    let list = c.in_ok-idents-in-Processes.field-0 in
-    let count : vec_len list ≡ length list.items = search rules in
-    ap not (c.is_empty.ensures ∙ ap (λ n. n == 0) count) ∙ ap (λ (xs : List Bytes). not (length xs == 0)) c.in_ok-idents-in-Processes.ensures.idents
+    ap (nat_lt 0) c.alive_count.ensures ∙ above (length (idents s.moment s.leases.current))
     ∙ sym (some_if_any value.Set (idents s.moment s.leases.current)) ∙ ap is_some (sym (held_processes (world s) c.args.key is))
 
 pub returns-in-Jobs : goal.returns-in-Jobs
