@@ -5,11 +5,12 @@ ghost use Rattle.sk_value.specs.Action.{action_of};
 ghost use Rattle.sk_value.specs.Answer.{AnswersWith};
 ghost use Rattle.sk_value.specs.Apply.{applied};
 ghost use Rattle.sk_value.specs.Keys.{at, purged, without};
-ghost use Rattle.sk_keys.specs.Index.{IsIndexed};
 
 use crate::apply::act;
 use crate::delete;
-use crate::expiries::{Expiries, has_expired};
+use crate::expiries::Expiries;
+use crate::named::{is_past, settle};
+use crate::purges::purge_some;
 use crate::removed::RemovedKeys;
 use sk_cmd::PlainCommand;
 use sk_resp::{Reply, Word};
@@ -29,6 +30,10 @@ pub struct Keys {
     alloc: Global,
     entries: Entries,
     expiries: Expiries,
+    // The greatest moment that a purge was handed. What is over then isn't there any more, though it may still stand.
+    over: u64,
+    // Whether some of that may still stand.
+    behind: bool,
     // What was removed at once and isn't freed yet. No contract speaks of it.
     removed: Option<RemovedKeys>,
 }
@@ -39,26 +44,13 @@ impl Model for Keys {
 
     ghost Value = { List (List ℕ × Entry) };
 
-    ghost view = { λ keys. keys.entries };
+    ghost use Rattle.sk_value.specs.Keys.{purged};
 
-    ghost use Rattle.sk_keys.specs.Index.{IsIndexed};
+    ghost view = { λ keys. purged keys.over keys.entries };
 
-    ghost invariant = { λ keys. IsIndexed keys.entries keys.expiries };
-}
+    ghost use Rattle.sk_keys.specs.Past.{AreKeys};
 
-// Removes each key whose deadline is over. What stays isn't looked at.
-fn purge(entries: &mut Entries, expiries: &mut Expiries, now: u64)
-    requires { IsIndexed entries.old expiries.old }
-    ensures keys { entries.new ≡ purged now entries.old }
-    ensures indexed { IsIndexed entries.new expiries.new }
-{
-    while has_expired(expiries, now) {
-        if let Some((_, name)) = expiries.pop_first() {
-            entries.in_order();
-            entries.remove(&name);
-        }
-    }
-    entries.in_order();
+    ghost invariant = { λ keys. AreKeys keys.over keys.behind keys.entries keys.expiries };
 }
 
 impl Keys {
@@ -70,22 +62,27 @@ impl Keys {
             alloc,
             entries: TextTable::new(alloc),
             expiries: BTreeSet::new(alloc),
+            over: 0,
+            behind: false,
             removed: None,
         }
     }
 
-    /// Removes each key whose deadline the moment has reached, and looks at no other. Takes no memory.
+    /// Removes each key whose deadline the moment has reached, and looks at no other. At most 100 of them go at once: the others still stand, and
+    /// nobody sees them. Takes no memory.
     pub fn purge(&mut self, now: u64)
         ensures { self.new ≡ purged now self.old }
     {
-        purge(&mut self.entries, &mut self.expiries, now);
+        self.over = self.over.max(now);
+        self.behind = purge_some(&mut self.entries, &mut self.expiries, self.over);
     }
 
     /// Whether a key stands under the name.
     pub fn has(&self, name: &Word) -> bool
         ensures { result ≡ is_some (at name.now self.now) }
     {
-        self.entries.has(name)
+        self.entries.in_order();
+        self.entries.has(name) && !is_past(&self.entries, self.over, name)
     }
 
     /// Removes a key, and answers whether it was there. Takes no memory.
@@ -93,7 +90,10 @@ impl Keys {
         ensures was { result ≡ is_some (at name.now self.old) }
         ensures rest { self.new ≡ without name.now self.old }
     {
-        delete::remove(&mut self.entries, &mut self.expiries, name)
+        let there = self.has(name);
+        self.entries.in_order();
+        delete::remove(&mut self.entries, &mut self.expiries, name);
+        there
     }
 
     /// Removes all keys, in constant time: their memory is kept aside until [`Keys::take_removed`]. Takes no memory.
@@ -104,6 +104,7 @@ impl Keys {
             entries: mem::replace(&mut self.entries, TextTable::new(self.alloc)),
             expiries: mem::replace(&mut self.expiries, BTreeSet::new(self.alloc)),
         });
+        self.behind = false;
     }
 
     /// Hands out what the last `clear` kept aside, to be freed. Takes no memory.
@@ -124,6 +125,15 @@ impl Keys {
         ensures ok { OnOk result (self.new ≡ (applied now action self.old).keys) }
         ensures err { OnErr result (self.new ≡ self.old) }
     {
+        self.behind = settle(
+            &mut self.entries,
+            &mut self.expiries,
+            self.over,
+            self.behind,
+            now,
+            &action,
+        );
+        self.over = self.over.min(now);
         act(
             self.alloc,
             &mut self.entries,

@@ -9,6 +9,8 @@ mod expiries;
 mod keys;
 mod look;
 mod move_list;
+mod named;
+mod purges;
 mod put;
 mod removed;
 mod set;

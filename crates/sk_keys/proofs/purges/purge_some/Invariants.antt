@@ -1,0 +1,7 @@
+use Rattle.std.proofs.Common.{◌≡◌}
+use Rattle.sk_value.specs.Keys.{purged}
+use Rattle.sk_keys.specs.Index.{IsIndexed}
+use Rattle.sk_keys.proofs.purges.purge_some.Given as goal
+
+abbrev pub invariant-loop : goal.invariant-loop
+invariant-loop l = (purged l.over l.entries ≡ purged l.over l.initial.entries) × IsIndexed l.entries l.expiries
