@@ -87,9 +87,9 @@ purged_put over name entry keys up ahead = same_entries _ _ (up_with name entry 
     ∙ by_test (is_at (text_cmp name) other) (at other keys)
     ∙ sym (ap (seen over) (at_with name other entry keys))
     ∙ sym (at_purged over other (put name entry keys) (up_with name entry keys up))) where
-  by_test : (b : Bool) (held : Option Entry) → cond b (Some entry) (seen over held) ≡ seen over (cond b (Some entry) held)
-  by_test true held = sym (seen_ahead over (Some entry) ahead)
-  by_test false held = refl
+      by_test : (b : Bool) (held : Option Entry) → cond b (Some entry) (seen over held) ≡ seen over (cond b (Some entry) held)
+      by_test true held = sym (seen_ahead over (Some entry) ahead)
+      by_test false held = refl
 
 pub purged_without : (over : ℕ) (name : Bytes) (keys : Keys) → IsUp keys → without name (purged over keys) ≡ purged over (without name keys)
 purged_without over name keys up = same_entries _ _ (up_without name (purged over keys) (up_purged over keys up)) (up_purged over (without name keys) (up_without name keys up)) (λ other.
@@ -98,9 +98,9 @@ purged_without over name keys up = same_entries _ _ (up_without name (purged ove
     ∙ by_test (is_at (text_cmp name) other) (at other keys)
     ∙ sym (ap (seen over) (at_without name other keys up))
     ∙ sym (at_purged over other (without name keys) (up_without name keys up))) where
-  by_test : (b : Bool) (held : Option Entry) → cond b None (seen over held) ≡ seen over (cond b None held)
-  by_test true held = refl
-  by_test false held = refl
+      by_test : (b : Bool) (held : Option Entry) → cond b None (seen over held) ≡ seen over (cond b None held)
+      by_test true held = refl
+      by_test false held = refl
 
 pub purged_without_all : (over : ℕ) (names : List Bytes) (keys : Keys) → IsUp keys → without_all names (purged over keys) ≡ purged over (without_all names keys)
 purged_without_all over [] keys up = refl
@@ -138,9 +138,9 @@ sums_without_all over [] keys up ahead = omega arith
 sums_without_all over (name ∷ names) keys up ahead =
     let rest = sums_without_all over names (without name keys) (up_without name keys up) (ahead_without over name names keys up ahead.1) in
     same_sums (length (without name keys)) (length keys) (length (without name (purged over keys))) (length (purged over keys)) (length (without_all names (without name keys))) (length (without_all names (without name (purged over keys)))) (ones (at name keys))
-        (count_without_one name (at name keys) keys refl)
-        (count_without_one name (at name keys) (purged over keys) (at_ahead over name keys up ahead.0))
-        (subst (λ l. length l + length (without_all names (without name keys)) ≡ length (without_all names l) + length (without name keys)) (sym (purged_without over name keys up)) rest)
+    (count_without_one name (at name keys) keys refl)
+    (count_without_one name (at name keys) (purged over keys) (at_ahead over name keys up ahead.0))
+    (subst (λ l. length l + length (without_all names (without name keys)) ≡ length (without_all names l) + length (without name keys)) (sym (purged_without over name keys up)) rest)
 
 same_rests : (a b c d : ℕ) → a + b ≡ c + d → a - c ≡ d - b
 same_rests a b c d is = omega (arith, is)

@@ -161,23 +161,23 @@ hidden_move_list over source destination from to (Some list) keys up ahead other
     ap (λ held. cond (bytes_eq source destination) (turn_list source to (deadline_at held) taken (purged over keys)) (carry source held destination to (at destination (purged over keys)) taken (list_at (at destination (purged over keys))) (purged over keys))) (at_ahead over source keys up ahead)
     ∙ ap (λ there. cond (bytes_eq source destination) (turn_list source to (deadline_at (at source keys)) taken (purged over keys)) (carry source (at source keys) destination to there taken (list_at there) (purged over keys))) (at_ahead over destination keys up other)
     ∙ by_test (bytes_eq source destination) where
-  taken : Option (Bytes × List Bytes)
-  taken = take_one from list
+      taken : Option (Bytes × List Bytes)
+      taken = take_one from list
 
-  by_test : (b : Bool) → cond b (turn_list source to (deadline_at (at source keys)) taken (purged over keys)) (carry source (at source keys) destination to (at destination keys) taken (list_at (at destination keys)) (purged over keys))
-      ≡ hidden over (cond b (turn_list source to (deadline_at (at source keys)) taken keys) (carry source (at source keys) destination to (at destination keys) taken (list_at (at destination keys)) keys))
-  by_test true = hidden_turn_list over source to (deadline_at (at source keys)) taken keys up (deadline_ahead over (at source keys) ahead)
-  by_test false = hidden_carry over source (at source keys) destination to (at destination keys) taken (list_at (at destination keys)) keys up ahead other
+      by_test : (b : Bool) → cond b (turn_list source to (deadline_at (at source keys)) taken (purged over keys)) (carry source (at source keys) destination to (at destination keys) taken (list_at (at destination keys)) (purged over keys))
+          ≡ hidden over (cond b (turn_list source to (deadline_at (at source keys)) taken keys) (carry source (at source keys) destination to (at destination keys) taken (list_at (at destination keys)) keys))
+      by_test true = hidden_turn_list over source to (deadline_at (at source keys)) taken keys up (deadline_ahead over (at source keys) ahead)
+      by_test false = hidden_carry over source (at source keys) destination to (at destination keys) taken (list_at (at destination keys)) keys up ahead other
 
 hidden_move : (over : ℕ) (source destination : Bytes) (from to : Side) (keys : Keys) → IsUp keys → is_past over (at source keys) ≡ false → is_past over (at destination keys) ≡ false → move_keys source destination from to (purged over keys) ≡ hidden over (move_keys source destination from to keys)
 unfolding move_keys
 hidden_move over source destination from to keys up ahead other =
     ap (λ held. cond (is_some held) (move_list source destination from to (list_at held) (purged over keys)) (answers (Ok reply.Null) (purged over keys))) (at_ahead over source keys up ahead)
     ∙ by_test (is_some (at source keys)) where
-  by_test : (b : Bool) → cond b (move_list source destination from to (list_at (at source keys)) (purged over keys)) (answers (Ok reply.Null) (purged over keys))
-      ≡ hidden over (cond b (move_list source destination from to (list_at (at source keys)) keys) (answers (Ok reply.Null) keys))
-  by_test true = hidden_move_list over source destination from to (list_at (at source keys)) keys up ahead other
-  by_test false = refl
+      by_test : (b : Bool) → cond b (move_list source destination from to (list_at (at source keys)) (purged over keys)) (answers (Ok reply.Null) (purged over keys))
+          ≡ hidden over (cond b (move_list source destination from to (list_at (at source keys)) keys) (answers (Ok reply.Null) keys))
+      by_test true = hidden_move_list over source destination from to (list_at (at source keys)) keys up ahead other
+      by_test false = refl
 
 -- ## Every action
 
