@@ -13,14 +13,15 @@ use crate::look::look;
 use crate::move_list::move_text;
 use crate::set::set;
 use sk_resp::{Reply, Say};
-use sk_value::{Action, KeysFault};
+use sk_value::{Action, KeysFault, Value};
 use std::alloc::Global;
 
-/// Does the action at the moment `now`, in milliseconds since 1970.
+/// Does the action at the moment `now`, in milliseconds since 1970. A large value that is deleted is kept aside.
 pub fn act(
     alloc: Global,
     entries: &mut Entries,
     expiries: &mut Expiries,
+    deleted: &mut Option<Value>,
     now: u64,
     action: Action,
 ) -> Result<Reply, KeysFault>
@@ -40,7 +41,7 @@ pub fn act(
         Action::Expire(name, millis) => expire(entries, expiries, now, name, millis),
         Action::Give(name, text) => Ok(give(entries, expiries, &name, &text)),
         Action::Exists(names) => Ok(exists(entries, &names)),
-        Action::Delete(names) => Ok(delete(entries, expiries, &names)),
+        Action::Delete(names) => Ok(delete(entries, expiries, &names, deleted)),
         Action::Move(source, destination, from, to) => {
             move_text(alloc, entries, expiries, source, destination, from, to)
         }

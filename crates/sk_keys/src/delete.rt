@@ -8,24 +8,35 @@ ghost use Rattle.sk_keys.specs.Index.{IsIndexed};
 
 use crate::expiries::{Expiries, drop_expiry};
 use crate::keys::Entries;
+use crate::removed::set_aside;
 use sk_resp::{Reply, Word, Words};
-use sk_value::counted;
+use sk_value::{Value, counted};
 
-/// Removes a key with its deadline, and answers whether it was there.
+// Takes a key with its deadline out, and gives its value to the caller.
 #[tactic(auto, using(crate::proofs::Puts::without_absent, crate::proofs::Puts::count_without))]
-pub fn remove(entries: &mut Entries, expiries: &mut Expiries, name: &Word) -> bool
+fn take(entries: &mut Entries, expiries: &mut Expiries, name: &Word) -> Option<Value>
     requires { IsIndexed entries.old expiries.old }
-    ensures was { result ≡ is_some (at name.now entries.old) }
+    ensures was { is_some result ≡ is_some (at name.now entries.old) }
     ensures rest { entries.new ≡ without name.now entries.old }
-    ensures count { length entries.new + (if result then 1 else 0) ≡ length entries.old }
+    ensures count { length entries.new + (if is_some result then 1 else 0) ≡ length entries.old }
     ensures indexed { IsIndexed entries.new expiries.new }
 {
     entries.in_order();
     let Some((name, entry)) = entries.remove(name) else {
-        return false;
+        return None;
     };
     drop_expiry(expiries, name, entry.deadline);
-    true
+    Some(entry.value)
+}
+
+/// Removes a key with its deadline, and answers whether it was there.
+pub fn remove(entries: &mut Entries, expiries: &mut Expiries, name: &Word) -> bool
+    requires { IsIndexed entries.old expiries.old }
+    ensures was { result ≡ is_some (at name.now entries.old) }
+    ensures rest { entries.new ≡ without name.now entries.old }
+    ensures indexed { IsIndexed entries.new expiries.new }
+{
+    take(entries, expiries, name).is_some()
 }
 
 /// Removes all keys.
@@ -37,9 +48,14 @@ pub fn clear(entries: &mut Entries, expiries: &mut Expiries)
     expiries.clear();
 }
 
-/// Removes each key in turn, and answers how many were there.
+/// Removes each key in turn, and answers how many were there. The last value of them that is large is kept aside.
 #[tactic(auto, using(crate::proofs::Puts::without_absent, crate::proofs::Puts::count_without))]
-pub fn delete(entries: &mut Entries, expiries: &mut Expiries, names: &Words) -> Reply
+pub fn delete(
+    entries: &mut Entries,
+    expiries: &mut Expiries,
+    names: &Words,
+    deleted: &mut Option<Value>,
+) -> Reply
     requires { IsIndexed entries.old expiries.old }
     ensures answer { result ≡ counted (length entries.old - length (without_all names.now entries.old)) }
     ensures keys { entries.new ≡ without_all names.now entries.old }
@@ -49,7 +65,8 @@ pub fn delete(entries: &mut Entries, expiries: &mut Expiries, names: &Words) -> 
     let _len = list.len(); // for what it says of their number
     let mut count = 0;
     for name in list {
-        if remove(entries, expiries, name) {
+        if let Some(value) = take(entries, expiries, name) {
+            set_aside(deleted, value);
             count += 1;
         }
     }

@@ -11,11 +11,11 @@ use crate::delete;
 use crate::expiries::Expiries;
 use crate::named::{is_past, settle};
 use crate::purges::purge_some;
-use crate::removed::RemovedKeys;
+use crate::removed::{AllKeys, RemovedKeys};
 use sk_cmd::PlainCommand;
 use sk_resp::{Reply, Word};
 use sk_table::TextTable;
-use sk_value::{Action, Entry, KeysFault, action_of};
+use sk_value::{Action, Entry, KeysFault, Value, action_of};
 use std::alloc::Global;
 use std::collections::BTreeSet;
 use std::marker::Model;
@@ -35,7 +35,9 @@ pub struct Keys {
     // Whether some of that may still stand.
     behind: bool,
     // What was removed at once and isn't freed yet. No contract speaks of it.
-    removed: Option<RemovedKeys>,
+    removed: Option<AllKeys>,
+    // The last large value that DEL removed, likewise.
+    deleted: Option<Value>,
 }
 
 impl Model for Keys {
@@ -65,6 +67,7 @@ impl Keys {
             over: 0,
             behind: false,
             removed: None,
+            deleted: None,
         }
     }
 
@@ -100,18 +103,29 @@ impl Keys {
     pub fn clear(&mut self)
         ensures { self.new ≡ [] }
     {
-        self.removed = Some(RemovedKeys {
+        self.removed = Some(AllKeys {
             entries: mem::replace(&mut self.entries, TextTable::new(self.alloc)),
             expiries: mem::replace(&mut self.expiries, BTreeSet::new(self.alloc)),
         });
         self.behind = false;
     }
 
-    /// Hands out what the last `clear` kept aside, to be freed. Takes no memory.
+    /// Whether something that was removed isn't freed yet: all keys by `clear`, or a large value by DEL.
+    pub fn has_removed(&self) -> bool {
+        self.removed.is_some() || self.deleted.is_some()
+    }
+
+    /// Hands that out, to be freed. Takes no memory.
     pub fn take_removed(&mut self) -> Option<RemovedKeys>
         ensures { self.new ≡ self.old }
     {
-        self.removed.take()
+        if !self.has_removed() {
+            return None;
+        }
+        Some(RemovedKeys {
+            all: self.removed.take(),
+            value: self.deleted.take(),
+        })
     }
 
     /// Does what Redis's command does at the moment `now`, in milliseconds since 1970, and gives its reply. A key whose deadline is over still
@@ -138,6 +152,7 @@ impl Keys {
             self.alloc,
             &mut self.entries,
             &mut self.expiries,
+            &mut self.deleted,
             now,
             action,
         )

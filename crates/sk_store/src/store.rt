@@ -72,11 +72,16 @@ impl Store {
         self.leases.purge(self.moment);
     }
 
-    /// Hands out what the last FLUSHALL took out, to be freed. None where there is nothing. Constant time, and takes no memory.
+    // Whether something that was taken out isn't freed yet.
+    fn has_removed(&self) -> bool {
+        self.places.has_removed() || self.keys.has_removed()
+    }
+
+    /// Hands out what the last FLUSHALL took out, or a DEL of a large value, to be freed. None where there is nothing. Constant time, and takes no memory.
     pub fn take_removed(&mut self) -> Option<Removed>
         ensures { self.new ≡ self.old }
     {
-        if !self.places.has_removed() {
+        if !self.has_removed() {
             return None;
         }
         Some(Removed {
@@ -89,7 +94,7 @@ impl Store {
     pub fn free_removed(&mut self)
         ensures { self.new ≡ self.old }
     {
-        if self.places.has_removed() {
+        if self.has_removed() {
             self.free_all_removed();
         }
     }

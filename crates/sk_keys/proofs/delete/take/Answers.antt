@@ -2,7 +2,7 @@ use Rattle.std.proofs.Common.{None, sym, subst}
 use Rattle.sk_value.specs.Keys.{Keys}
 use Rattle.sk_keys.specs.Index.{DropsExpiry}
 use Rattle.sk_keys.proofs.Index.{Holds, has_expiry, holds_without, index_removed}
-use Rattle.sk_keys.proofs.delete.remove.Goals as goal
+use Rattle.sk_keys.proofs.delete.take.Goals as goal
 
 pub returns-clause-indexed : goal.returns-clause-indexed
 returns-clause-indexed c =
