@@ -963,6 +963,39 @@ def waits_beside(thread, client):
     return waits
 
 
+def deadlines_that_come_at_once(_, keys=5_000, at_once=500):
+    """Keys whose deadlines come at once are seen by nobody from then on, though only some of them go with each command."""
+    server = Server(2)
+    with server.client() as it:
+        for at in range(0, keys, at_once):
+            it.send(b''.join(command('SET', 'brief:%d' % n, 'old', 'PX', 1_500 + n // 100) for n in range(at, at + at_once)))
+            it.expect(b'+OK\r\n' * at_once)
+        it.ask(b'+OK\r\n', 'SET', 'lasting', 'here')
+        time.sleep(2)
+        for reply, *words in ((b'$-1\r\n', 'GET', 'brief:4999'), (b':0\r\n', 'EXISTS', 'brief:4998'), (b':0\r\n', 'DEL', 'brief:4997'),
+                              (b'+OK\r\n', 'SET', 'brief:4996', 'new', 'NX'), (b':1\r\n', 'INCRBY', 'brief:4995', 1), (b':-2\r\n', 'PTTL', 'brief:4994'),
+                              (b'+none\r\n', 'TYPE', 'brief:4993'), (b':1\r\n', 'RPUSH', 'brief:4992', 'x'), (b':0\r\n', 'PEXPIRE', 'brief:4991', 9),
+                              (b'$1\r\nx\r\n', 'LMOVE', 'brief:4992', 'brief:4990', 'LEFT', 'RIGHT'), (b':0\r\n', 'SK.GIVE', 'brief:4989', 'old')):
+            it.ask(reply, *words)
+        it.ask(b':3\r\n', 'EXISTS', *('brief:%d' % n for n in range(keys)))
+        for reply, *words in ((bulk(b'new'), 'GET', 'brief:4996'), (bulk(b'1'), 'GET', 'brief:4995'), (b':1\r\n', 'LLEN', 'brief:4990'),
+                              (bulk(b'here'), 'GET', 'lasting')):
+            it.ask(reply, *words)
+    assert server.end()[0] == 0
+
+
+def large_values_are_deleted(_, elements=100_000, at_once=1_000):
+    """A key whose large value is deleted is gone with all of it, and another may take its name at once."""
+    server = Server(2)
+    with server.client() as it:
+        for _again in range(2):
+            for at in range(0, elements, at_once):
+                it.ask(b':%d\r\n' % at_once, 'SADD', 'large', *(b'member-%d' % n for n in range(at, at + at_once)))
+            it.ask(b':1\r\n', 'DEL', 'large', 'large', 'absent')
+            it.ask(b':0\r\n', 'EXISTS', 'large')
+    assert server.end()[0] == 0
+
+
 def longest_wait_beside_a_flushall(jobs=200_000, at_once=1_000):
     """How long another client's PING waits at most beside a FLUSHALL of so many jobs, as a part of the time that this takes. Then nothing is left."""
     server = Server(4)
@@ -1637,7 +1670,7 @@ TESTS = [pipeline, large_reply, single_bytes, one_that_leaves, one_that_never_re
          too_few_descriptors, a_crowd_and_a_shutdown, a_shutdown_among_clients, a_shutdown_with_workers, a_server_that_comes_back,
          patience_that_ends, a_signal_while_it_waits, connections_leave_no_descriptors, memory_that_is_used_up,
          a_stack_that_cant_grow, too_few_threads, a_silent_peer, full_log, old_texts_go, many_rows, others_are_answered_beside_a_flushall,
-         full_store, names_used_once,
+         deadlines_that_come_at_once, large_values_are_deleted, full_store, names_used_once,
          many_clients_of_a_file, what_was_answered_outlives_a_kill, killed_again_and_again, a_shutdown_keeps_all, records_that_are_read,
          a_file_that_another_server_has, files_that_are_no_logs, words_that_name_no_file, a_disk_that_fails, replies_wait_for_the_device,
          replies_that_dont_wait, a_pause_stores_all, a_beginning_outlives_a_kill, a_shutdown_stores_all, a_disk_that_fails_behind_replies,
