@@ -13,15 +13,14 @@ use crate::look::look;
 use crate::move_list::move_text;
 use crate::set::set;
 use sk_resp::{Reply, Say};
-use sk_value::{Action, KeysFault, Value};
+use sk_value::{Action, KeysFault};
 use std::alloc::Global;
 
-/// Does the action at the moment `now`, in milliseconds since 1970. A large value that is deleted is kept aside.
+/// Does the action at the moment `now`, in milliseconds since 1970.
 pub fn act(
     alloc: Global,
     entries: &mut Entries,
     expiries: &mut Expiries,
-    deleted: &mut Option<Value>,
     now: u64,
     action: Action,
 ) -> Result<Reply, KeysFault>
@@ -41,7 +40,7 @@ pub fn act(
         Action::Expire(name, millis) => expire(entries, expiries, now, name, millis),
         Action::Give(name, text) => Ok(give(entries, expiries, &name, &text)),
         Action::Exists(names) => Ok(exists(entries, &names)),
-        Action::Delete(names) => Ok(delete(entries, expiries, &names, deleted)),
+        Action::Delete(names) => Ok(delete(entries, expiries, &names)),
         Action::Move(source, destination, from, to) => {
             move_text(alloc, entries, expiries, source, destination, from, to)
         }

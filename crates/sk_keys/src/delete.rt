@@ -8,13 +8,12 @@ ghost use Rattle.sk_keys.specs.Index.{IsIndexed};
 
 use crate::expiries::{Expiries, drop_expiry};
 use crate::keys::Entries;
-use crate::removed::set_aside;
 use sk_resp::{Reply, Word, Words};
 use sk_value::{Value, counted};
 
-// Takes a key with its deadline out, and gives its value to the caller.
+/// Takes a key with its deadline out, and gives its value to the caller.
 #[tactic(auto, using(crate::proofs::Puts::without_absent, crate::proofs::Puts::count_without))]
-fn take(entries: &mut Entries, expiries: &mut Expiries, name: &Word) -> Option<Value>
+pub fn take(entries: &mut Entries, expiries: &mut Expiries, name: &Word) -> Option<Value>
     requires { IsIndexed entries.old expiries.old }
     ensures was { is_some result ≡ is_some (at name.now entries.old) }
     ensures rest { entries.new ≡ without name.now entries.old }
@@ -34,6 +33,7 @@ pub fn remove(entries: &mut Entries, expiries: &mut Expiries, name: &Word) -> bo
     requires { IsIndexed entries.old expiries.old }
     ensures was { result ≡ is_some (at name.now entries.old) }
     ensures rest { entries.new ≡ without name.now entries.old }
+    ensures count { length entries.new + (if result then 1 else 0) ≡ length entries.old }
     ensures indexed { IsIndexed entries.new expiries.new }
 {
     take(entries, expiries, name).is_some()
@@ -48,14 +48,9 @@ pub fn clear(entries: &mut Entries, expiries: &mut Expiries)
     expiries.clear();
 }
 
-/// Removes each key in turn, and answers how many were there. The last value of them that is large is kept aside.
+/// Removes each key in turn, and answers how many were there.
 #[tactic(auto, using(crate::proofs::Puts::without_absent, crate::proofs::Puts::count_without))]
-pub fn delete(
-    entries: &mut Entries,
-    expiries: &mut Expiries,
-    names: &Words,
-    deleted: &mut Option<Value>,
-) -> Reply
+pub fn delete(entries: &mut Entries, expiries: &mut Expiries, names: &Words) -> Reply
     requires { IsIndexed entries.old expiries.old }
     ensures answer { result ≡ counted (length entries.old - length (without_all names.now entries.old)) }
     ensures keys { entries.new ≡ without_all names.now entries.old }
@@ -65,8 +60,7 @@ pub fn delete(
     let _len = list.len(); // for what it says of their number
     let mut count = 0;
     for name in list {
-        if let Some(value) = take(entries, expiries, name) {
-            set_aside(deleted, value);
+        if remove(entries, expiries, name) {
             count += 1;
         }
     }

@@ -11,7 +11,7 @@ use crate::delete;
 use crate::expiries::Expiries;
 use crate::named::{is_past, settle};
 use crate::purges::purge_some;
-use crate::removed::{AllKeys, RemovedKeys};
+use crate::removed::{AllKeys, RemovedKeys, set_aside};
 use sk_cmd::PlainCommand;
 use sk_resp::{Reply, Word};
 use sk_table::TextTable;
@@ -36,7 +36,7 @@ pub struct Keys {
     behind: bool,
     // What was removed at once and isn't freed yet. No contract speaks of it.
     removed: Option<AllKeys>,
-    // The last large value that DEL removed, likewise.
+    // The last large value that `remove` took out, likewise.
     deleted: Option<Value>,
 }
 
@@ -88,14 +88,15 @@ impl Keys {
         self.entries.has(name) && !is_past(&self.entries, self.over, name)
     }
 
-    /// Removes a key, and answers whether it was there. Takes no memory.
+    /// Removes a key, and answers whether it was there. A large value is kept aside until [`Keys::take_removed`]. Takes no memory.
     pub fn remove(&mut self, name: &Word) -> bool
         ensures was { result ≡ is_some (at name.now self.old) }
         ensures rest { self.new ≡ without name.now self.old }
     {
         let there = self.has(name);
         self.entries.in_order();
-        delete::remove(&mut self.entries, &mut self.expiries, name);
+        let value = delete::take(&mut self.entries, &mut self.expiries, name);
+        set_aside(&mut self.deleted, value);
         there
     }
 
@@ -110,7 +111,7 @@ impl Keys {
         self.behind = false;
     }
 
-    /// Whether something that was removed isn't freed yet: all keys by `clear`, or a large value by DEL.
+    /// Whether something that was removed isn't freed yet: all keys by `clear`, or a large value by `remove`.
     pub fn has_removed(&self) -> bool {
         self.removed.is_some() || self.deleted.is_some()
     }
@@ -152,7 +153,6 @@ impl Keys {
             self.alloc,
             &mut self.entries,
             &mut self.expiries,
-            &mut self.deleted,
             now,
             action,
         )

@@ -4,7 +4,7 @@ use crate::expiries::Expiries;
 use crate::keys::Entries;
 use sk_value::Value;
 
-// From so many elements on a value is freed apart from the command that deletes it.
+// From so many elements on a value is freed apart from the command that removes it.
 const MANY: u64 = 64;
 
 /// All keys that were removed at once.
@@ -14,7 +14,7 @@ pub struct AllKeys {
     pub expiries: Expiries,
 }
 
-/// All keys that were removed at once, or the value of one that was deleted. To drop it gives their memory back, in time for each key or element.
+/// All keys that were removed at once, or the value of one that was. To drop it gives their memory back, in time for each key or element.
 #[derive(Drop)]
 pub struct RemovedKeys {
     pub(crate) all: Option<AllKeys>,
@@ -33,9 +33,11 @@ fn is_large(value: &Value) -> bool {
     len >= MANY
 }
 
-/// A value that was deleted is kept aside in the place of the one before, if it takes long to free.
-pub fn set_aside(last: &mut Option<Value>, value: Value) {
-    if is_large(&value) {
-        *last = Some(value);
+/// A value that was removed is kept aside in the place of the one before, if it takes long to free.
+pub fn set_aside(last: &mut Option<Value>, value: Option<Value>) {
+    if let Some(value) = value {
+        if is_large(&value) {
+            *last = Some(value);
+        }
     }
 }
