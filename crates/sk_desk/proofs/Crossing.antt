@@ -17,8 +17,10 @@ use Rattle.sk_places.specs.contracts.live_jobs.LiveJobs as LiveJobs
 use Rattle.sk_places.specs.contracts.removed.RemovedRows as RemovedRows
 use Rattle.sk_seats.specs.contracts.seats.Seats as Seats
 use Rattle.sk_keys.specs.contracts.keys.Keys as Keys
+use Rattle.sk_keys.specs.contracts.removed.AllKeys as AllKeys
 use Rattle.sk_keys.specs.contracts.removed.RemovedKeys as RemovedKeys
 use Rattle.sk_value.specs.contracts.entry.Entry as Entry
+use Rattle.sk_value.specs.contracts.value.Value as Value
 use Rattle.sk_value.specs.contracts.sorted.Sorted as Sorted
 use Rattle.sk_zset.specs.contracts.zset.ZSet as ZSet
 use Rattle.sk_store.specs.contracts.store.Store as Store
@@ -47,7 +49,7 @@ counters_send : IsSend Counters.the_field.row
 counters_send = search (sendable, crosses, crosses_maps, list_send_field) depth 40 fits 5000
 
 jobs_send : IsSend LiveJobs.the_field.row
-jobs_send = search (sendable, crosses, list_send_field, text_send_field) depth 100 fits 8000
+jobs_send = search (sendable, crosses, text_send_field) depth 100 fits 8000
 
 removed_send : IsSend RemovedRows.the_row
 removed_send = search (sendable, crosses, list_send_field, deques_send_field, text_send_field, jobs_send) depth 100 fits 8000
@@ -64,14 +66,20 @@ set_send = search (sendable, crosses, crosses_maps, list_send_field) depth 60 fi
 sorted_send : IsSend Sorted.the_field.row
 sorted_send = search (sendable, crosses, set_send) depth 60 fits 5000
 
+value_send : IsSend Value.the_row
+value_send = search (sendable, crosses, crosses_maps, sorted_send) depth 60 fits 5000
+
 entry_send : IsSend Entry.the_row
-entry_send = search (sendable, crosses, crosses_maps, sorted_send) depth 60 fits 5000
+entry_send = search (sendable, crosses, value_send) depth 60 fits 5000
+
+all_keys_send : IsSend AllKeys.the_row
+all_keys_send = search (sendable, crosses, crosses_maps, entry_send) depth 60 fits 5000
 
 removed_keys_send : IsSend RemovedKeys.the_row
-removed_keys_send = search (sendable, crosses, crosses_maps, entry_send) depth 60 fits 5000
+removed_keys_send = search (sendable, crosses, value_send, all_keys_send) depth 60 fits 5000
 
 keys_send : IsSend Keys.the_field.row
-keys_send = search (sendable, crosses, crosses_maps, entry_send, removed_keys_send) depth 60 fits 5000
+keys_send = search (sendable, crosses, crosses_maps, value_send, entry_send, all_keys_send) depth 60 fits 5000
 
 store_send : IsSend Store.the_field.row
 store_send = search (sendable, crosses, leases_send, batches_send, counters_send, places_send, seats_send, keys_send) depth 60 fits 5000
