@@ -9,7 +9,7 @@ import sys
 
 from client import PROGRAM, Pipe, command, job
 
-BAR = 400
+BAR = 300
 
 
 def greatest(jobs):

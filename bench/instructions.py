@@ -139,26 +139,26 @@ def deleted(rows, rounds):
 # What is counted, of how many rows or members, in how many rounds, and the bar. The large ones come last. A slot of a limiter has many rounds: early in
 # a run the C library joins all blocks that were freed, and where that fell among 300 counted rounds it added 5,000 instructions to each.
 WORKLOADS = [
-    ('a round of LPUSH, LMOVE and PING, 3,000 rows', lists, 3_000, 300, 25_000),
-    ('the same, with escapes and a number below zero in the job', letters, 3_000, 300, 28_000),
-    ('a job pushed, fetched, started, done, released, 10 rows', cycle, 10, 300, 36_000),
-    ('the same, 1,000 rows', cycle, 1_000, 300, 36_000),
-    ('the same, 10 rows, beside 64 seats of 16 jobs each', beside, 64, 300, 36_000),
-    ('the same, of 16 seats of one process, the oldest of its 256 jobs', oldest, 16, 300, 100_000),
-    ('ZADD of one more job on a schedule of 1,000', schedule, 1_000, 100, 30_000),
-    ('the same, of 10,000', schedule, 10_000, 20, 33_000),
-    ('SK.DUE of one job of 10,000', due, 10_000, 300, 60_000),
-    ('ZADD of one more pair in a sorted set of 10,000', sorted_set, 10_000, 300, 30_000),
-    ('SK.BPUSH of 2,000 jobs, a member', pushed, 0, 1_000, 40_000),
-    ('a member fetched, started, done, released, of 100', batch, 100, 50, 45_000),
-    ('a slot of a limiter held and given back', held, 3_000, 10_000, 12_000),
-    ('the same with DEL in the place of SK.GIVE', deleted, 3_000, 10_000, 17_000),
+    ('a round of LPUSH, LMOVE and PING, 3,000 rows', lists, 3_000, 300, 20_000),
+    ('the same, with escapes and a number below zero in the job', letters, 3_000, 300, 21_000),
+    ('a job pushed, fetched, started, done, released, 10 rows', cycle, 10, 300, 30_000),
+    ('the same, 1,000 rows', cycle, 1_000, 300, 30_000),
+    ('the same, 10 rows, beside 64 seats of 16 jobs each', beside, 64, 300, 30_000),
+    ('the same, of 16 seats of one process, the oldest of its 256 jobs', oldest, 16, 300, 32_000),
+    ('ZADD of one more job on a schedule of 1,000', schedule, 1_000, 100, 20_000),
+    ('the same, of 10,000', schedule, 10_000, 20, 22_000),
+    ('SK.DUE of one job of 10,000', due, 10_000, 300, 16_000),
+    ('ZADD of one more pair in a sorted set of 10,000', sorted_set, 10_000, 300, 12_000),
+    ('SK.BPUSH of 2,000 jobs, a member', pushed, 0, 1_000, 14_500),
+    ('a member fetched, started, done, released, of 100', batch, 100, 50, 24_000),
+    ('a slot of a limiter held and given back', held, 3_000, 10_000, 11_000),
+    ('the same with DEL in the place of SK.GIVE', deleted, 3_000, 10_000, 9_000),
 ]
 LARGE = [
-    ('a job pushed, fetched, started, done, released, 100,000 rows', cycle, 100_000, 300, 36_000),
+    ('a job pushed, fetched, started, done, released, 100,000 rows', cycle, 100_000, 300, 30_000),
     ('SK.BPUSH of 20,000 jobs, a member', pushed, 0, 10_000, 40_000),
-    ('a member fetched, started, done, released, of 10,000', batch, 10_000, 50, 45_000),
-    ('the same, of 100,000', batch, 100_000, 50, 45_000),
+    ('a member fetched, started, done, released, of 10,000', batch, 10_000, 50, 27_000),
+    ('the same, of 100,000', batch, 100_000, 50, 27_000),
 ]
 
 
