@@ -70,7 +70,7 @@ value_send : IsSend Value.the_row
 value_send = search (sendable, crosses, crosses_maps, sorted_send) depth 60 fits 5000
 
 entry_send : IsSend Entry.the_row
-entry_send = search (sendable, crosses, value_send) depth 60 fits 5000
+entry_send = search (sendable, crosses, crosses_maps, sorted_send) depth 60 fits 5000
 
 all_keys_send : IsSend AllKeys.the_row
 all_keys_send = search (sendable, crosses, crosses_maps, entry_send) depth 60 fits 5000
