@@ -8,6 +8,7 @@ use sk_core::Core;
 use sk_desk::{HubFault, MemDesk};
 use std::alloc::Global;
 use std::marker::Model;
+use std::mem;
 
 /// The seats of a store that no other thread uses, from 1 on. Contracts see the store's world, where no desk has it, the number that was given last,
 /// how many are left, and the seats that have ended with their desks' calls, where it tells them.
@@ -50,11 +51,11 @@ impl CoreSeats {
     }
 }
 
-// The store comes back.
+// The store comes back. What stood there goes by a call of its own: to drop it in its place would be a proof beyond a check's memory.
 fn put(place: &mut Option<Core>, core: Core)
     ensures { place.new ≡ Some core }
 {
-    *place = Some(core);
+    drop(mem::replace(place, Some(core)));
 }
 
 // Keeps a seat that has ended, where none was lost before. Answers whether one is lost now.
