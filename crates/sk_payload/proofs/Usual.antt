@@ -1,5 +1,5 @@
 -- Texts in their usual form: what their values are, and how they are read piece by piece.
-use Rattle.std.proofs.Common.{◌≡◌, ℕ, ℤ, pos, negsuc, suc, ◌+◌, ◌*◌, ◌-◌, ◌<◌, ◌≤◌, ◌++◌, List, [], ◌∷◌, length, take, drop, get_or, set, get_or-set_same, get_or-set_other, Bool, true, false, cond, Option, Some, None, IfSome, option_map, codes, option_and_then, Ordering, Less, Equal, Greater, bytes_eq, true≢false, refl, sym, ap, ap₂, ◌∙◌, subst, append_assoc, append-nil, arith, length-append, length-take, length-drop, get_or-take, take-add, take_all, replicate}
+use Rattle.std.proofs.Common.{◌≡◌, ℕ, ℤ, pos, negsuc, suc, ◌+◌, ◌*◌, ◌-◌, ◌^◌, ◌<◌, ◌≤◌, ◌++◌, List, [], ◌∷◌, length, take, drop, get_or, set, get_or-set_same, get_or-set_other, Bool, true, false, cond, Option, Some, None, IfSome, option_map, codes, option_and_then, Ordering, Less, Equal, Greater, bytes_eq, true≢false, refl, sym, ap, ap₂, ◌∙◌, subst, append_assoc, append-nil, arith, length-append, length-take, length-drop, get_or-take, take-add, take_all, replicate}
 use Rattle.std.specs.Str.{IsUtf8}
 use Rattle.std.specs.Prelude.{⊤, nat_abs}
 use lib.Signed.{lt_z}
@@ -11,7 +11,7 @@ use Rattle.std.proofs.lemmas.Str.{is_utf8-from_IsUtf8}
 use Rattle.std.proofs.lemmas.List.{take_more, take_rest, get_or-drop, get_or-replicate}
 use Rattle.std.proofs.lemmas.Grind.{flat_map-append}
 use Rattle.std.proofs.lemmas.Fmt.{decimal_nonempty}
-use Rattle.std.specs.Fmt.{signed_decimal}
+use Rattle.std.specs.Fmt.{decimal, signed_decimal}
 use Rattle.std.proofs.lemmas.Option.{same_Some}
 use Rattle.std.proofs.lemmas.Slice.Eq.{bytes_eq-Decides}
 use Rattle.json.specs.Json as json
@@ -31,17 +31,18 @@ use Rattle.serde_json.specs.Written.{outline, items_outline, members_outline, ha
 use Rattle.serde_json.proofs.Numbers.{number_of-decimal, number_of-negative}
 use Rattle.serde_json.proofs.Texts.{print-outline}
 use Rattle.serde_json.proofs.Views.{get_member-put, get_member-put_other}
-use Rattle.sk_resp.specs.Spelling.{Bytes, colon}
+use Rattle.sk_resp.specs.Spelling.{Bytes, IsPart, colon}
 use Rattle.sk_resp.specs.Number.{IsI64}
 use Rattle.sk_payload.specs.Json.{value, is_short}
 use Rattle.sk_payload.specs.Head.{head, head_of_value, head_of_object}
 use Rattle.sk_payload.specs.Member.{required, optional, name_of, args_of, retry_of, generation_of, moment_of, seconds_of, until_of, first_failed_of}
 use Rattle.sk_payload.specs.declared.head.Retry.TheVariants.{Default}
 use Rattle.sk_payload.specs.declared.head.Until.TheVariants.{Success}
-use Rattle.sk_payload.specs.Usual.{is_plain, IsFront, IsUsual, Shows, ShowsIf, Tells, place_in, slot_names, slot_of, head_of_sketch}
+use Rattle.sk_payload.specs.Usual.{is_plain, is_plain_ascii, IsFront, IsPlainAscii, IsUsual, Shows, ShowsIf, Tells, place_in, slot_names, slot_of, head_of_sketch}
 use Rattle.sk_payload.specs.declared.front.Found.{Found}
 use Rattle.sk_payload.specs.declared.front.Found.TheVariants as found
 use Rattle.sk_payload.specs.declared.front.Front.{Front}
+use Rattle.sk_payload.specs.declared.unsigned.Unsigned.{Unsigned}
 use Rattle.sk_payload.specs.declared.sketch.Sketch.{Sketch}
 use Rattle.sk_payload.proofs.Heads.{head_of_found}
 use Rattle.sk_payload.proofs.Bounds.{members_sum, members_text_le, short_enough}
@@ -364,6 +365,19 @@ escape_read xs at b s below front first is =
 -- behind a front of a string there is its last quote
 pub string_read : (xs : Bytes) (at : ℕ) (s : Bytes) → at < length xs → take at xs ≡ 34 ∷ escape s → get_or xs at 0 ≡ 34 → take (at + 1) xs ≡ quoted s
 string_read xs at s below front last = take_more xs at 0 below ∙ ap₂ (λ (f : Bytes) (x : ℕ). f ++ x ∷ []) front last
+
+pub plain_of_ascii : (b : ℕ) → is_plain_ascii b ≡ true → is_plain b ≡ true
+plain_of_ascii b h = grind arith
+
+-- Where characters of ASCII stand up to a quote, they are what stands inside.
+pub ascii_inside : (xs : Bytes) (end : ℕ) → end ≤ length xs → ((k : ℕ) → 1 ≤ k → k < end → is_plain_ascii (get_or xs k 0) ≡ true) → IsPlainAscii (take (end - 1) (drop 1 xs))
+ascii_inside xs end le ascii = λ k lt.
+    let below : k < end - 1 = omega (arith, length-take (end - 1) (drop 1 xs)) in
+    ap is_plain_ascii (get_or-take (end - 1) (drop 1 xs) k 0 below ∙ get_or-drop 1 xs k 0) ∙ ascii (1 + k) (omega arith) (omega arith)
+
+-- A whole number's digits are a front.
+pub unsigned_front : (most : ℕ) (r : Unsigned) (xs : Bytes) → IsPart r.len xs → r.n < 2 ^ 63 → take r.len xs ≡ decimal r.n → IsFront most (record { len = r.len; found = found.Whole r.n }) xs
+unsigned_front most r xs within small is = (within, (number_in (pos r.n), usual_number most (pos r.n) small, refl, is))
 
 pub front_at : (most : ℕ) (input : Bytes) (o : Option Front) → IfSome o (λ r. (most : ℕ) → IsFront most r input) → IfSome o (λ r. IsFront most r input)
 front_at most input None is = tt

@@ -5,8 +5,8 @@ ghost use Rattle.serde_json.specs.Data.{Data, Members, object};
 ghost use Rattle.serde_json.specs.Find.{as_bool};
 ghost use Rattle.sk_base.specs.Name.{IsName};
 ghost use Rattle.sk_payload.specs.Head.{head as head_in, head_of_object};
-ghost use Rattle.sk_payload.specs.Member.{is_name as name_test, required, optional, name_of as name_in, seconds_of as seconds_in, moment_of as moment_in, args_of as args_in, retry_of as retry_in, generation_of as generation_in, first_failed_of as first_failed_in, until_of as until_in};
-ghost use Rattle.sk_payload.specs.Usual.{ShowsIf, Tells, head_of_sketch};
+ghost use Rattle.sk_payload.specs.Member.{is_name as name_test, required, optional, name_of as name_in, seconds_of as seconds_in, moment_of as moment_in, args_of as args_in, retry_of as retry_in, generation_of as generation_in, first_failed_of as first_failed_in, lock_of as lock_in, until_of as until_in};
+ghost use Rattle.sk_payload.specs.Usual.{AreTexts, IsPlainAscii, ShowsIf, Tells, head_of_sketch};
 ghost use Rattle.sk_payload.specs.declared.head.Retry.TheVariants.{Default};
 ghost use Rattle.sk_payload.specs.declared.head.Until.TheVariants.{Success};
 
@@ -31,43 +31,59 @@ fn is_shown(text: &str, most: usize) -> bool
     fits && visible
 }
 
-fn is_named(text: &str, most: usize) -> bool
+fn is_name_in_utf8(text: &str, most: usize) -> bool
     ensures { result ≡ name_test most text.now }
 {
     is_shown(text, most)
 }
 
+// The same of any bytes.
+fn is_named(bytes: &[u8], most: usize) -> bool
+    ensures { result ≡ true → name_test most bytes.now ≡ true }
+{
+    match str::from_utf8(bytes) {
+        Ok(text) => is_name_in_utf8(text, most),
+        Err(_) => false,
+    }
+}
+
+// The same of characters of ASCII that can be shown: only how many they are is looked at.
+fn is_named_in_ascii(bytes: &[u8], most: usize) -> bool
+    ensures { result ≡ true → IsPlainAscii bytes.now → name_test most bytes.now ≡ true }
+{
+    !bytes.is_empty() && bytes.len() <= most
+}
+
 // A string that is a name of at most so many bytes.
-fn name_of<'a>(found: Option<Found<'a>>, most: usize) -> Option<&'a str>
+fn name_of<'a>(found: Option<Found<'a>>, most: usize) -> Option<&'a [u8]>
     ensures { IfSome result (λ text. (o : Option Data) → ShowsIf found.entry o → required (name_in most) o ≡ Some text.now) }
 {
-    let Some(Found::Text(bytes)) = found else {
-        return None;
-    };
-    let Ok(text) = str::from_utf8(bytes) else {
-        return None;
-    };
-    if is_named(text, most) {
-        Some(text)
-    } else {
-        None
+    match found {
+        Some(Found::Ascii(bytes)) => if is_named_in_ascii(bytes, most) {
+            Some(bytes)
+        } else {
+            None
+        },
+        Some(Found::Text(bytes)) => if is_named(bytes, most) {
+            Some(bytes)
+        } else {
+            None
+        },
+        _ => None,
     }
 }
 
 // The text of an array.
-fn args_of<'a>(found: Option<Found<'a>>) -> Option<&'a str>
+fn args_of<'a>(found: Option<Found<'a>>) -> Option<&'a [u8]>
     ensures { IfSome result (λ text. (o : Option Data) → ShowsIf found.entry o → required args_in o ≡ Some text.now) }
 {
-    let Some(Found::Array(bytes)) = found else {
-        return None;
-    };
-    let Ok(text) = str::from_utf8(bytes) else {
-        return None;
-    };
-    Some(text)
+    match found {
+        Some(Found::Array(bytes)) => Some(bytes),
+        _ => None,
+    }
 }
 
-fn bid_of<'a>(found: Option<Found<'a>>) -> Option<Option<&'a str>>
+fn bid_of<'a>(found: Option<Found<'a>>) -> Option<Option<&'a [u8]>>
     ensures { IfSome result (λ bid. (o : Option Data) → ShowsIf found.entry o
         → optional None (λ b. option_map Some (name_in LONGEST_ID b)) o ≡ Some (option_map (λ text. text.now) bid)) }
 {
@@ -156,7 +172,7 @@ fn until_of(found: Option<Found<'_>>) -> Option<Until>
 {
     match found {
         None => Some(Until::Success),
-        Some(Found::Text(text)) => if text == "success".as_bytes() {
+        Some(Found::Ascii(text)) => if text == "success".as_bytes() {
             Some(Until::Success)
         } else {
             None
@@ -185,11 +201,11 @@ fn first_failed_of(found: Option<Found<'_>>, retry_for: Option<u32>) -> Option<O
 /// What a head holds, with its texts still in the job's text.
 #[derive(Clone, Copy, Drop)]
 pub struct Sketch<'a> {
-    pub jid: &'a str,
-    pub class: &'a str,
-    pub queue: &'a str,
-    pub args: &'a str,
-    pub bid: Option<&'a str>,
+    pub jid: &'a [u8],
+    pub class: &'a [u8],
+    pub queue: &'a [u8],
+    pub args: &'a [u8],
+    pub bid: Option<&'a [u8]>,
     pub retry: Retry,
     pub gen_: u32,
     pub dead: bool,
@@ -234,6 +250,38 @@ pub fn sketch_of<'a>(slots: &[Option<Found<'a>>; 13]) -> Option<Sketch<'a>>
     })
 }
 
+// The texts of a sketch.
+#[derive(Clone, Copy, Drop)]
+struct Texts<'a> {
+    jid: &'a str,
+    class: &'a str,
+    queue: &'a str,
+    args: &'a str,
+    bid: Option<&'a str>,
+}
+
+fn bid_in_utf8(bid: Option<&[u8]>) -> Option<Option<&str>>
+    ensures { IfSome result (λ text. option_map (λ b. b.now) text ≡ option_map (λ b. b.now) bid.entry) }
+{
+    match bid {
+        None => Some(None),
+        Some(bytes) => Some(Some(str::from_utf8(bytes).ok()?)),
+    }
+}
+
+// The texts of a sketch, where they are UTF-8.
+fn texts_of<'a>(sketch: &Sketch<'a>) -> Option<Texts<'a>>
+    ensures { IfSome result (λ texts. AreTexts texts sketch.now) }
+{
+    Some(Texts {
+        jid: str::from_utf8(sketch.jid).ok()?,
+        class: str::from_utf8(sketch.class).ok()?,
+        queue: str::from_utf8(sketch.queue).ok()?,
+        args: str::from_utf8(sketch.args).ok()?,
+        bid: bid_in_utf8(sketch.bid)?,
+    })
+}
+
 fn text_of(alloc: Global, text: &str) -> Result<Text, Memory>
     ensures { IfOk result (λ copied. copied ≡ text.now) }
 {
@@ -249,22 +297,26 @@ fn bid_text(alloc: Global, bid: Option<&str>) -> Result<Option<Text>, Memory>
     }
 }
 
-fn drawn(alloc: Global, sketch: Sketch<'_>) -> Result<Head, Memory>
-    ensures { IfOk result (λ head. head ≡ head_of_sketch sketch.entry) }
+fn lock_of(seconds: Option<u32>, until: Until) -> Option<Lock>
+    ensures { result ≡ lock_in seconds until }
+{
+    seconds.map(|seconds| Lock { seconds, until })
+}
+
+fn drawn(alloc: Global, sketch: &Sketch<'_>, texts: Texts<'_>) -> Result<Head, Memory>
+    requires { AreTexts texts sketch.now }
+    ensures { IfOk result (λ head. head ≡ head_of_sketch sketch.now) }
 {
     Ok(Head {
-        jid: text_of(alloc, sketch.jid)?,
-        class: text_of(alloc, sketch.class)?,
-        queue: text_of(alloc, sketch.queue)?,
-        args: text_of(alloc, sketch.args)?,
+        jid: text_of(alloc, texts.jid)?,
+        class: text_of(alloc, texts.class)?,
+        queue: text_of(alloc, texts.queue)?,
+        args: text_of(alloc, texts.args)?,
         retry: sketch.retry,
         retry_for: sketch.retry_for,
         gen_: sketch.gen_,
-        bid: bid_text(alloc, sketch.bid)?,
-        lock: sketch.seconds.map(|seconds| Lock {
-            seconds,
-            until: sketch.until,
-        }),
+        bid: bid_text(alloc, texts.bid)?,
+        lock: lock_of(sketch.seconds, sketch.until),
         dead: sketch.dead,
         created: sketch.created,
         first_failed: sketch.first_failed,
@@ -286,8 +338,11 @@ fn usual_sketch(text: &[u8]) -> Option<Sketch<'_>>
 pub fn usual_head(alloc: Global, text: &[u8]) -> Result<Option<Head>, Memory>
     ensures { IfOk result (λ found. IfSome found (λ head. head_in text.now ≡ Some head)) }
 {
-    match usual_sketch(text) {
+    let Some(sketch) = usual_sketch(text) else {
+        return Ok(None);
+    };
+    match texts_of(&sketch) {
         None => Ok(None),
-        Some(sketch) => Ok(Some(drawn(alloc, sketch)?)),
+        Some(texts) => Ok(Some(drawn(alloc, &sketch, texts)?)),
     }
 }

@@ -26,13 +26,13 @@ pub struct Spans {
 }
 
 // The span of a string, behind which stands its last quote.
-fn quoted_span(text: &[u8], string: &str, end: usize) -> Option<Span>
+fn quoted_span(text: &[u8], string: &[u8], end: usize) -> Option<Span>
     ensures { IfSome result (λ span. Stands span text.now string.now) }
 {
-    span_to(text, string.as_bytes(), end.checked_sub(1)?)
+    span_to(text, string, end.checked_sub(1)?)
 }
 
-fn bid_span(text: &[u8], bid: Option<&str>, end: usize) -> Option<Option<Span>>
+fn bid_span(text: &[u8], bid: Option<&[u8]>, end: usize) -> Option<Option<Span>>
     ensures { IfSome result (λ span. StandsIf span text.now (option_map (λ b. b.now) bid.entry)) }
 {
     match bid {
@@ -62,7 +62,7 @@ fn spans_in(text: &[u8], ends: &[usize; 13], sketch: &Sketch<'_>) -> Option<Span
         jid: quoted_span(text, sketch.jid, ends[0])?,
         class: quoted_span(text, sketch.class, ends[1])?,
         queue: quoted_span(text, sketch.queue, ends[2])?,
-        args: span_to(text, sketch.args.as_bytes(), ends[3])?,
+        args: span_to(text, sketch.args, ends[3])?,
         bid: bid_span(text, sketch.bid, ends[4])?,
         gen_: sketch.gen_,
         seconds: sketch.seconds,

@@ -3,9 +3,12 @@ use Rattle.std.specs.Prelude.{nat_abs}
 use lib.Signed.{lt_z}
 use Rattle.sk_payload.specs.Usual.{Shows}
 use Rattle.sk_payload.specs.declared.front.Found.TheVariants as found
-use Rattle.sk_payload.proofs.Usual.{negative_shows, number_in, number_some, number_text_is, usual_number, whole_shows}
+use Rattle.sk_payload.proofs.Usual.{negative_shows, number_in, number_some, number_text_is, unsigned_front, usual_number, whole_shows}
 use Rattle.sk_payload.proofs.front.number_front.Goals.{then-n-lt0, else-n-lt0}
 use Rattle.sk_payload.proofs.front.number_front.Goals as goal
+
+pub returns-in-Some : goal.returns-in-Some
+returns-in-Some c = λ most. let e = c.in-Some.ensures in unsigned_front most c.in-Some.field-0 c.args.input.now e.0 e.1 e.2
 
 pub returns : goal.returns
 returns c = λ most.
