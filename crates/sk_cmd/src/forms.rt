@@ -20,16 +20,16 @@ pub fn script(command: ScriptCommand) -> Result<Command, CmdFault>
 }
 
 /// A key, and one or more texts
-pub fn key_texts(name: Name, words: Vec<Word>) -> Result<(Word, Words), CmdFault>
-    ensures { IsKeyTexts name words.items result }
+pub fn key_texts(name: Name, words: &mut Vec<Word>) -> Result<(Word, Words), CmdFault>
+    ensures { IsKeyTexts name words.old.items result }
 {
     let fits = 2 <= words.len();
     one_and(name, fits, words)
 }
 
 /// A key and an integer
-pub fn key_whole(name: Name, words: Vec<Word>) -> Result<(Word, i64), CmdFault>
-    ensures { IsKeyWhole name words.items result }
+pub fn key_whole(name: Name, words: &mut Vec<Word>) -> Result<(Word, i64), CmdFault>
+    ensures { IsKeyWhole name words.old.items result }
 {
     let (key, n) = two(name, words)?;
     let n = read_whole(n.bytes())?;
@@ -37,8 +37,8 @@ pub fn key_whole(name: Name, words: Vec<Word>) -> Result<(Word, i64), CmdFault>
 }
 
 /// A key and two indices
-pub fn key_range(name: Name, words: Vec<Word>) -> Result<(Word, i64, i64), CmdFault>
-    ensures { IsKeyRange name words.items result }
+pub fn key_range(name: Name, words: &mut Vec<Word>) -> Result<(Word, i64, i64), CmdFault>
+    ensures { IsKeyRange name words.old.items result }
 {
     let (key, first, last) = three(name, words)?;
     let first = read_whole(first.bytes())?;
@@ -47,8 +47,8 @@ pub fn key_range(name: Name, words: Vec<Word>) -> Result<(Word, i64, i64), CmdFa
 }
 
 /// A key and two indices, and at most one word more
-pub fn ranks(name: Name, words: Vec<Word>) -> Result<(Word, i64, i64, Words), CmdFault>
-    ensures { IsRanks name words.items result }
+pub fn ranks(name: Name, words: &mut Vec<Word>) -> Result<(Word, i64, i64, Words), CmdFault>
+    ensures { IsRanks name words.old.items result }
 {
     let fits = is_from(3, 4, words.len());
     let (key, first, last, more) = three_and(name, fits, words)?;

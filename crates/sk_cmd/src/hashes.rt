@@ -11,8 +11,8 @@ use sk_resp::{Name, Word};
 use std::alloc::Global;
 
 /// `HSET key field value ..`
-pub fn hset(alloc: Global, words: Vec<Word>) -> Result<Command, CmdFault>
-    ensures { Reads Name.Hset words.items result }
+pub fn hset(alloc: Global, words: &mut Vec<Word>) -> Result<Command, CmdFault>
+    ensures { Reads Name.Hset words.old.items result }
 {
     let fits = 3 <= words.len() && words.len() % 2 == 1;
     let (key, words) = one_and(Name::Hset, fits, words)?;
@@ -21,31 +21,31 @@ pub fn hset(alloc: Global, words: Vec<Word>) -> Result<Command, CmdFault>
 }
 
 /// `HGET key field`
-pub fn hget(words: Vec<Word>) -> Result<Command, CmdFault>
-    ensures { Reads Name.Hget words.items result }
+pub fn hget(words: &mut Vec<Word>) -> Result<Command, CmdFault>
+    ensures { Reads Name.Hget words.old.items result }
 {
     let (a, b) = two(Name::Hget, words)?;
     plain(PlainCommand::Hget(a, b))
 }
 
 /// `HLEN key`
-pub fn hlen(words: Vec<Word>) -> Result<Command, CmdFault>
-    ensures { Reads Name.Hlen words.items result }
+pub fn hlen(words: &mut Vec<Word>) -> Result<Command, CmdFault>
+    ensures { Reads Name.Hlen words.old.items result }
 {
     plain(PlainCommand::Hlen(one(Name::Hlen, words)?))
 }
 
 /// `HDEL key field ..`
-pub fn hdel(words: Vec<Word>) -> Result<Command, CmdFault>
-    ensures { Reads Name.Hdel words.items result }
+pub fn hdel(words: &mut Vec<Word>) -> Result<Command, CmdFault>
+    ensures { Reads Name.Hdel words.old.items result }
 {
     let (key, texts) = key_texts(Name::Hdel, words)?;
     plain(PlainCommand::Hdel(key, texts))
 }
 
 /// `HGETALL key`
-pub fn hgetall(words: Vec<Word>) -> Result<Command, CmdFault>
-    ensures { Reads Name.Hgetall words.items result }
+pub fn hgetall(words: &mut Vec<Word>) -> Result<Command, CmdFault>
+    ensures { Reads Name.Hgetall words.old.items result }
 {
     plain(PlainCommand::Hgetall(one(Name::Hgetall, words)?))
 }

@@ -10,39 +10,39 @@ use crate::{CmdFault, Command, PlainCommand};
 use sk_resp::{Name, Word};
 
 /// `LPUSH key element ..`
-pub fn lpush(words: Vec<Word>) -> Result<Command, CmdFault>
-    ensures { Reads Name.Lpush words.items result }
+pub fn lpush(words: &mut Vec<Word>) -> Result<Command, CmdFault>
+    ensures { Reads Name.Lpush words.old.items result }
 {
     let (key, texts) = key_texts(Name::Lpush, words)?;
     plain(PlainCommand::Lpush(key, texts))
 }
 
 /// `RPUSH key element ..`
-pub fn rpush(words: Vec<Word>) -> Result<Command, CmdFault>
-    ensures { Reads Name.Rpush words.items result }
+pub fn rpush(words: &mut Vec<Word>) -> Result<Command, CmdFault>
+    ensures { Reads Name.Rpush words.old.items result }
 {
     let (key, texts) = key_texts(Name::Rpush, words)?;
     plain(PlainCommand::Rpush(key, texts))
 }
 
 /// `LRANGE key first last`
-pub fn lrange(words: Vec<Word>) -> Result<Command, CmdFault>
-    ensures { Reads Name.Lrange words.items result }
+pub fn lrange(words: &mut Vec<Word>) -> Result<Command, CmdFault>
+    ensures { Reads Name.Lrange words.old.items result }
 {
     let (key, first, last) = key_range(Name::Lrange, words)?;
     plain(PlainCommand::Lrange(key, first, last))
 }
 
 /// `LLEN key`
-pub fn llen(words: Vec<Word>) -> Result<Command, CmdFault>
-    ensures { Reads Name.Llen words.items result }
+pub fn llen(words: &mut Vec<Word>) -> Result<Command, CmdFault>
+    ensures { Reads Name.Llen words.old.items result }
 {
     plain(PlainCommand::Llen(one(Name::Llen, words)?))
 }
 
 /// `LREM key count element`
-pub fn lrem(words: Vec<Word>) -> Result<Command, CmdFault>
-    ensures { Reads Name.Lrem words.items result }
+pub fn lrem(words: &mut Vec<Word>) -> Result<Command, CmdFault>
+    ensures { Reads Name.Lrem words.old.items result }
 {
     let (key, count, element) = three(Name::Lrem, words)?;
     let count = read_whole(count.bytes())?;
@@ -50,8 +50,8 @@ pub fn lrem(words: Vec<Word>) -> Result<Command, CmdFault>
 }
 
 /// `LMOVE source destination LEFT|RIGHT LEFT|RIGHT`
-pub fn lmove(words: Vec<Word>) -> Result<Command, CmdFault>
-    ensures { Reads Name.Lmove words.items result }
+pub fn lmove(words: &mut Vec<Word>) -> Result<Command, CmdFault>
+    ensures { Reads Name.Lmove words.old.items result }
 {
     let (source, destination, from, to) = four(Name::Lmove, words)?;
     let from = read_side(from.bytes())?;

@@ -9,8 +9,8 @@ use sk_resp::{Name, Word, Words};
 use std::alloc::Global;
 
 // The command of that name, from the words behind it.
-fn read_as(alloc: Global, name: Name, words: Vec<Word>) -> Result<Command, CmdFault>
-    ensures { Reads name words.items result }
+fn read_as(alloc: Global, name: Name, words: &mut Vec<Word>) -> Result<Command, CmdFault>
+    ensures { Reads name words.old.items result }
 {
     match name {
         Name::Ping => keys::ping(words),
@@ -86,5 +86,5 @@ pub fn read_command(alloc: Global, words: Words) -> Result<Command, CmdFault>
     let Some(name) = name_of(word.bytes()) else {
         return Err(CmdFault::Unknown);
     };
-    read_as(alloc, name, words)
+    read_as(alloc, name, &mut words)
 }

@@ -13,8 +13,8 @@ use sk_resp::{Name, Word};
 use std::alloc::Global;
 
 /// `ZADD key score member ..`
-pub fn zadd(alloc: Global, words: Vec<Word>) -> Result<Command, CmdFault>
-    ensures { Reads Name.Zadd words.items result }
+pub fn zadd(alloc: Global, words: &mut Vec<Word>) -> Result<Command, CmdFault>
+    ensures { Reads Name.Zadd words.old.items result }
 {
     let fits = 3 <= words.len();
     let (key, words) = one_and(Name::Zadd, fits, words)?;
@@ -26,31 +26,31 @@ pub fn zadd(alloc: Global, words: Vec<Word>) -> Result<Command, CmdFault>
 }
 
 /// `ZREM key member ..`
-pub fn zrem(words: Vec<Word>) -> Result<Command, CmdFault>
-    ensures { Reads Name.Zrem words.items result }
+pub fn zrem(words: &mut Vec<Word>) -> Result<Command, CmdFault>
+    ensures { Reads Name.Zrem words.old.items result }
 {
     let (key, texts) = key_texts(Name::Zrem, words)?;
     plain(PlainCommand::Zrem(key, texts))
 }
 
 /// `ZCARD key`
-pub fn zcard(words: Vec<Word>) -> Result<Command, CmdFault>
-    ensures { Reads Name.Zcard words.items result }
+pub fn zcard(words: &mut Vec<Word>) -> Result<Command, CmdFault>
+    ensures { Reads Name.Zcard words.old.items result }
 {
     plain(PlainCommand::Zcard(one(Name::Zcard, words)?))
 }
 
 /// `ZSCORE key member`
-pub fn zscore(words: Vec<Word>) -> Result<Command, CmdFault>
-    ensures { Reads Name.Zscore words.items result }
+pub fn zscore(words: &mut Vec<Word>) -> Result<Command, CmdFault>
+    ensures { Reads Name.Zscore words.old.items result }
 {
     let (a, b) = two(Name::Zscore, words)?;
     plain(PlainCommand::Zscore(a, b))
 }
 
 /// `ZRANGE key first last [WITHSCORES]`
-pub fn zrange(words: Vec<Word>) -> Result<Command, CmdFault>
-    ensures { Reads Name.Zrange words.items result }
+pub fn zrange(words: &mut Vec<Word>) -> Result<Command, CmdFault>
+    ensures { Reads Name.Zrange words.old.items result }
 {
     let (key, first, last, options) = ranks(Name::Zrange, words)?;
     let scores = with_scores(options.list())?;
@@ -58,8 +58,8 @@ pub fn zrange(words: Vec<Word>) -> Result<Command, CmdFault>
 }
 
 /// `ZRANGEBYSCORE key min max [WITHSCORES] [LIMIT skip count]`
-pub fn zrangebyscore(words: Vec<Word>) -> Result<Command, CmdFault>
-    ensures { Reads Name.Zrangebyscore words.items result }
+pub fn zrangebyscore(words: &mut Vec<Word>) -> Result<Command, CmdFault>
+    ensures { Reads Name.Zrangebyscore words.old.items result }
 {
     let fits = is_range_count(words.len());
     let (key, low, high, options) = three_and(Name::Zrangebyscore, fits, words)?;
@@ -70,16 +70,16 @@ pub fn zrangebyscore(words: Vec<Word>) -> Result<Command, CmdFault>
 }
 
 /// `ZREMRANGEBYRANK key first last`
-pub fn zremrangebyrank(words: Vec<Word>) -> Result<Command, CmdFault>
-    ensures { Reads Name.Zremrangebyrank words.items result }
+pub fn zremrangebyrank(words: &mut Vec<Word>) -> Result<Command, CmdFault>
+    ensures { Reads Name.Zremrangebyrank words.old.items result }
 {
     let (key, first, last) = key_range(Name::Zremrangebyrank, words)?;
     plain(PlainCommand::Zremrangebyrank(key, first, last))
 }
 
 /// `ZREMRANGEBYSCORE key min max`
-pub fn zremrangebyscore(words: Vec<Word>) -> Result<Command, CmdFault>
-    ensures { Reads Name.Zremrangebyscore words.items result }
+pub fn zremrangebyscore(words: &mut Vec<Word>) -> Result<Command, CmdFault>
+    ensures { Reads Name.Zremrangebyscore words.old.items result }
 {
     let (key, low, high) = three(Name::Zremrangebyscore, words)?;
     let low = read_bound(low.bytes())?;

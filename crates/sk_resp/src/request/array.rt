@@ -241,7 +241,6 @@ fn bulk_front(alloc: Global, most: usize, input: &[u8]) -> Result<Option<(usize,
     if rest[n + 1] != b'\n' {
         return Ok(None);
     }
-    let mut bytes = Vec::new(alloc);
-    bytes.extend_from_slice(&rest[..n])?;
+    let bytes = Vec::from_slice(alloc, &rest[..n])?;
     Ok(Some((at + n + 2, Word::new(bytes))))
 }
