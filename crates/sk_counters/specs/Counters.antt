@@ -1,5 +1,5 @@
 -- The counters under `stat:`: jobs that ran, and runs that failed, in all and of each day.
-use Rattle.std.specs.Prelude.{ℕ, suc, ◌-◌, ◌++◌, List, Option, min, codes, unwrap_or}
+use Rattle.std.specs.Prelude.{ℕ, suc, ◌++◌, List, Option, min, codes, unwrap_or}
 use Rattle.std.specs.Map.{lookup}
 use Rattle.std.specs.BTreeMap.{is_at, insert_entry}
 use Rattle.std.specs.Cmp.Lexicographic.{slice_cmp}

@@ -14,6 +14,9 @@ use std::alloc::Global;
 // Milliseconds of a day.
 const DAY_MILLIS: u64 = 86_400_000;
 
+// How many bytes stand behind the name: a colon, and the date.
+const BEHIND: usize = 11;
+
 // The days from 1970-01-01 to the day of a moment.
 fn day_of(moment: u64) -> u64
     ensures { result ≡ moment / day_millis }
@@ -38,7 +41,8 @@ pub fn of_day(alloc: Global, name: &[u8], moment: u64) -> Result<Word, Memory>
     ensures { IfOk result (λ word. word ≡ of_day name.now moment) }
 {
     let date = DateTimePrinter::new().date_text(date_of(day_of(moment)));
-    let mut bytes = Vec::from_slice(alloc, name)?;
+    let mut bytes = Vec::with_capacity(alloc, name.len().saturating_add(BEHIND))?;
+    bytes.extend_from_slice(name)?;
     bytes.push(b':')?;
     bytes.extend_from_slice(date.as_str().as_bytes())?;
     Ok(Word::new(bytes))

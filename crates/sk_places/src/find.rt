@@ -1,8 +1,7 @@
-// Where the row at an end of a place stands and where the first of a text, and whether a push is fresh.
+// Where the row at an end of a place stands and where the first of a text.
 ghost use Rattle.std.specs.Prelude.{◌≡◌, ◌<◌, IfSome, length};
 ghost use Rattle.sk_cmd.specs.declared.argument.Side.TheVariants.{Left};
-ghost use Rattle.sk_payload.specs.Head.{jid_of};
-ghost use Rattle.sk_places.specs.Rows.{is_fresh, row_at_end, row_of, rows_at};
+ghost use Rattle.sk_places.specs.Rows.{row_at_end, row_of, rows_at};
 ghost use Rattle.sk_places.specs.Segments.{IsIndexOf};
 
 use crate::{Place, Rows};
@@ -42,14 +41,4 @@ pub fn find_payload(rows: &Rows, place: &Place, payload: &JobText) -> Option<usi
     let len = rows.len_at(place);
     let at = rows.position_of_payload(place, payload);
     if at < len { Some(at) } else { None }
-}
-
-/// Whether a push of the payload's job is fresh: no row names it, and it isn't held in a worker's hands. True where it names none.
-pub fn is_fresh(rows: &Rows, payload: &JobText, held: bool) -> bool
-    ensures { IfSome (jid_of payload.now) (λ jid. result ≡ is_fresh held rows.now.current jid) }
-{
-    match payload.jid() {
-        Some(jid) => rows.count_of(jid) == 0 && !held,
-        None => true,
-    }
 }

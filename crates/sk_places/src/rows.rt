@@ -1,6 +1,6 @@
 // The rows of all places, as one list in the order of places. Beside them are how many rows there are, how many bytes their texts have, the index of
 // the rows by their jobs, and that of the sets' rows by their texts.
-ghost use Rattle.std.specs.Prelude.{◌≡◌, ◌+◌, ◌^◌, ◌<◌, ◌≤◌, true, None, Some, [], IfOk, IfSome, IsSome, OnErr, OnOk, drop, length, map, option_map, slice_get, take};
+ghost use Rattle.std.specs.Prelude.{◌≡◌, ◌+◌, ◌^◌, ◌<◌, ◌≤◌, ◌&&◌, nat_eq, not, true, None, Some, [], IfOk, IfSome, IsSome, OnErr, OnOk, drop, length, map, option_map, slice_get, take};
 ghost use Rattle.std.specs.List.{count_by, position_or_len, remove};
 ghost use Rattle.std.specs.Option.{is_some};
 ghost use Rattle.sk_undo.specs.Balance.{most};
@@ -11,7 +11,7 @@ ghost use Rattle.sk_places.specs.Ends.{ended_of};
 ghost use Rattle.sk_places.specs.Entries.{as_row, shifted};
 ghost use Rattle.sk_places.specs.RowLists.{is_list, listed, rows_in, start_of};
 ghost use Rattle.sk_places.specs.Order.{bytes_of, is_ordered};
-ghost use Rattle.sk_places.specs.Rows.{is_private, next_ident, pair_of, put_row, rows_at, rows_of};
+ghost use Rattle.sk_places.specs.Rows.{is_fresh as is_fresh_among, is_private, next_ident, pair_of, put_row, rows_at, rows_of};
 ghost use Rattle.sk_places.specs.Scores.{HasRange};
 ghost use Rattle.sk_places.specs.declared.row.Place.TheVariants.{Set};
 ghost use Rattle.sk_zset.specs.Bounds.{is_below};
@@ -95,6 +95,13 @@ fn lowered(size: Size, text: &Word) -> Size
         rows: size.rows - 1,
         bytes: size.bytes - text.bytes().len() as u128,
     }
+}
+
+// Whether a push is fresh of a job that so many rows name, and that is held in a worker's hands or isn't.
+fn is_fresh(count: u32, held: bool) -> bool
+    ensures { result ≡ nat_eq count 0 && not held }
+{
+    count == 0 && !held
 }
 
 impl Rows {
@@ -245,7 +252,8 @@ impl Rows {
         self.lists.texts(alloc, place, start, end)
     }
 
-    /// A row is pushed to an end of its place, and that counts in `jobs`: its job is fresh, or isn't.
+    /// A row is pushed to an end of its place, and that counts in `jobs`: its job is fresh where no row names it, and it isn't held in a worker's
+    /// hands.
     pub fn push(
         &mut self,
         row_key: RowKey,
@@ -253,11 +261,11 @@ impl Rows {
         end: Side,
         jobs: &mut LiveJobs,
         from: Origin,
-        fresh: bool,
+        held: bool,
     ) -> Result<(), Memory>
         requires { IsCountable from jobs.old.current.totals }
         ensures ok { OnOk result (self.new ≡ edited (put_row end (as_row (row_key, payload)) self.old.current) self.old) }
-        ensures jobs { OnOk result (jobs.new ≡ edited (pushed from (λ jid. fresh) payload jobs.old.current) jobs.old) }
+        ensures jobs { OnOk result (jobs.new ≡ edited (pushed from (is_fresh_among held self.old.current) payload jobs.old.current) jobs.old) }
         ensures err { OnErr result (self.new ≡ self.old) }
         ensures jobs_err { OnErr result (jobs.new ≡ jobs.old) }
     {
@@ -268,7 +276,7 @@ impl Rows {
         self.lists.prepare(&row_key.place, 1)?;
         let count = prepare_job(&mut self.index, &payload)?;
         self.text_index.reserve(1)?;
-        jobs.push(&payload, from, fresh)?;
+        jobs.push(&payload, from, is_fresh(count, held))?;
         self.size = raised(self.size, payload.text());
         add_job(&mut self.index, &payload, count);
         self.lists.put(row_key, payload, end);

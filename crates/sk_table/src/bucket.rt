@@ -10,6 +10,9 @@ use std::alloc::Global;
 use std::marker::Model;
 use std::mem;
 
+// For how many entries more a full bucket takes memory.
+const MORE: usize = 2;
+
 /// Entries in a vector. Contracts see the list of them.
 #[derive(Drop)]
 pub struct Bucket<K, V> {
@@ -90,13 +93,13 @@ impl<K: TextKey, V> Bucket<K, V> {
         }
     }
 
-    /// Puts an entry in. Memory is taken for this one alone, since a bucket has few entries, and a table many buckets.
+    /// Puts an entry in. Memory is taken for this one and another, since a bucket has few entries, and a table many buckets.
     pub fn put(&mut self, key: K, hash: u32, value: V) -> Result<(), NoRoom<K, V>>
         ensures ok { OnOk result (self.new ≡ self.old ++ record { key = key; hash = hash; value = value } ∷ []) }
         ensures err { OnErr result (self.new ≡ self.old) }
         ensures back { IfErr result (λ refused. (refused.key ≡ key) × (refused.value ≡ value)) }
     {
-        if self.slots.reserve_exact(1).is_err() {
+        if self.slots.len() == self.slots.capacity() && self.slots.reserve_exact(MORE).is_err() {
             return Err(NoRoom { key, value });
         }
         self.slots.push_reserved(Slot { key, hash, value });
