@@ -41,7 +41,11 @@ abbrev pub all_dropped : ℕ → List Bytes → Keys → Keys
 all_dropped over [] keys = keys
 all_dropped over (name ∷ names) keys = all_dropped over names (dropped over name keys)
 
--- Each deadline has its pair of the index. Of what is over only so much stands as the last purge left.
+-- the most keys that a purge takes, and so many where it leaves some
+abbrev pub most_purged : ℕ
+most_purged = 100
+
+-- Each deadline has its pair of the index. Where nothing was left behind, nothing is over.
 pub record AreKeys (over : ℕ) (behind : Bool) (keys : Keys) (expiries : BTreeSet Expiry) : Type 0 where
   pub indexed : IsIndexed keys expiries
   pub clean : behind ≡ false → purged over keys ≡ keys

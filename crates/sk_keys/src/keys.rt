@@ -9,7 +9,7 @@ ghost use Rattle.sk_value.specs.Keys.{at, purged, without};
 use crate::apply::act;
 use crate::delete;
 use crate::expiries::Expiries;
-use crate::named::{is_past, settle};
+use crate::named::{has_ahead, settle};
 use crate::purges::purge_some;
 use crate::removed::{AllKeys, RemovedKeys, set_aside};
 use sk_cmd::PlainCommand;
@@ -85,7 +85,7 @@ impl Keys {
         ensures { result ≡ is_some (at name.now self.now) }
     {
         self.entries.in_order();
-        self.entries.has(name) && !is_past(&self.entries, self.over, name)
+        has_ahead(&self.entries, self.over, name)
     }
 
     /// Removes a key, and answers whether it was there. A large value is kept aside until [`Keys::take_removed`]. Takes no memory.

@@ -1,5 +1,6 @@
 // Of the keys that an action names those go first that are over: a purge may have left them.
-ghost use Rattle.std.specs.Prelude.{◌≡◌, ◌≤◌, min, true, false};
+ghost use Rattle.std.specs.Prelude.{◌≡◌, ◌≤◌, ◌&&◌, min, not, true, false};
+ghost use Rattle.std.specs.Option.{is_some};
 ghost use Rattle.std.specs.List.Sorted.{IsStrictlySortedBy};
 ghost use Rattle.std.specs.Map.{keys_of};
 ghost use Rattle.sk_resp.specs.WordOrder.{text_cmp};
@@ -31,6 +32,16 @@ pub fn is_past(entries: &Entries, over: u64, name: &Word) -> bool
     match entries.get(name) {
         None => false,
         Some(entry) => is_over(over, entry.deadline),
+    }
+}
+
+/// Whether a key stands under the name that isn't over.
+pub fn has_ahead(entries: &Entries, over: u64, name: &Word) -> bool
+    ensures { result ≡ (is_some (at name.now entries.now) && not (is_past over (at name.now entries.now))) }
+{
+    match entries.get(name) {
+        None => false,
+        Some(entry) => !is_over(over, entry.deadline),
     }
 }
 

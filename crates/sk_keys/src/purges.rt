@@ -1,13 +1,14 @@
 // Keys whose deadline is over go, the soonest deadline first. What stays isn't looked at.
-ghost use Rattle.std.specs.Prelude.{◌≡◌, ◌<◌, true, false};
+ghost use Rattle.std.specs.Prelude.{◌≡◌, ◌+◌, ◌≤◌, true, false};
 ghost use Rattle.std.specs.BTreeSet.{btree_set_len};
 ghost use Rattle.sk_value.specs.Keys.{purged};
 ghost use Rattle.sk_keys.specs.Index.{IsIndexed};
+ghost use Rattle.sk_keys.specs.Past.{most_purged};
 
 use crate::expiries::{Expiries, has_expired};
 use crate::keys::Entries;
 
-// The most keys that go at once: about 0.2 ms, for which the next command waits.
+// The most keys that go at once: some 0.1 ms, for which the next command waits.
 const MOST_PURGED: usize = 100;
 
 // Removes the key of the first deadline, where that is over. Answers whether it was.
@@ -15,7 +16,8 @@ fn purge_first(entries: &mut Entries, expiries: &mut Expiries, over: u64) -> boo
     requires { IsIndexed entries.old expiries.old }
     ensures keys { purged over entries.new ≡ purged over entries.old }
     ensures clean { result ≡ false → purged over entries.new ≡ entries.new }
-    ensures fewer { result ≡ true → btree_set_len expiries.new < btree_set_len expiries.old }
+    ensures one { result ≡ true → btree_set_len expiries.new + 1 ≡ btree_set_len expiries.old }
+    ensures none { result ≡ false → expiries.new ≡ expiries.old }
     ensures indexed { IsIndexed entries.new expiries.new }
 {
     entries.in_order();
@@ -34,9 +36,11 @@ pub fn purge_some(entries: &mut Entries, expiries: &mut Expiries, over: u64) -> 
     requires { IsIndexed entries.old expiries.old }
     ensures keys { purged over entries.new ≡ purged over entries.old }
     ensures clean { result ≡ false → purged over entries.new ≡ entries.new }
+    ensures all { result ≡ true → btree_set_len expiries.new + most_purged ≡ btree_set_len expiries.old }
+    ensures most { btree_set_len expiries.old ≤ btree_set_len expiries.new + most_purged }
     ensures indexed { IsIndexed entries.new expiries.new }
 {
-    for _ in 0..MOST_PURGED {
+    for _gone in 0..MOST_PURGED {
         if !purge_first(entries, expiries, over) {
             return false;
         }
