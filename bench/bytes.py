@@ -9,7 +9,7 @@ import sys
 
 from client import PROGRAM, Pipe, command, job
 
-BAR = 300
+BAR = 260
 
 
 def greatest(jobs):

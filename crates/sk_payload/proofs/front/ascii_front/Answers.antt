@@ -13,8 +13,6 @@ returns c =
     let size : end - 1 ≡ end + 1 - 2 = omega arith in
     let first : take 1 xs ≡ 34 ∷ [] = take_one xs (omega arith) ∙ ap (λ b. b ∷ []) c.if-input-ne34.false in
     let front = run_read xs 1 end [] e.within.0 e.within.1 first (λ k le lt. plain_of_ascii (get_or xs k 0) (e.ascii k le lt)) in (
-      omega (arith, e.within.0),
-      omega (arith, below),
-      string_read xs end (take (end - 1) (drop 1 xs)) below front c.if-input-end-ne34.false ∙ ap (λ n. quoted (take n (drop 1 xs))) size,
+      (omega (arith, e.within.0), omega (arith, below), string_read xs end (take (end - 1) (drop 1 xs)) below front c.if-input-end-ne34.false ∙ ap (λ n. quoted (take n (drop 1 xs))) size),
       subst (λ n. IsPlainAscii (take n (drop 1 xs))) size (ascii_inside xs end e.within.1 e.ascii),
     )
