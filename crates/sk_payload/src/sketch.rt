@@ -1,9 +1,8 @@
 // The head of a text in its usual form, from what stands at its members. Nothing is said where a member is unlike what it usually is: `None` isn't
 // a fault.
-ghost use Rattle.std.specs.Prelude.{◌≡◌, ◌↔◌, IsTrue, Option, IfSome, IfOk, Some, None, option_map, true};
+ghost use Rattle.std.specs.Prelude.{◌≡◌, Option, IfSome, IfOk, Some, None, option_map, true};
 ghost use Rattle.serde_json.specs.Data.{Data, Members, object};
 ghost use Rattle.serde_json.specs.Find.{as_bool};
-ghost use Rattle.sk_base.specs.Name.{IsName};
 ghost use Rattle.sk_payload.specs.Head.{head as head_in, head_of_object};
 ghost use Rattle.sk_payload.specs.Member.{is_name as name_test, required, optional, name_of as name_in, seconds_of as seconds_in, moment_of as moment_in, args_of as args_in, retry_of as retry_in, generation_of as generation_in, first_failed_of as first_failed_in, lock_of as lock_in, until_of as until_in};
 ghost use Rattle.sk_payload.specs.Usual.{AreTexts, IsPlainAscii, ShowsIf, Tells, head_of_sketch};
@@ -13,6 +12,7 @@ ghost use Rattle.sk_payload.specs.declared.head.Until.TheVariants.{Success};
 use crate::Memory;
 use crate::front::Found;
 use crate::head::{Head, Lock, Retry, Until};
+use crate::member::is_named;
 use crate::slots::slots_of;
 use sk_base::limits::{
     LAST_CALENDAR_MOMENT, LAST_GENERATION, LONGEST_ID, LONGEST_NAME, MOST_RETRIES, MOST_SECONDS,
@@ -21,33 +21,7 @@ use sk_resp::Text;
 use std::alloc::Global;
 use std::str;
 
-// The text is a name of at most so many bytes. It is known to be UTF-8, so that only its characters are looked at.
-fn is_shown(text: &str, most: usize) -> bool
-    ensures { IsTrue result ↔ IsName most text.now }
-{
-    let bytes = text.as_bytes();
-    let fits = !bytes.is_empty() && bytes.len() <= most;
-    let visible = bytes.iter().all(|b| *b >= 0x20 && *b != 0x7f);
-    fits && visible
-}
-
-fn is_name_in_utf8(text: &str, most: usize) -> bool
-    ensures { result ≡ name_test most text.now }
-{
-    is_shown(text, most)
-}
-
-// The same of any bytes.
-fn is_named(bytes: &[u8], most: usize) -> bool
-    ensures { result ≡ true → name_test most bytes.now ≡ true }
-{
-    match str::from_utf8(bytes) {
-        Ok(text) => is_name_in_utf8(text, most),
-        Err(_) => false,
-    }
-}
-
-// The same of characters of ASCII that can be shown: only how many they are is looked at.
+// Whether characters of ASCII that can be shown are a name of at most so many bytes: only how many they are is looked at.
 fn is_named_in_ascii(bytes: &[u8], most: usize) -> bool
     ensures { result ≡ true → IsPlainAscii bytes.now → name_test most bytes.now ≡ true }
 {
