@@ -1,7 +1,7 @@
 -- UndoDeques as lists: what an edit of a deque is to its list.
 use Rattle.std.proofs.Common.{◌≡◌, ap₂, Bool, true, false, cond, ℕ, zero, suc, List, [], ◌∷◌, Option, Some, None, length, ◌<◌, refl, sym, arith, ap, slice_get, slice_set, ◌∙◌}
 use Rattle.sk_deques.specs.Deque.{Deque, cut_at, put_at}
-use Rattle.sk_deques.specs.DequeMoves.{changed_at, list_at, with_item, without_item, with_moved, moved, IsMove, lists_of, spaces_of, items_at, put_down, carried, IsCarry}
+use Rattle.sk_deques.specs.DequeMoves.{changed_at, emptied, list_at, with_item, without_item, with_moved, moved, IsMove, lists_of, spaces_of, items_at, put_down, carried, IsCarry}
 use Rattle.sk_deques.specs.DequeEdits.{before}
 use Rattle.sk_deques.specs.UndoDeques.{shown}
 use Rattle.sk_undo.specs.Versions.{edited}
@@ -43,7 +43,13 @@ module _ {T : Type 0} where
         room = omega (arith, same, m.room);
       }
 
-  -- another deque without items in the place of one
+  -- a deque without items in the place of one
+  pub lists_emptied : (xs : List (Deque T)) (n : ℕ) (w : Deque T) → w.items ≡ [] → lists_of (slice_set xs n w) ≡ emptied n (lists_of xs)
+  lists_emptied [] n w i = refl
+  lists_emptied (l ∷ xs) zero w i = ap (λ its. its ∷ lists_of xs) i
+  lists_emptied (l ∷ xs) (suc n) w i = ap (λ ls. l.items ∷ ls) (lists_emptied xs n w i)
+
+  -- the same of one that has none either
   pub lists_same : (xs : List (Deque T)) (n : ℕ) (w : Deque T) → n < length xs → items_at n xs ≡ [] → w.items ≡ [] → lists_of (slice_set xs n w) ≡ lists_of xs
   lists_same [] n w h e i = absurd (omega (arith, h))
   lists_same (l ∷ xs) zero w h e i = ap (λ its. its ∷ lists_of xs) (i ∙ sym e)

@@ -25,6 +25,10 @@ module _ {T : Type 0} where
   abbrev pub without_item : ℕ → ℕ → List (List T) → List (List T)
   without_item n i ls = changed_at n (λ l. remove l i) ls
 
+  -- without any of its items
+  abbrev pub emptied : ℕ → List (List T) → List (List T)
+  emptied n ls = changed_at n (λ l. []) ls
+
   -- There is such an item, and memory for it where it goes.
   pub record IsMove (from i to j : ℕ) (ls : List (List T)) (spaces : List ℕ) : Type 0 where
     pub out : from < length ls

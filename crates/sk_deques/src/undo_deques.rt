@@ -3,7 +3,7 @@
 ghost use Rattle.std.specs.Prelude.{◌≡◌, ◌<◌, ◌≤◌, ◌+◌, ◌++◌, ◌∷◌, [], ℕ, IfOk, IsSome, None, OnErr, OnOk, Some, drop, length, map, slice_get, slice_index_or, take, vec_capacity, vec_len};
 ghost use Rattle.std.specs.List.{position_or_len};
 ghost use Rattle.std.specs.Option.{is_some};
-ghost use Rattle.sk_deques.specs.DequeMoves.{IsMove, list_at, moved, with_item, with_list, without_item};
+ghost use Rattle.sk_deques.specs.DequeMoves.{IsMove, emptied, list_at, moved, with_item, with_list, without_item};
 ghost use Rattle.sk_undo.specs.Versions.{begun, closed, committed, edited, undone};
 
 use crate::deque_edit::{DequeEdit, bound, carry, cut, put, take_all_back};
@@ -11,6 +11,7 @@ use crate::{Deque, Memory};
 use sk_undo::{Predicate, Visit};
 use std::alloc::Global;
 use std::marker::Model;
+use std::mem;
 
 /// Lists, each by its number. Contracts see what stands, what stood at the begin of an open step, for how many items each list has memory, and
 /// how many further edits can't fail.
@@ -213,6 +214,17 @@ impl<K: Drop, T: Drop> UndoDeques<K, T> {
         ensures room { self.new.room ≡ self.old.room }
     {
         cut(&mut self.deques, list, at)
+    }
+
+    /// Takes all items of a list out, and gives them to the caller with the memory that they are kept in. Takes constant time, and no memory.
+    pub fn take_all(&mut self, list: usize) -> Deque<(K, T)>
+        requires list { list < length self.old.lists.current }
+        requires closed { self.old.lists.saved ≡ None }
+        ensures items { result.items ≡ list_at list self.old.lists.current }
+        ensures rest { self.new.lists ≡ edited (emptied list self.old.lists.current) self.old.lists }
+    {
+        let none = Deque::new(*self.deques.allocator());
+        mem::replace(&mut self.deques[list], none)
     }
 
     /// Gives the memory of a list without items back, where no step is open.

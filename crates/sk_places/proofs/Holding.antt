@@ -1,5 +1,5 @@
 -- What an edit of the lists leaves of what holds of them, and of their rows.
-use Rattle.std.proofs.Common.{◌≡◌, ◌+◌, ◌<◌, ◌≤◌, ℕ, zero, suc, Bool, true, false, List, [], ◌∷◌, Some, None, drop, length, map, slice_get, take, refl, sym, arith, ap, ap₂, subst, ◌∙◌}
+use Rattle.std.proofs.Common.{◌≡◌, ◌+◌, ◌<◌, ◌≤◌, ℕ, zero, suc, Bool, true, false, List, [], ◌∷◌, Some, None, drop, filter, length, map, not, slice_get, take, refl, sym, arith, ap, ap₂, subst, ◌∙◌}
 use Rattle.std.specs.Prelude.{IfSome, slice_index_or}
 use Rattle.std.specs.BTreeMap.{is_at}
 use Rattle.std.specs.List.{AllByRecursion, insert, position_or_len, remove}
@@ -8,16 +8,16 @@ use Rattle.std.specs.Map.{lookup, values_of}
 use Rattle.std.specs.Option.{is_some}
 use Rattle.sk_cmd.specs.declared.argument.Side.{Side}
 use Rattle.sk_cmd.specs.declared.argument.Side.TheVariants.{Left, Right}
-use Rattle.sk_deques.specs.DequeMoves.{list_at, with_item, without_item}
+use Rattle.sk_deques.specs.DequeMoves.{emptied, list_at, with_item, without_item}
 use Rattle.sk_deques.proofs.DequeMoving.{length_changed}
 use Rattle.sk_undo.specs.Versions.{Versions, edited}
 use Rattle.sk_places.specs.declared.row_lists.RowLists.{RowLists}
 use Rattle.sk_places.specs.declared.row.Place.{Place}
 use Rattle.sk_places.specs.declared.row.Row.{Row}
 use Rattle.sk_places.specs.RowLists.{AreLists, AreNamed, HasSpace, IsNameless, Item, all_rows, is_list, kept_rows, listed, place_of, rows_in, start_of}
-use Rattle.sk_places.specs.Rows.{place_cmp, put_row, rows_at}
+use Rattle.sk_places.specs.Rows.{is_at as is_at_place, place_cmp, put_row, rows_at}
 use Rattle.sk_places.proofs.Entries.{map_map, part_map, position_map}
-use Rattle.sk_places.proofs.Listed.{list_none, list_put, list_removed, list_rows}
+use Rattle.sk_places.proofs.Listed.{list_emptied, list_none, list_put, list_removed, list_rows}
 use Rattle.sk_places.proofs.SpareDeques.{nameless_stays, spare_edited}
 
 pub place_within : {X : Type 0} (end : Side) (l : List X) → place_of end l ≤ length l
@@ -59,7 +59,7 @@ lists_edited l m ls rows names sets spare is long stays all a = (
 )
 
 module _ (l : RowLists) (place : Place) (n : ℕ) (a : AreLists l) (list : is_list place ≡ true) (found : lookup (is_at (place_cmp place)) l.names.list.current ≡ Some n) where
-  own_rows : rows_at place (rows_in l).current ≡ map (listed place) (list_at n l.deques.lists.current)
+  pub own_rows : rows_at place (rows_in l).current ≡ map (listed place) (list_at n l.deques.lists.current)
   own_rows = list_rows l.names.list.current l.deques.lists.current l.sets.list.current a.named.sorted a.named.apart a.sets.current place n list found (list_there l place n a found)
 
   length_listed : (items : List Item) → length (map (listed place) items) ≡ length items
@@ -93,6 +93,13 @@ module _ (l : RowLists) (place : Place) (n : ℕ) (a : AreLists l) (list : is_li
       lists_edited l m (without_item n at l.deques.lists.current) (remove (rows_in l).current (start_of place (rows_in l).current + at)) names sets spare is (length_changed n (λ its. remove its at) l.deques.lists.current)
       (λ k none. nameless_stays (is_at (place_cmp place)) l.names.list.current n k (λ its. remove its at) l.deques.lists.current found none)
       (list_removed l.names.list.current l.deques.lists.current l.sets.list.current a.named.sorted a.named.apart a.sets.current place n list found (list_there l place n a found) at less) a
+
+  -- all rows of the place go
+  pub emptied_is : (m : RowLists) → m.names.list ≡ l.names.list → m.sets.list ≡ l.sets.list → m.spare.numbers.items ≡ l.spare.numbers.items → m.deques.lists ≡ edited (emptied n l.deques.lists.current) l.deques.lists
+      → AreLists m × (rows_in m ≡ edited (filter (λ row. not (is_at_place place row)) (rows_in l).current) (rows_in l))
+  emptied_is m names sets spare is = lists_edited l m (emptied n l.deques.lists.current) (filter (λ row. not (is_at_place place row)) (rows_in l).current) names sets spare is (length_changed n (λ its. []) l.deques.lists.current)
+      (λ k none. nameless_stays (is_at (place_cmp place)) l.names.list.current n k (λ its. []) l.deques.lists.current found none)
+      (list_emptied l.names.list.current l.deques.lists.current l.sets.list.current a.named.sorted a.named.apart a.sets.current place n list found (list_there l place n a found)) a
 
   -- looks at the place's rows
   pub position_is : (t : Row → Bool) (i j : ℕ) → position_or_len (λ e. t (listed place e)) (drop i (take j (list_at n l.deques.lists.current))) ≡ position_or_len t (drop i (take j (rows_at place (rows_in l).current)))

@@ -5,6 +5,7 @@ pub mod FirstCopies
 pub mod Entries
 pub mod Finds
 pub mod Gone
+pub mod GoneRows
 pub mod Holding
 pub mod Indexed
 pub mod Jobs

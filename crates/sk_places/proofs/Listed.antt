@@ -1,5 +1,5 @@
 -- What an edit of a place's deque, or of the sets, is to all rows.
-use Rattle.std.proofs.Common.{◌≡◌, ◌+◌, ◌<◌, ℕ, zero, suc, Bool, true, false, not, List, [], ◌∷◌, ◌++◌, Some, None, length, map, refl, sym, arith, ap, ap₂, append_assoc, subst, ◌∙◌}
+use Rattle.std.proofs.Common.{◌≡◌, ◌+◌, ◌<◌, ℕ, zero, suc, Bool, true, false, not, List, [], ◌∷◌, ◌++◌, Some, None, filter, length, map, refl, sym, arith, ap, ap₂, append_assoc, subst, ◌∙◌}
 use Rattle.std.proofs.lemmas.List.{map-append}
 use Rattle.std.specs.BTreeMap.{is_at as is_key}
 use Rattle.std.specs.List.{AllByRecursion, insert, remove}
@@ -9,7 +9,7 @@ use Rattle.std.specs.declared.cmp.Ordering.{Ordering}
 use Rattle.std.specs.declared.cmp.Ordering.TheVariants.{Less, Equal, Greater}
 use Rattle.sk_cmd.specs.declared.argument.Side.{Side}
 use Rattle.sk_cmd.specs.declared.argument.Side.TheVariants.{Left, Right}
-use Rattle.sk_deques.specs.DequeMoves.{changed_at, list_at, with_item, without_item}
+use Rattle.sk_deques.specs.DequeMoves.{changed_at, emptied, list_at, with_item, without_item}
 use Rattle.sk_undo.specs.Partitioned.{all_pass}
 use Rattle.sk_undo.specs.Sorted.{is_sorted}
 use Rattle.sk_deques.proofs.DequeNumbers.{at_other, at_same}
@@ -21,7 +21,7 @@ use Rattle.sk_places.specs.RowLists.{AreApart, Item, all_rows, is_list, is_of_se
 use Rattle.sk_places.specs.Rows.{is_at, place_cmp, put_row, rows_at, stands_before}
 use Rattle.sk_places.proofs.Order.{itself}
 use Rattle.sk_places.specs.PlaceOrder.{place_total, same_place}
-use Rattle.sk_places.proofs.Parted.{IsParted, after_past, all_append, all_less, filter_none, filter_past, insert_end, less_is, not_here_before, not_here_behind, parted_left, parted_remove, parted_right, parted_rows, position_past, remove_past, stands_earlier, turned}
+use Rattle.sk_places.proofs.Parted.{IsParted, after_past, all_append, all_less, filter_none, filter_past, insert_end, less_is, not_here_before, not_here_behind, parted_left, parted_others, parted_remove, parted_right, parted_rows, position_past, remove_past, stands_earlier, turned}
 
 -- ## Places in order
 
@@ -184,6 +184,14 @@ module _ (es : List (Place × ℕ)) (ls : List (List Item)) (sets : List Entry) 
         map_remove [] (suc k) = refl
         map_remove (item ∷ items) zero = refl
         map_remove (item ∷ items) (suc k) = ap (λ l. listed place item ∷ l) (map_remove items k)
+
+    -- all rows of the place go
+    pub list_emptied : all_rows es (emptied n ls) sets ≡ filter (λ row. not (is_at place row)) (all_rows es ls sets)
+    list_emptied =
+        let r = parts es place n ls sorted apart found there in
+        ap (λ l. l ++ as_rows sets) (r.edited (λ l. []))
+        ∙ append_assoc r.front r.back (as_rows sets)
+        ∙ sym (parted_others place r.front (map (listed place) (list_at n ls)) (r.back ++ as_rows sets) (all_rows es ls sets) (parts_of_all place n es ls (as_rows sets) r list are_sets))
 
   -- a place without a deque has no rows
   pub list_none : (place : Place) → is_list place ≡ true → lookup (is_key (place_cmp place)) es ≡ None → rows_at place (all_rows es ls sets) ≡ []

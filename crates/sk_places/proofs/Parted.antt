@@ -34,6 +34,10 @@ module _ {X : Type 0} (t : X → Bool) where
   filter_none [] h = refl
   filter_none (x ∷ xs) h = grind (arith, h, filter_none xs)
 
+  pub filter_whole : (xs : List X) → all_pass t xs ≡ true → filter t xs ≡ xs
+  filter_whole [] h = refl
+  filter_whole (x ∷ xs) h = grind (arith, h, filter_whole xs)
+
   pub filter_all : (xs ys : List X) → all_pass t xs ≡ true → filter t (xs ++ ys) ≡ xs ++ filter t ys
   filter_all [] ys h = refl
   filter_all (x ∷ xs) ys h = grind (arith, h, filter_all xs ys)
@@ -160,6 +164,14 @@ module _ (place : Place) (front own back rows : List Row) (p : IsParted place fr
       nothing_more : (xs : List Row) → xs ++ [] ≡ xs
       nothing_more [] = refl
       nothing_more (x ∷ xs) = ap (λ l. x ∷ l) (nothing_more xs)
+
+  -- the rows of other places
+  pub parted_others : filter (λ row. not (is_at place row)) rows ≡ front ++ back
+  parted_others =
+      let t : Row → Bool = λ row. not (is_at place row) in
+      ap (filter t) p.whole
+      ∙ filter_all t front (own ++ back) (all_less t (λ row. is_lt (place_cmp row.place place)) (not_here_before place) front p.before)
+      ∙ ap (λ l. front ++ l) (filter_past t own back (all_less (λ row. not (t row)) (is_at place) (λ row h. ap (λ b. not (not b)) h) own p.here) ∙ filter_whole t back (all_less t (λ row. is_lt (place_cmp place row.place)) (not_here_behind place) back p.behind))
 
   pub parted_start : start_of place rows ≡ length front
   parted_start =

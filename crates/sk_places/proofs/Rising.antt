@@ -84,7 +84,7 @@ rising_among good t up (p ∷ ps) g h =
     all_among good t up p [] g a f h = refl
     all_among good t up p (q ∷ ps) g a f h = let u = up p q in let rest = all_among good t up p ps in grind (arith, g, a, f, h, u, rest)
 
-all_filter : (p t : Row → Bool) (rows : List Row) → all_pass p rows ≡ true → all_pass p (filter t rows) ≡ true
+pub all_filter : (p t : Row → Bool) (rows : List Row) → all_pass p rows ≡ true → all_pass p (filter t rows) ≡ true
 all_filter p t [] h = refl
 all_filter p t (row ∷ rows) h = grind (arith, h, all_filter p t rows)
 

@@ -138,7 +138,7 @@ texts_shifted end row_key rows keys at row i is =
     (texts_put end (respotted row_key row) (remove rows at) (without_key (key_of row) keys) (texts_removed rows keys at row i is))
 
 -- a row of a queue or a private list has no key
-no_key : (place : Place) (score : ℤ) (text : Bytes) → is_list place ≡ true → key_at place score text ≡ None
+pub no_key : (place : Place) (score : ℤ) (text : Bytes) → is_list place ≡ true → key_at place score text ≡ None
 no_key (Queue queue) score text h = refl
 no_key (Private ident) score text h = refl
 no_key (Set set) score text h = absurd (cc h)

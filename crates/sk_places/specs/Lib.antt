@@ -2,6 +2,7 @@ pub mod Beyond
 pub mod Cleared
 pub mod Ends
 pub mod Entries
+pub mod GoneRows
 pub mod Index
 pub mod LiveJobs
 pub mod Names

@@ -4,6 +4,7 @@
 mod copies;
 mod ending;
 mod find;
+mod gone_rows;
 mod index;
 mod job_key;
 mod listed_rows;

@@ -1,5 +1,5 @@
 // The rows of queues and private lists: each place has a deque under its name.
-ghost use Rattle.std.specs.Prelude.{◌≡◌, ◌+◌, ◌<◌, ◌≤◌, true, None, Some, IfOk, OnOk, drop, length, map, slice_get, take};
+ghost use Rattle.std.specs.Prelude.{◌≡◌, ◌+◌, ◌<◌, ◌≤◌, [], true, not, None, Some, IfOk, MatchOption, OnOk, drop, filter, length, map, slice_get, take};
 ghost use Rattle.std.specs.BTreeMap.{is_at as is_key};
 ghost use Rattle.std.specs.List.{position_or_len, remove};
 ghost use Rattle.std.specs.Map.{lookup};
@@ -8,12 +8,13 @@ ghost use Rattle.sk_undo.specs.Versions.{closed, edited};
 ghost use Rattle.sk_places.specs.Entries.{shifted};
 ghost use Rattle.sk_places.specs.RowLists.{AreLists, HasSpace, IsOneLess, IsReady, is_list, listed, place_of, rows_in, start_of};
 ghost use Rattle.sk_places.specs.Order.{is_ordered};
-ghost use Rattle.sk_places.specs.Rows.{place_cmp, put_row, rows_at};
+ghost use Rattle.sk_places.specs.Rows.{is_at, place_cmp, put_row, rows_at};
 ghost use Rattle.sk_places.specs.Segments.{is_text};
 ghost use Rattle.sk_places.specs.RowFilter.{selects};
 
 use crate::Memory;
 use crate::copies::Texts;
+use crate::gone_rows::GoneRows;
 use crate::row::{Place, RowKey};
 use crate::row_filter::{PickedItem, RowFilter};
 use crate::row_lists::{RowLists, number_of};
@@ -180,6 +181,22 @@ impl RowLists {
                 (score, tagged.into_payload())
             }
             None => unreachable!(),
+        }
+    }
+
+    /// Takes all rows of a queue or a private list out, and gives them to the caller; None where the place has no deque. Takes constant time, and no
+    /// memory.
+    pub fn take_all_listed(&mut self, place: &Place) -> Option<GoneRows>
+        requires lists { AreLists self.old }
+        requires list { is_list place.now ≡ true }
+        requires closed { (rows_in self.old).saved ≡ None }
+        ensures lists { AreLists self.new }
+        ensures own { MatchOption result (rows_at place.now (rows_in self.old).current ≡ []) (λ gone. rows_at place.now (rows_in self.old).current ≡ map (listed place.now) gone.items) }
+        ensures rows { rows_in self.new ≡ edited (filter (λ row. not (is_at place.now row)) (rows_in self.old).current) (rows_in self.old) }
+    {
+        match number_of(&self.names, place) {
+            Some(list) => Some(self.deques.take_all(list)),
+            None => None,
         }
     }
 

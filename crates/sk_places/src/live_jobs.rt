@@ -79,6 +79,11 @@ impl LiveJobs {
         self.live.len()
     }
 
+    /// Has the processor fetch what is kept of a job whose id has this hash, and answers 0 where nothing is.
+    pub fn look_at(&self, hash: u32) -> u32 {
+        self.live.look_at(hash)
+    }
+
     /// How many rows were ever pushed, and what became of them.
     pub fn totals(&self) -> Totals
         ensures { result ≡ self.now.current.totals }

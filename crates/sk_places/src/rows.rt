@@ -1,23 +1,25 @@
 // The rows of all places, as one list in the order of places. Beside them are how many rows there are, how many bytes their texts have, the index of
 // the rows by their jobs, and that of the sets' rows by their texts.
-ghost use Rattle.std.specs.Prelude.{◌≡◌, ◌+◌, ◌^◌, ◌<◌, ◌≤◌, ◌&&◌, nat_eq, not, true, None, Some, [], IfOk, IfSome, IsSome, OnErr, OnOk, drop, length, map, option_map, slice_get, take};
+ghost use Rattle.std.specs.Prelude.{◌≡◌, ◌+◌, ◌^◌, ◌<◌, ◌≤◌, ◌&&◌, nat_eq, not, true, None, Some, [], IfOk, IfSome, IsSome, OnErr, OnOk, drop, filter, length, map, option_map, slice_get, take};
 ghost use Rattle.std.specs.List.{count_by, position_or_len, remove};
 ghost use Rattle.std.specs.Option.{is_some};
 ghost use Rattle.sk_undo.specs.Balance.{most};
 ghost use Rattle.sk_undo.specs.Versions.{begun, closed, committed, edited, undone};
-ghost use Rattle.sk_places.specs.LiveJobs.{pushed};
+ghost use Rattle.sk_places.specs.LiveJobs.{all_ended, pushed};
 ghost use Rattle.sk_places.specs.Totals.{IsCountable};
-ghost use Rattle.sk_places.specs.Ends.{ended_of};
+ghost use Rattle.sk_places.specs.Ends.{ended_of, texts_of};
+ghost use Rattle.sk_places.specs.declared.ending.Ending.TheVariants.{Deleted};
 ghost use Rattle.sk_places.specs.Entries.{as_row, shifted};
 ghost use Rattle.sk_places.specs.RowLists.{is_list, listed, rows_in, start_of};
 ghost use Rattle.sk_places.specs.Order.{bytes_of, is_ordered};
-ghost use Rattle.sk_places.specs.Rows.{is_fresh as is_fresh_among, is_private, next_ident, pair_of, put_row, rows_at, rows_of};
+ghost use Rattle.sk_places.specs.Rows.{is_at, is_fresh as is_fresh_among, is_private, next_ident, pair_of, put_row, rows_at, rows_of};
 ghost use Rattle.sk_places.specs.Scores.{HasRange};
 ghost use Rattle.sk_places.specs.declared.row.Place.TheVariants.{Set};
 ghost use Rattle.sk_zset.specs.Bounds.{is_below};
 ghost use Rattle.sk_places.specs.Segments.{is_text};
 ghost use Rattle.sk_places.specs.RowFilter.{selects};
 
+use crate::gone_rows::{GoneRows, leave_all};
 use crate::index::{JobIndex, add_job, drop_job, prepare_job, renew_job, take_job};
 use crate::row::{Place, RowKey};
 use crate::row_filter::RowFilter;
@@ -84,8 +86,8 @@ fn raised(size: Size, text: &Word) -> Size
     }
 }
 
-// The size without a text.
-fn lowered(size: Size, text: &Word) -> Size
+/// The size without a text.
+pub fn lowered(size: Size, text: &Word) -> Size
     requires some { 0 < size.rows }
     requires enough { length text.now ≤ size.bytes }
     ensures rows { result.rows + 1 ≡ size.rows }
@@ -424,6 +426,20 @@ impl Rows {
         take_job(&mut self.index, &row.1);
         take_key(&mut self.text_index, place, row.0, &row.1);
         row
+    }
+
+    /// Takes all rows of a queue or a private list out, and gives them to the caller; None where the place has no deque. In `jobs` the job of each ends
+    /// as deleted, if it is live. Takes no memory.
+    pub fn take_list(&mut self, place: &Place, jobs: &mut LiveJobs) -> Option<GoneRows>
+        requires list { is_list place.now ≡ true }
+        requires closed { self.old.saved ≡ None }
+        requires jobs { jobs.old.saved ≡ None }
+        ensures rest { self.new ≡ edited (filter (λ row. not (is_at place.now row)) self.old.current) self.old }
+        ensures jobs { jobs.new ≡ edited (all_ended Deleted (texts_of (rows_at place.now self.old.current)) jobs.old.current) jobs.old }
+    {
+        let gone = self.lists.take_all_listed(place)?;
+        self.size = leave_all(&gone, self.size, &mut self.index, jobs);
+        Some(gone)
     }
 
     /// Opens a step. Takes no memory.

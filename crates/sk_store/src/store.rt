@@ -77,7 +77,8 @@ impl Store {
         self.places.has_removed() || self.keys.has_removed()
     }
 
-    /// Hands out what the last FLUSHALL took out, or a DEL of a large value, to be freed. None where there is nothing. Constant time, and takes no memory.
+    /// Hands out what a FLUSHALL took out, or a DEL of queues or of a large value, to be freed. None where there is nothing. Constant time, and takes
+    /// no memory.
     pub fn take_removed(&mut self) -> Option<Removed>
         ensures { self.new ≡ self.old }
     {

@@ -142,6 +142,16 @@ impl<K: TextKey + Drop, V: Drop> Bucket<K, V> {
     }
 }
 
+impl<K: Drop, V: Drop> Bucket<K, V> {
+    /// The hash of the first entry; 0 where there is none.
+    pub fn first_hash(&self) -> u32 {
+        match self.slots.first() {
+            Some(slot) => slot.hash,
+            None => 0,
+        }
+    }
+}
+
 // Whether an entry comes to an address among twice `half`.
 fn goes_to<K, V>(slot: &Slot<K, V>, half: u32, address: u32) -> bool
     requires some { 0 < half }

@@ -123,6 +123,12 @@ impl<K: TextKey + Drop> UndoCounts<K> {
         count_of(&self.table, text)
     }
 
+    /// The hash of the first entry where one with this hash would stand; 0 where there is none. Who looks many texts up asks this first of each, so
+    /// that the processor fetches their entries side by side.
+    pub fn look_at(&self, hash: u32) -> u32 {
+        self.table.look_at(hash)
+    }
+
     /// Takes the memory for changes of what the key counts, up to the end of the step, and answers what it counts. The key and the other one,
     /// which is equal to it, may be kept.
     pub fn prepare(&mut self, key: K, again: K) -> Result<u32, Memory>
