@@ -18,26 +18,36 @@ use sk_table::hash_of;
 pub type GoneRows = Deque<(Score, TaggedPayload)>;
 
 // So many rows are looked at before their jobs leave.
-const AHEAD: usize = 16;
+const AHEAD: usize = 32;
 
-// The hashes of the ids of the jobs of the next rows; 0 where there is no row or no job.
-fn hashes_ahead(gone: &GoneRows, first: usize) -> [u32; AHEAD] {
+// The bytes of the id of a row's job; none where there is no such row, or it has no job.
+fn jid_at(gone: &GoneRows, at: usize) -> &[u8] {
+    if at < gone.len() {
+        gone.get(at).1.payload().jid().unwrap_or(&[])
+    } else {
+        &[]
+    }
+}
+
+// The hashes of the ids of the jobs of the next rows.
+fn hashes_from(gone: &GoneRows, first: usize) -> [u32; AHEAD] {
     let mut hashes = [0; AHEAD];
     for (at, hash) in hashes.iter_mut().enumerate() {
-        if first < gone.len() && at < gone.len() - first {
-            if let Some(jid) = gone.get(first + at).1.payload().jid() {
-                *hash = hash_of(jid);
-            }
-        }
+        *hash = hash_of(jid_at(gone, first.saturating_add(at)));
     }
     hashes
 }
 
-// Looks at what is kept of the jobs of the next rows, and answers whether anything is. What is kept of one job stands far from what is kept of the
-// next, so that it would have to be waited for, once for each: here it is fetched side by side.
+// Looks at the next rows, and at what is kept of their jobs, and answers whether it saw anything. All of it lies apart in memory, so that it would
+// have to be waited for, piece after piece: the processor fetches what is asked for in so short a loop side by side.
 fn look_ahead(gone: &GoneRows, first: usize, index: &JobIndex, jobs: &LiveJobs) -> bool {
     let mut seen = 0;
-    for hash in hashes_ahead(gone, first) {
+    for at in 0..AHEAD {
+        if let Some(byte) = jid_at(gone, first.saturating_add(at)).first() {
+            seen |= *byte as u32;
+        }
+    }
+    for hash in hashes_from(gone, first) {
         seen |= index.look_at(hash) | jobs.look_at(hash);
     }
     seen != 0
