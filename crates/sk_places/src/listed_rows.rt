@@ -1,11 +1,12 @@
 // The rows of queues and private lists: each place has a deque under its name.
-ghost use Rattle.std.specs.Prelude.{◌≡◌, ◌+◌, ◌<◌, ◌≤◌, [], true, not, None, Some, IfOk, MatchOption, OnOk, drop, filter, length, map, slice_get, take};
+ghost use Rattle.std.specs.Prelude.{◌≡◌, ◌+◌, ◌<◌, ◌≤◌, true, not, None, Some, IfOk, OnOk, drop, filter, length, map, slice_get, take};
 ghost use Rattle.std.specs.BTreeMap.{is_at as is_key};
 ghost use Rattle.std.specs.List.{position_or_len, remove};
 ghost use Rattle.std.specs.Map.{lookup};
 ghost use Rattle.sk_deques.specs.DequeMoves.{list_at, without_item};
 ghost use Rattle.sk_undo.specs.Versions.{closed, edited};
 ghost use Rattle.sk_places.specs.Entries.{shifted};
+ghost use Rattle.sk_places.specs.GoneRows.{AreOwn};
 ghost use Rattle.sk_places.specs.RowLists.{AreLists, HasSpace, IsOneLess, IsReady, is_list, listed, place_of, rows_in, start_of};
 ghost use Rattle.sk_places.specs.Order.{is_ordered};
 ghost use Rattle.sk_places.specs.Rows.{is_at, place_cmp, put_row, rows_at};
@@ -191,7 +192,7 @@ impl RowLists {
         requires list { is_list place.now ≡ true }
         requires closed { (rows_in self.old).saved ≡ None }
         ensures lists { AreLists self.new }
-        ensures own { MatchOption result (rows_at place.now (rows_in self.old).current ≡ []) (λ gone. rows_at place.now (rows_in self.old).current ≡ map (listed place.now) gone.items) }
+        ensures own { AreOwn place.now (rows_in self.old).current result }
         ensures rows { rows_in self.new ≡ edited (filter (λ row. not (is_at place.now row)) (rows_in self.old).current) (rows_in self.old) }
     {
         match number_of(&self.names, place) {
