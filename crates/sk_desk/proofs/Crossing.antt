@@ -16,7 +16,6 @@ use Rattle.sk_places.specs.contracts.places.Places as Places
 use Rattle.sk_places.specs.contracts.live_jobs.LiveJobs as LiveJobs
 use Rattle.sk_places.specs.contracts.names.Names as Names
 use Rattle.sk_places.specs.contracts.removed.AllRows as AllRows
-use Rattle.sk_places.specs.contracts.removed.RemovedRows as RemovedRows
 use Rattle.sk_places.specs.contracts.rows.Rows as Rows
 use Rattle.sk_seats.specs.contracts.seats.Seats as Seats
 use Rattle.sk_keys.specs.contracts.keys.Keys as Keys
@@ -63,11 +62,8 @@ names_send = search (sendable, crosses, list_send_field) depth 40 fits 5000
 all_rows_send : IsSend AllRows.the_row
 all_rows_send = search (sendable, crosses, rows_send, names_send, jobs_send) depth 60 fits 5000
 
-removed_send : IsSend RemovedRows.the_row
-removed_send = search (sendable, crosses, all_rows_send, text_send_field) depth 100 fits 8000
-
 places_send : IsSend Places.the_field.row
-places_send = search (sendable, crosses, rows_send, names_send, jobs_send, removed_send) depth 60 fits 5000
+places_send = search (sendable, crosses, rows_send, names_send, jobs_send, all_rows_send, text_send_field) depth 100 fits 8000
 
 seats_send : IsSend Seats.the_field.row
 seats_send = search (sendable, crosses, crosses_maps, text_send_field) depth 100 fits 8000
