@@ -1,3 +1,4 @@
+pub mod Emptied
 pub mod Index
 pub mod Moves
 pub mod Past

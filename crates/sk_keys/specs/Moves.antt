@@ -1,5 +1,5 @@
 -- The two halves of LMOVE between two keys.
-use Rattle.std.specs.Prelude.{List, [], Option, Some, None, option_map}
+use Rattle.std.specs.Prelude.{◌≡◌, List, [], Option, Some, None, MatchOption, option_map}
 use Rattle.std.specs.Option.{unwrap_or}
 use Rattle.sk_resp.specs.Spelling.{Bytes}
 use Rattle.sk_cmd.specs.declared.argument.Side.{Side}
@@ -18,6 +18,10 @@ push_at name side text keys = put name (record { value = value.List (push_one si
 -- the text at that end, and the keys without it
 abbrev pub take_at : Bytes → Side → Keys → Option (Bytes × Keys)
 take_at name side keys = option_map (λ taken. (taken.0, put_list name taken.1 (deadline_at (at name keys)) keys)) (take_one side (list_under name keys))
+
+-- The text that was found there is this one, and these keys are left; or there was none.
+abbrev pub IsTaken : Option (Bytes × Keys) → Option Bytes → Keys → Type 0
+IsTaken found text after = MatchOption text (found ≡ None) (λ text. found ≡ Some (text, after))
 
 -- the list when what was taken from it has come back at that end
 abbrev pub turned : Side → List Bytes → Option (Bytes × List Bytes) → List Bytes

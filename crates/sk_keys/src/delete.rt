@@ -6,61 +6,65 @@ ghost use Rattle.sk_value.specs.Apply.{changed, give_at, holds_string};
 ghost use Rattle.sk_value.specs.Keys.{at, how_many, without, without_all};
 ghost use Rattle.sk_keys.specs.Index.{IsIndexed};
 
-use crate::expiries::{Expiries, drop_expiry};
-use crate::keys::Entries;
+use crate::expiries::drop_expiry;
+use crate::key_table::{Entries, KeyTable};
+use crate::removed::set_aside;
 use sk_resp::{Reply, Word, Words};
 use sk_value::{Value, counted};
 
 /// Takes a key with its deadline out, and gives its value to the caller.
 #[tactic(auto, using(crate::proofs::Puts::without_absent, crate::proofs::Puts::count_without))]
-pub fn take(entries: &mut Entries, expiries: &mut Expiries, name: &Word) -> Option<Value>
-    requires { IsIndexed entries.old expiries.old }
-    ensures was { is_some result ≡ is_some (at name.now entries.old) }
-    ensures rest { entries.new ≡ without name.now entries.old }
-    ensures count { length entries.new + (if is_some result then 1 else 0) ≡ length entries.old }
-    ensures indexed { IsIndexed entries.new expiries.new }
+pub fn take(table: &mut KeyTable, name: &Word) -> Option<Value>
+    requires { IsIndexed table.old.entries table.old.expiries }
+    ensures was { is_some result ≡ is_some (at name.now table.old.entries) }
+    ensures rest { table.new.entries ≡ without name.now table.old.entries }
+    ensures count { length table.new.entries + (if is_some result then 1 else 0) ≡ length table.old.entries }
+    ensures indexed { IsIndexed table.new.entries table.new.expiries }
 {
-    entries.in_order();
-    let Some((name, entry)) = entries.remove(name) else {
+    table.entries.in_order();
+    let Some((name, entry)) = table.entries.remove(name) else {
         return None;
     };
-    drop_expiry(expiries, name, entry.deadline);
+    drop_expiry(&mut table.expiries, name, entry.deadline);
     Some(entry.value)
 }
 
 /// Removes a key with its deadline, and answers whether it was there.
-pub fn remove(entries: &mut Entries, expiries: &mut Expiries, name: &Word) -> bool
-    requires { IsIndexed entries.old expiries.old }
-    ensures was { result ≡ is_some (at name.now entries.old) }
-    ensures rest { entries.new ≡ without name.now entries.old }
-    ensures count { length entries.new + (if result then 1 else 0) ≡ length entries.old }
-    ensures indexed { IsIndexed entries.new expiries.new }
+pub fn remove(table: &mut KeyTable, name: &Word) -> bool
+    requires { IsIndexed table.old.entries table.old.expiries }
+    ensures was { result ≡ is_some (at name.now table.old.entries) }
+    ensures rest { table.new.entries ≡ without name.now table.old.entries }
+    ensures count { length table.new.entries + (if result then 1 else 0) ≡ length table.old.entries }
+    ensures indexed { IsIndexed table.new.entries table.new.expiries }
 {
-    take(entries, expiries, name).is_some()
+    let value = take(table, name);
+    let was = value.is_some();
+    set_aside(&mut table.aside, value);
+    was
 }
 
 /// Removes all keys.
-pub fn clear(entries: &mut Entries, expiries: &mut Expiries)
-    ensures keys { entries.new ≡ [] }
-    ensures indexed { IsIndexed entries.new expiries.new }
+pub fn clear(table: &mut KeyTable)
+    ensures keys { table.new.entries ≡ [] }
+    ensures indexed { IsIndexed table.new.entries table.new.expiries }
 {
-    entries.clear();
-    expiries.clear();
+    table.entries.clear();
+    table.expiries.clear();
 }
 
 /// Removes each key in turn, and answers how many were there.
 #[tactic(auto, using(crate::proofs::Puts::without_absent, crate::proofs::Puts::count_without))]
-pub fn delete(entries: &mut Entries, expiries: &mut Expiries, names: &Words) -> Reply
-    requires { IsIndexed entries.old expiries.old }
-    ensures answer { result ≡ counted (length entries.old - length (without_all names.now entries.old)) }
-    ensures keys { entries.new ≡ without_all names.now entries.old }
-    ensures indexed { IsIndexed entries.new expiries.new }
+pub fn delete(table: &mut KeyTable, names: &Words) -> Reply
+    requires { IsIndexed table.old.entries table.old.expiries }
+    ensures answer { result ≡ counted (length table.old.entries - length (without_all names.now table.old.entries)) }
+    ensures keys { table.new.entries ≡ without_all names.now table.old.entries }
+    ensures indexed { IsIndexed table.new.entries table.new.expiries }
 {
     let list = names.list();
     let _len = list.len(); // for what it says of their number
     let mut count = 0;
     for name in list {
-        if remove(entries, expiries, name) {
+        if remove(table, name) {
             count += 1;
         }
     }
@@ -79,16 +83,16 @@ fn holds_string(entries: &Entries, name: &Word, text: &Word) -> bool
 
 /// Removes a key that holds exactly this string, and answers whether it did. Any other stays. Takes no memory.
 #[tactic(auto, unfolding(sk_value::specs::Apply::give_at))]
-pub fn give(entries: &mut Entries, expiries: &mut Expiries, name: &Word, text: &Word) -> Reply
-    requires { IsIndexed entries.old expiries.old }
-    ensures answer { Ok result ≡ (give_at text.now (at name.now entries.old)).answer }
-    ensures keys { entries.new ≡ changed name.now (give_at text.now (at name.now entries.old)).change entries.old }
-    ensures indexed { IsIndexed entries.new expiries.new }
+pub fn give(table: &mut KeyTable, name: &Word, text: &Word) -> Reply
+    requires { IsIndexed table.old.entries table.old.expiries }
+    ensures answer { Ok result ≡ (give_at text.now (at name.now table.old.entries)).answer }
+    ensures keys { table.new.entries ≡ changed name.now (give_at text.now (at name.now table.old.entries)).change table.old.entries }
+    ensures indexed { IsIndexed table.new.entries table.new.expiries }
 {
-    if !holds_string(entries, name, text) {
+    if !holds_string(&table.entries, name, text) {
         return Reply::Int(0);
     }
-    remove(entries, expiries, name);
+    remove(table, name);
     Reply::Int(1)
 }
 

@@ -6,8 +6,8 @@ ghost use Rattle.sk_value.specs.Keys.{at};
 ghost use Rattle.sk_keys.specs.Index.{IsIndexed};
 
 use crate::delete::remove;
-use crate::expiries::{Expiries, set_expiry};
-use crate::keys::Entries;
+use crate::expiries::set_expiry;
+use crate::key_table::KeyTable;
 use sk_base::limits::LAST_CALENDAR_MOMENT;
 use sk_cmd::Expire;
 use sk_resp::{Reply, Word};
@@ -53,29 +53,23 @@ pub fn deadline_of(now: u64, expire: Expire) -> Result<Option<u64>, KeysFault>
 
 /// Sets the deadline of the key. With 0 or less it goes.
 #[tactic(auto, using(crate::proofs::Puts::put_present, crate::proofs::Puts::without_absent, std::proofs::lemmas::Map::Steps::set_value_same), unfolding(sk_value::specs::Apply::expires_at))]
-pub fn expire(
-    entries: &mut Entries,
-    expiries: &mut Expiries,
-    now: u64,
-    name: Word,
-    millis: i64,
-) -> Result<Reply, KeysFault>
-    requires { IsIndexed entries.old expiries.old }
-    ensures answer { AnswersWith (expires_at now millis (at name entries.old)).answer result }
-    ensures ok { OnOk result (entries.new ≡ changed name (expires_at now millis (at name entries.old)).change entries.old) }
-    ensures err { OnErr result (entries.new ≡ entries.old) }
-    ensures indexed { IsIndexed entries.new expiries.new }
+pub fn expire(table: &mut KeyTable, now: u64, name: Word, millis: i64) -> Result<Reply, KeysFault>
+    requires { IsIndexed table.old.entries table.old.expiries }
+    ensures answer { AnswersWith (expires_at now millis (at name table.old.entries)).answer result }
+    ensures ok { OnOk result (table.new.entries ≡ changed name (expires_at now millis (at name table.old.entries)).change table.old.entries) }
+    ensures err { OnErr result (table.new.entries ≡ table.old.entries) }
+    ensures indexed { IsIndexed table.new.entries table.new.expiries }
 {
     if millis < 1 {
-        return Ok(Reply::Int(i64::from(remove(entries, expiries, &name))));
+        return Ok(Reply::Int(i64::from(remove(table, &name))));
     }
     let Some(deadline) = after(now, millis as u64) else {
         return Err(KeysFault::BadExpire);
     };
-    let Some(there) = entries.get_mut(&name) else {
+    let Some(there) = table.entries.get_mut(&name) else {
         return Ok(Reply::Int(0));
     };
-    set_expiry(expiries, name, there.deadline, Some(deadline))?;
+    set_expiry(&mut table.expiries, name, there.deadline, Some(deadline))?;
     there.deadline = Some(deadline);
     Ok(Reply::Int(1))
 }

@@ -8,36 +8,29 @@ ghost use Rattle.sk_value.specs.Keys.{at, purged, without};
 
 use crate::apply::act;
 use crate::delete;
-use crate::expiries::Expiries;
+use crate::key_table::KeyTable;
 use crate::named::{has_ahead, settle};
 use crate::purges::purge_some;
-use crate::removed::{AllKeys, RemovedKeys, set_aside};
+use crate::removed::{AllKeys, RemovedKeys};
 use sk_cmd::PlainCommand;
 use sk_resp::{Reply, Word};
 use sk_table::TextTable;
-use sk_value::{Action, Entry, KeysFault, Value, action_of};
+use sk_value::{Action, KeysFault, action_of};
 use std::alloc::Global;
 use std::collections::BTreeSet;
 use std::marker::Model;
 use std::mem;
 
-/// What stands under each name.
-pub type Entries = TextTable<Word, Entry>;
-
 /// The plain keys, each with a value and perhaps a deadline. Contracts see the list of them, in the order of the names' bytes.
 #[derive(Drop)]
 pub struct Keys {
-    alloc: Global,
-    entries: Entries,
-    expiries: Expiries,
+    table: KeyTable,
     // The greatest moment that a purge was handed. What is over then isn't there any more, though it may still stand.
     over: u64,
     // Whether some of that may still stand.
     behind: bool,
     // What was removed at once and isn't freed yet. No contract speaks of it.
     removed: Option<AllKeys>,
-    // The last large value that `remove` took out, likewise.
-    deleted: Option<Value>,
 }
 
 impl Model for Keys {
@@ -48,11 +41,11 @@ impl Model for Keys {
 
     ghost use Rattle.sk_value.specs.Keys.{purged};
 
-    ghost view = { λ keys. purged keys.over keys.entries };
+    ghost view = { λ keys. purged keys.over keys.table.entries };
 
     ghost use Rattle.sk_keys.specs.Past.{AreKeys};
 
-    ghost invariant = { λ keys. AreKeys keys.over keys.behind keys.entries keys.expiries };
+    ghost invariant = { λ keys. AreKeys keys.over keys.behind keys.table.entries keys.table.expiries };
 }
 
 impl Keys {
@@ -61,13 +54,10 @@ impl Keys {
         ensures { result ≡ [] }
     {
         Keys {
-            alloc,
-            entries: TextTable::new(alloc),
-            expiries: BTreeSet::new(alloc),
+            table: KeyTable::new(alloc),
             over: 0,
             behind: false,
             removed: None,
-            deleted: None,
         }
     }
 
@@ -77,15 +67,15 @@ impl Keys {
         ensures { self.new ≡ purged now self.old }
     {
         self.over = self.over.max(now);
-        self.behind = purge_some(&mut self.entries, &mut self.expiries, self.over);
+        self.behind = purge_some(&mut self.table, self.over);
     }
 
     /// Whether a key stands under the name.
     pub fn has(&self, name: &Word) -> bool
         ensures { result ≡ is_some (at name.now self.now) }
     {
-        self.entries.in_order();
-        has_ahead(&self.entries, self.over, name)
+        self.table.entries.in_order();
+        has_ahead(&self.table.entries, self.over, name)
     }
 
     /// Removes a key, and answers whether it was there. A large value is kept aside until [`Keys::take_removed`]. Takes no memory.
@@ -94,9 +84,8 @@ impl Keys {
         ensures rest { self.new ≡ without name.now self.old }
     {
         let there = self.has(name);
-        self.entries.in_order();
-        let value = delete::take(&mut self.entries, &mut self.expiries, name);
-        set_aside(&mut self.deleted, value);
+        self.table.entries.in_order();
+        delete::remove(&mut self.table, name);
         there
     }
 
@@ -105,15 +94,15 @@ impl Keys {
         ensures { self.new ≡ [] }
     {
         self.removed = Some(AllKeys {
-            entries: mem::replace(&mut self.entries, TextTable::new(self.alloc)),
-            expiries: mem::replace(&mut self.expiries, BTreeSet::new(self.alloc)),
+            entries: mem::replace(&mut self.table.entries, TextTable::new(self.table.alloc)),
+            expiries: mem::replace(&mut self.table.expiries, BTreeSet::new(self.table.alloc)),
         });
         self.behind = false;
     }
 
-    /// Whether something that was removed isn't freed yet: all keys by `clear`, or a large value by `remove`.
+    /// Whether something that was removed isn't freed yet: all keys, or large values.
     pub fn has_removed(&self) -> bool {
-        self.removed.is_some() || self.deleted.is_some()
+        self.removed.is_some() || !self.table.aside.is_empty()
     }
 
     /// Hands that out, to be freed. Takes no memory.
@@ -125,7 +114,7 @@ impl Keys {
         }
         Some(RemovedKeys {
             all: self.removed.take(),
-            value: self.deleted.take(),
+            values: mem::replace(&mut self.table.aside, Vec::new(self.table.alloc)),
         })
     }
 
@@ -140,22 +129,9 @@ impl Keys {
         ensures ok { OnOk result (self.new ≡ (applied now action self.old).keys) }
         ensures err { OnErr result (self.new ≡ self.old) }
     {
-        self.behind = settle(
-            &mut self.entries,
-            &mut self.expiries,
-            self.over,
-            self.behind,
-            now,
-            &action,
-        );
+        self.behind = settle(&mut self.table, self.over, self.behind, now, &action);
         self.over = self.over.min(now);
-        act(
-            self.alloc,
-            &mut self.entries,
-            &mut self.expiries,
-            now,
-            action,
-        )
+        act(&mut self.table, now, action)
     }
 
     /// The same as `act` with what the command does.

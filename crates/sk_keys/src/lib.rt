@@ -4,8 +4,10 @@
 mod apply;
 mod delete;
 mod edit;
+mod emptied;
 mod expire;
 mod expiries;
+mod key_table;
 mod keys;
 mod look;
 mod move_list;

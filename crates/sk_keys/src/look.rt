@@ -3,7 +3,7 @@ ghost use Rattle.sk_value.specs.Answer.{AnswersWith};
 ghost use Rattle.sk_value.specs.Keys.{at};
 ghost use Rattle.sk_value.specs.Values.{look_at};
 
-use crate::keys::Entries;
+use crate::key_table::Entries;
 use sk_resp::{Reply, Word};
 use sk_value::{KeysFault, ReadOp};
 use std::alloc::Global;

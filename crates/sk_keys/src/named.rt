@@ -9,8 +9,7 @@ ghost use Rattle.sk_keys.specs.Index.{IsIndexed};
 ghost use Rattle.sk_keys.specs.Past.{AreAhead, all_dropped, dropped, is_past, named};
 
 use crate::delete::remove;
-use crate::expiries::Expiries;
-use crate::keys::Entries;
+use crate::key_table::{Entries, KeyTable};
 use crate::purges::purge_all;
 use sk_resp::{Word, Words};
 use sk_value::Action;
@@ -46,44 +45,44 @@ pub fn has_ahead(entries: &Entries, over: u64, name: &Word) -> bool
 }
 
 // The key goes, if it is over.
-fn drop_past(entries: &mut Entries, expiries: &mut Expiries, over: u64, name: &Word)
-    requires { IsIndexed entries.old expiries.old }
-    ensures keys { entries.new ≡ dropped over name.now entries.old }
-    ensures indexed { IsIndexed entries.new expiries.new }
+fn drop_past(table: &mut KeyTable, over: u64, name: &Word)
+    requires { IsIndexed table.old.entries table.old.expiries }
+    ensures keys { table.new.entries ≡ dropped over name.now table.old.entries }
+    ensures indexed { IsIndexed table.new.entries table.new.expiries }
 {
-    if is_past(entries, over, name) {
-        remove(entries, expiries, name);
+    if is_past(&table.entries, over, name) {
+        remove(table, name);
     }
 }
 
 // Each of the keys goes that is over.
-fn drop_each(entries: &mut Entries, expiries: &mut Expiries, over: u64, names: &Words)
-    requires { IsIndexed entries.old expiries.old }
-    ensures keys { entries.new ≡ all_dropped over names.now entries.old }
-    ensures indexed { IsIndexed entries.new expiries.new }
+fn drop_each(table: &mut KeyTable, over: u64, names: &Words)
+    requires { IsIndexed table.old.entries table.old.expiries }
+    ensures keys { table.new.entries ≡ all_dropped over names.now table.old.entries }
+    ensures indexed { IsIndexed table.new.entries table.new.expiries }
 {
     let list = names.list();
     for name in list {
-        drop_past(entries, expiries, over, name);
+        drop_past(table, over, name);
     }
 }
 
 // Each of the keys goes that the action names and that is over.
-fn drop_named(entries: &mut Entries, expiries: &mut Expiries, over: u64, action: &Action)
-    requires { IsIndexed entries.old expiries.old }
-    ensures keys { entries.new ≡ all_dropped over (named action.now) entries.old }
-    ensures indexed { IsIndexed entries.new expiries.new }
+fn drop_named(table: &mut KeyTable, over: u64, action: &Action)
+    requires { IsIndexed table.old.entries table.old.expiries }
+    ensures keys { table.new.entries ≡ all_dropped over (named action.now) table.old.entries }
+    ensures indexed { IsIndexed table.new.entries table.new.expiries }
 {
     match action {
         Action::ReadOp(name, _)
         | Action::WriteOp(name, _)
         | Action::Set(name, _, _)
         | Action::Expire(name, _)
-        | Action::Give(name, _) => drop_past(entries, expiries, over, name),
-        Action::Exists(names) | Action::Delete(names) => drop_each(entries, expiries, over, names),
+        | Action::Give(name, _) => drop_past(table, over, name),
+        Action::Exists(names) | Action::Delete(names) => drop_each(table, over, names),
         Action::Move(source, destination, _, _) => {
-            drop_past(entries, expiries, over, source);
-            drop_past(entries, expiries, over, destination);
+            drop_past(table, over, source);
+            drop_past(table, over, destination);
         }
         Action::Ping | Action::Echo(_) | Action::Quit | Action::Flush => {}
     }
@@ -91,33 +90,26 @@ fn drop_named(entries: &mut Entries, expiries: &mut Expiries, over: u64, action:
 
 /// Before an action at the moment `now`: the keys go that it names and that are over, and the answer is whether others that are over may still
 /// stand. A `now` before `over` takes its place from then on, so that each deadline that the action makes lies ahead: then all that are over go.
-pub fn settle(
-    entries: &mut Entries,
-    expiries: &mut Expiries,
-    over: u64,
-    behind: bool,
-    now: u64,
-    action: &Action,
-) -> bool
-    requires indexed { IsIndexed entries.old expiries.old }
-    requires clean { behind ≡ false → purged over entries.old ≡ entries.old }
-    ensures keys { purged (min over now) entries.new ≡ purged over entries.old }
-    ensures ahead { AreAhead (min over now) (named action.now) entries.new }
-    ensures clean { result ≡ false → purged (min over now) entries.new ≡ entries.new }
-    ensures ordered { IsStrictlySortedBy text_cmp (keys_of entries.new) }
-    ensures indexed { IsIndexed entries.new expiries.new }
+pub fn settle(table: &mut KeyTable, over: u64, behind: bool, now: u64, action: &Action) -> bool
+    requires indexed { IsIndexed table.old.entries table.old.expiries }
+    requires clean { behind ≡ false → purged over table.old.entries ≡ table.old.entries }
+    ensures keys { purged (min over now) table.new.entries ≡ purged over table.old.entries }
+    ensures ahead { AreAhead (min over now) (named action.now) table.new.entries }
+    ensures clean { result ≡ false → purged (min over now) table.new.entries ≡ table.new.entries }
+    ensures ordered { IsStrictlySortedBy text_cmp (keys_of table.new.entries) }
+    ensures indexed { IsIndexed table.new.entries table.new.expiries }
 {
-    entries.in_order();
+    table.entries.in_order();
     if !behind {
         return false;
     }
     let early = now < over;
     if early {
-        purge_all(entries, expiries, over);
-        entries.in_order();
+        purge_all(table, over);
+        table.entries.in_order();
         return false;
     }
-    drop_named(entries, expiries, over, action);
-    entries.in_order();
+    drop_named(table, over, action);
+    table.entries.in_order();
     true
 }

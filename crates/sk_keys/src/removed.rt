@@ -1,8 +1,9 @@
 // What was removed, until it is freed.
 
 use crate::expiries::Expiries;
-use crate::keys::Entries;
-use sk_value::Value;
+use crate::key_table::Entries;
+use sk_resp::Word;
+use sk_value::{Entry, Value};
 
 // From so many elements on a value is freed apart from the command that removes it.
 const MANY: u64 = 64;
@@ -14,11 +15,12 @@ pub struct AllKeys {
     pub expiries: Expiries,
 }
 
-/// All keys that were removed at once, or the value of one that was. To drop it gives their memory back, in time for each key or element.
+/// All keys that were removed at once, and the large values of others that were. To drop it gives their memory back, in time for each key or
+/// element.
 #[derive(Drop)]
 pub struct RemovedKeys {
     pub(crate) all: Option<AllKeys>,
-    pub(crate) value: Option<Value>,
+    pub(crate) values: Vec<Value>,
 }
 
 // Whether it takes long to free the value.
@@ -33,11 +35,18 @@ fn is_large(value: &Value) -> bool {
     len >= MANY
 }
 
-/// A value that was removed is kept aside in the place of the one before, if it takes long to free.
-pub fn set_aside(last: &mut Option<Value>, value: Option<Value>) {
+/// A value that was removed is kept aside, if it takes long to free. Wants no memory: where there is none, it is freed at once.
+pub fn set_aside(aside: &mut Vec<Value>, value: Option<Value>) {
     if let Some(value) = value {
         if is_large(&value) {
-            *last = Some(value);
+            let _kept = aside.push(value);
         }
+    }
+}
+
+/// The same of the value of an entry.
+pub fn set_entry_aside(aside: &mut Vec<Value>, gone: Option<(Word, Entry)>) {
+    if let Some((_, entry)) = gone {
+        set_aside(aside, Some(entry.value));
     }
 }

@@ -6,8 +6,7 @@ ghost use Rattle.sk_value.specs.Keys.{at};
 ghost use Rattle.sk_keys.specs.Index.{IsIndexed};
 
 use crate::expire::deadline_of;
-use crate::expiries::Expiries;
-use crate::keys::Entries;
+use crate::key_table::KeyTable;
 use crate::put::{put, put_new};
 use sk_cmd::SetOptions;
 use sk_resp::{Reply, Say, Word};
@@ -16,18 +15,17 @@ use sk_value::{Entry, KeysFault, Value};
 /// Sets the key to the string. What it held before goes with its deadline, whatever its kind.
 #[tactic(auto, unfolding(sk_value::specs::Apply::set_at))]
 pub fn set(
-    entries: &mut Entries,
-    expiries: &mut Expiries,
+    table: &mut KeyTable,
     now: u64,
     name: Word,
     text: Word,
     options: SetOptions,
 ) -> Result<Reply, KeysFault>
-    requires { IsIndexed entries.old expiries.old }
-    ensures answer { AnswersWith (set_at now text options (at name entries.old)).answer result }
-    ensures ok { OnOk result (entries.new ≡ changed name (set_at now text options (at name entries.old)).change entries.old) }
-    ensures err { OnErr result (entries.new ≡ entries.old) }
-    ensures indexed { IsIndexed entries.new expiries.new }
+    requires { IsIndexed table.old.entries table.old.expiries }
+    ensures answer { AnswersWith (set_at now text options (at name table.old.entries)).answer result }
+    ensures ok { OnOk result (table.new.entries ≡ changed name (set_at now text options (at name table.old.entries)).change table.old.entries) }
+    ensures err { OnErr result (table.new.entries ≡ table.old.entries) }
+    ensures indexed { IsIndexed table.new.entries table.new.expiries }
 {
     let deadline = deadline_of(now, options.expire)?;
     let entry = Entry {
@@ -35,11 +33,11 @@ pub fn set(
         deadline,
     };
     if !options.only_new {
-        put(entries, expiries, name, entry)?;
-    } else if entries.has(&name) {
+        put(table, name, entry)?;
+    } else if table.entries.has(&name) {
         return Ok(Reply::Null);
     } else {
-        put_new(entries, expiries, name, entry)?;
+        put_new(table, name, entry)?;
     }
     Ok(Reply::Say(Say::Ok))
 }

@@ -1,6 +1,6 @@
 // Counts under texts, by hash, whose edits in an open step can be taken back. What an entry counted is logged before it is changed, and an entry
 // that counts none any more stays until its step ends, so that taking a step back takes no memory.
-ghost use Rattle.std.specs.Prelude.{◌≡◌, ◌-◌, ◌^◌, ◌<◌, ◌≤◌, [], true, IfOk, IsSome, None, OnOk, length, nat_eq, not, vec_capacity, vec_len};
+ghost use Rattle.std.specs.Prelude.{◌≡◌, ◌^◌, ◌<◌, ◌≤◌, [], true, IfOk, IsSome, None, OnOk, length, nat_eq, not, vec_capacity, vec_len};
 ghost use Rattle.std.specs.List.Sorted.{IsStrictlySortedBy};
 ghost use Rattle.std.specs.Map.{keys_of};
 ghost use Rattle.std.specs.Option.{is_some};
@@ -180,15 +180,15 @@ impl<K: TextKey + Drop> UndoCounts<K> {
         counted
     }
 
-    /// One less counts under the text, if any does; no step is open. Takes no memory.
-    pub fn lower(&mut self, text: &[u8])
-        requires { self.old.list.saved ≡ None }
-        ensures { self.new.list ≡ edited (with_count text.now (count_in text.now self.old.list.current - 1) self.old.list.current) self.old.list }
+    /// So many count under a text under which some do; no step is open. Takes no memory.
+    pub fn replace(&mut self, text: &[u8], count: u32)
+        requires closed { self.old.list.saved ≡ None }
+        requires some { 0 < count_in text.now self.old.list.current }
+        ensures { self.new.list ≡ edited (with_count text.now count self.old.list.current) self.old.list }
     {
         self.table.in_order();
-        let count = count_of(&self.table, text);
-        if count > 1 {
-            self.put(text, count - 1);
+        if count > 0 {
+            self.put(text, count);
         } else {
             self.take(text);
         }

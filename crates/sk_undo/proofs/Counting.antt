@@ -18,7 +18,7 @@ module _ {K : Type 0} {cmp : K → K → Ordering} {order : K → Ordering} (que
   none_past [] h = refl
   none_past (first ∷ keys) h = let e = sum_by-cons (λ key. cond (is_eq (order key)) 1 0) first keys in grind (arith, e, h, none_past keys)
 
-  rank_all : (keys : List K) → all_pass (λ key. is_le (order key)) keys ≡ true → rank order keys ≡ 0
+  pub rank_all : (keys : List K) → all_pass (λ key. is_le (order key)) keys ≡ true → rank order keys ≡ 0
   rank_all [] h = refl
   rank_all (first ∷ keys) h = grind (arith, h)
 

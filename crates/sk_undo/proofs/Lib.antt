@@ -1,5 +1,7 @@
+pub mod Between
 pub mod Copies
 pub mod Counting
+pub mod Cuts
 pub mod Descents
 pub mod Edits
 pub mod Entries

@@ -1,6 +1,6 @@
 // A list as a weight-balanced tree: each node keeps the number of its items, so that an item is found, put in and taken out by its place in
 // logarithmic time. The memory of an item can be made before it is put in, and comes back with it when it is taken out.
-ghost use Rattle.std.specs.Prelude.{◌≡◌, ◌+◌, ◌*◌, ◌^◌, ◌<◌, ◌≤◌, ◌∷◌, ◌++◌, true, length, slice_get, slice_index_or, MatchOption, IfSome, OnOk, drop, map, take, option_map, unwrap_or, [], ◌↔◌, IsTrue};
+ghost use Rattle.std.specs.Prelude.{◌≡◌, ◌+◌, ◌-◌, ◌*◌, ◌^◌, ◌<◌, ◌≤◌, ◌∷◌, ◌++◌, true, length, slice_get, slice_index_or, MatchOption, IfSome, OnOk, drop, map, take, option_map, unwrap_or, [], ◌↔◌, IsTrue};
 ghost use Rattle.std.specs.List.{insert, position_or_len, remove};
 ghost use Rattle.sk_undo.specs.Balance.{DifferBy, most};
 ghost use Rattle.std.specs.Ordering.{is_le};
@@ -460,11 +460,12 @@ fn alone<T: Drop>(root: Option<Box<Node<T>>>) -> (T, Spare<T>)
     }
 }
 
-// A node over two sides after an edit of one item, balanced again where one side is too long.
+// A node over two sides, balanced again where one side is too long: by an edit of one item, or since a third of its weight was put to it.
 #[inline(always)]
 fn join<T: Drop>(left: Sequence<T>, item: T, right: Sequence<T>, spare: Spare<T>) -> Sequence<T>
     requires small { length left + length right < most }
-    requires nearly { DifferBy 3 (length left) (length right) }
+    requires left { 3 * (length left + 1) ≤ 13 * (length right + 1) + 6 }
+    requires right { 3 * (length right + 1) ≤ 13 * (length left + 1) + 6 }
     ensures { result ≡ left ++ item ∷ right }
 {
     if left.len() + 1 > 3 * (right.len() + 1) {
@@ -486,7 +487,7 @@ fn rotate_right<T: Drop>(
 ) -> Sequence<T>
     requires small { length left + length right < most }
     requires more { 3 * (length right + 1) < length left + 1 }
-    requires nearly { length left + 1 ≤ 3 * (length right + 1) + 3 }
+    requires nearly { 3 * (length left + 1) ≤ 13 * (length right + 1) + 6 }
     ensures { result ≡ left ++ item ∷ right }
 {
     match left.open() {
@@ -524,7 +525,7 @@ fn rotate_left<T: Drop>(
 ) -> Sequence<T>
     requires small { length left + length right < most }
     requires more { 3 * (length left + 1) < length right + 1 }
-    requires nearly { length right + 1 ≤ 3 * (length left + 1) + 3 }
+    requires nearly { 3 * (length right + 1) ≤ 13 * (length left + 1) + 6 }
     ensures { result ≡ left ++ item ∷ right }
 {
     match right.open() {
@@ -549,5 +550,84 @@ fn rotate_left<T: Drop>(
                 }
             }
         }
+    }
+}
+
+// A node over any two sides. Logarithmic: it comes in where the longer side is as long as the shorter one.
+fn link<T: Drop>(left: Sequence<T>, item: T, right: Sequence<T>, spare: Spare<T>) -> Sequence<T>
+    requires small { length left + length right < most }
+    ensures { result ≡ left ++ item ∷ right }
+{
+    if left.len() + 1 > 3 * (right.len() + 1) {
+        match left.open() {
+            None => unreachable!(),
+            Some(top) => {
+                let inner = link(top.right, item, right, spare);
+                join(top.left, top.item, inner, top.spare)
+            }
+        }
+    } else if right.len() + 1 > 3 * (left.len() + 1) {
+        match right.open() {
+            None => unreachable!(),
+            Some(top) => {
+                let inner = link(left, item, top.left, spare);
+                join(inner, top.item, top.right, top.spare)
+            }
+        }
+    } else {
+        fork(left, item, right, spare)
+    }
+}
+
+// Two lists, one behind the other. Logarithmic.
+fn glue<T: Drop>(mut left: Sequence<T>, right: Sequence<T>) -> Sequence<T>
+    requires small { length left + length right ≤ most }
+    ensures { result ≡ left ++ right }
+{
+    let len = left.len();
+    if len == 0 {
+        return right;
+    }
+    let (last, spare) = left.remove(len - 1);
+    link(left, last, right, spare)
+}
+
+// The items before a place, and those from it on. Logarithmic.
+#[tactic(auto, using(crate::proofs::Cuts::take_past, crate::proofs::Cuts::drop_past, crate::proofs::Cuts::take_before, crate::proofs::Cuts::drop_before))]
+fn split<T: Drop>(list: Sequence<T>, at: usize) -> (Sequence<T>, Sequence<T>)
+    requires { at ≤ length list }
+    ensures before { result.0 ≡ take at list }
+    ensures behind { result.1 ≡ drop at list }
+{
+    match list.open() {
+        None => (Sequence::new(), Sequence::new()),
+        Some(top) => {
+            let here = top.left.len();
+            if at <= here {
+                let (before, behind) = split(top.left, at);
+                (before, link(behind, top.item, top.right, top.spare))
+            } else {
+                let (before, behind) = split(top.right, at - here - 1);
+                (link(top.left, top.item, before, top.spare), behind)
+            }
+        }
+    }
+}
+
+impl<T: Drop> Sequence<T> {
+    /// Takes the items from the place `first` to the one before `end` out, and gives them to the caller. Logarithmic, and takes no memory.
+    #[tactic(auto, using(crate::proofs::Cuts::take_take, crate::proofs::Cuts::left_short))]
+    pub fn cut(&mut self, first: usize, end: usize) -> Sequence<T>
+        requires order { first ≤ end }
+        requires within { end ≤ length self.old }
+        ensures out { result ≡ drop first (take end self.old) }
+        ensures rest { self.new ≡ take first self.old ++ drop end self.old }
+    {
+        let _len = self.len(); // its contract bounds what is left
+        let all = mem::replace(self, Sequence::new());
+        let (front, behind) = split(all, end);
+        let (before, out) = split(front, first);
+        *self = glue(before, behind);
+        out
     }
 }

@@ -237,6 +237,23 @@ impl<K: Drop, T: Drop> UndoList<K, T> {
         entry
     }
 
+    /// Takes the entries from the place `first` to the one before `end` out, and gives them to the caller. Logarithmic, and takes no memory.
+    pub fn cut(&mut self, first: usize, end: usize) -> UndoList<K, T>
+        requires order { first ≤ end }
+        requires within { end ≤ length self.old.list.current }
+        requires closed { self.old.list.saved ≡ None }
+        ensures out { result.list ≡ closed (drop first (take end self.old.list.current)) }
+        ensures rest { self.new.list ≡ edited (take first self.old.list.current ++ drop end self.old.list.current) self.old.list }
+    {
+        let alloc = *self.log.allocator();
+        UndoList {
+            entries: self.entries.cut(first, end),
+            log: Vec::new(alloc),
+            spares: Vec::new(alloc),
+            in_step: false,
+        }
+    }
+
     /// Takes all entries out. Takes no memory.
     pub fn clear(&mut self)
         requires { self.old.list.saved ≡ None }

@@ -1,5 +1,5 @@
 // A multiset in order, whose edits in an open step can be taken back. Memory is taken by `reserve` alone.
-ghost use Rattle.std.specs.Prelude.{◌≡◌, ◌+◌, ◌<◌, ◌≤◌, [], true, IsSome, None, OnOk, length, slice_index_or};
+ghost use Rattle.std.specs.Prelude.{◌≡◌, ◌+◌, ◌<◌, ◌≤◌, [], true, not, IsSome, None, OnOk, filter, length, slice_index_or};
 ghost use Rattle.std.specs.BTreeMap.{is_at};
 ghost use Rattle.std.specs.List.{count_by, insert, list_any};
 ghost use Rattle.std.specs.Option.{is_some};
@@ -147,6 +147,18 @@ impl<K: Ord + Drop> UndoMultiset<K> {
                 true
             }
             None => false,
+        }
+    }
+
+    /// Takes all keys that match out, where no step is open, and gives them to the caller. Logarithmic, and takes no memory.
+    pub fn take_all<Q: Query<K>>(&mut self, query: &Q) -> UndoMultiset<K>
+        requires { self.old.list.saved ≡ None }
+        ensures { self.new.list ≡ edited (filter (λ key. not (is_at (Q.order query.now) key)) self.old.list.current) self.old.list }
+    {
+        let first = rank(&self.keys, query);
+        let end = rank_past(&self.keys, query);
+        UndoMultiset {
+            keys: self.keys.cut(first, end),
         }
     }
 

@@ -1,4 +1,5 @@
 pub mod Dropping
+pub mod Emptied
 pub mod Ends
 pub mod IntOf
 pub mod Names

@@ -1,15 +1,15 @@
 // Sorted sets (Redis, "Sorted sets"): pairs of a score and a member over `ZSet`, with no open step. A ZADD of several pairs is one step, which
 // is taken back where memory runs out; what takes pairs out takes no memory.
-ghost use Rattle.std.specs.Prelude.{◌≡◌, ◌<◌, ◌^◌, [], None, length, IfOk, OnErr, OnOk};
+ghost use Rattle.std.specs.Prelude.{◌≡◌, ◌<◌, ◌^◌, [], None, true, length, IfOk, OnErr, OnOk};
 ghost use Rattle.sk_undo.specs.Versions.{edited};
 ghost use Rattle.sk_value.specs.Answer.{AnswersWith, UpdatesTo};
-ghost use Rattle.sk_value.specs.Sorted.{all_added, all_without, edit_sorted, look_sorted, without_range};
+ghost use Rattle.sk_value.specs.Sorted.{all_added, all_without, edit_sorted, look_sorted, remaining, without_between, without_range};
 
 use crate::items::{end_index, first_index};
 use crate::pairs::look_sorted;
 use crate::replies::counted;
 use crate::{KeysFault, ReadOp, WriteOp};
-use sk_base::Score;
+use sk_base::{Bound, Score};
 use sk_resp::{Memory, Reply, Word, Words};
 use sk_zset::ZSet;
 use std::alloc::Global;
@@ -102,6 +102,16 @@ impl Sorted {
         }
     }
 
+    /// Whether the edit takes out all pairs, from the first rank to the last or by their scores. Logarithmic. An answer of no says nothing.
+    pub fn is_emptied_by(&self, edit: &WriteOp) -> bool
+        ensures { result ≡ true → edit_sorted edit.now self.now ≡ remaining self.now [] }
+    {
+        match &self.set {
+            Some(set) => is_emptied_by(&**set, edit),
+            None => false,
+        }
+    }
+
     // What an edit of a set without a block answers. The set gets one where it has pairs then.
     fn edit_first(&mut self, edit: WriteOp) -> Result<Reply, KeysFault>
         requires { self.old ≡ [] }
@@ -128,6 +138,35 @@ impl Sorted {
             Some(set) => edit_set(&mut **set, edit),
             None => self.edit_first(edit),
         }
+    }
+}
+
+// Whether all pairs stand from index `first` to index `last`, both included.
+#[tactic(auto, using(crate::proofs::Emptied::all_ranks))]
+fn has_all(set: &ZSet, first: i64, last: i64) -> bool
+    ensures { result ≡ true → without_range first last set.now.current ≡ [] }
+{
+    let count = set.len() as usize;
+    first_index(first, count) == 0 && end_index(last, count) == count
+}
+
+// Whether all pairs have a score within the bounds.
+#[tactic(auto, using(crate::proofs::Emptied::all_scores))]
+fn are_between(set: &ZSet, least: Bound, greatest: Bound) -> bool
+    ensures { result ≡ true → without_between least greatest set.now.current ≡ [] }
+{
+    set.count_between(least, greatest) == set.len()
+}
+
+// Whether the edit takes out all pairs, from the first rank to the last or by their scores.
+#[tactic(auto, unfolding(crate::specs::Sorted::edit_sorted))]
+fn is_emptied_by(set: &ZSet, edit: &WriteOp) -> bool
+    ensures { result ≡ true → edit_sorted edit.now set.now.current ≡ remaining set.now.current [] }
+{
+    match edit {
+        WriteOp::Zremrangebyrank(first, last) => has_all(set, *first, *last),
+        WriteOp::Zremrangebyscore(least, greatest) => are_between(set, *least, *greatest),
+        _ => false,
     }
 }
 

@@ -1,6 +1,6 @@
 // What a key holds: a value of one of five kinds.
-ghost use Rattle.std.specs.Prelude.{◌≡◌, OnErr};
-ghost use Rattle.sk_value.specs.Answer.{AnswersWith, UpdatesTo};
+ghost use Rattle.std.specs.Prelude.{◌≡◌, ◌<◌, ◌^◌, [], IfSome, Ok, OnErr};
+ghost use Rattle.sk_value.specs.Answer.{AnswersWith, UpdatesTo, counted};
 ghost use Rattle.sk_value.specs.Values.{edit_in, is_empty, is_string, kind_of, look_in};
 
 use crate::strings::{edit_string, look_string};
@@ -69,6 +69,17 @@ impl Value {
             Value::Set(members) => members.look(alloc, look),
             Value::Hash(fields) => fields.look(alloc, look),
             Value::Sorted(pairs) => pairs.look(alloc, look),
+        }
+    }
+
+    /// How many pairs an edit takes out of a sorted set, where it takes out all by their ranks or their scores. Logarithmic.
+    pub fn emptied_by(&self, edit: &WriteOp) -> Option<usize>
+        ensures is { IfSome result (λ count. edit_in edit.now self.now ≡ Ok (counted count, Value.Sorted [])) }
+        ensures small { IfSome result (λ count. count < 2 ^ 63) }
+    {
+        match self {
+            Value::Sorted(pairs) if pairs.is_emptied_by(edit) => Some(pairs.len()),
+            _ => None,
         }
     }
 

@@ -185,6 +185,14 @@ impl ZSet {
         count_below(&self.pairs, low) as u64
     }
 
+    /// How many pairs have a score within the bounds. Logarithmic.
+    pub fn count_between(&self, low: Bound, high: Bound) -> u64
+        ensures { result ≡ count_by (is_between low high) self.now.current }
+    {
+        let (first, end) = range_of(&self.pairs, low, high);
+        (end - first) as u64
+    }
+
     /// Copies of the pairs with a score within the bounds: at most `count` of them, behind the first `skip` (`ZRANGEBYSCORE`).
     pub fn by_score(
         &self,

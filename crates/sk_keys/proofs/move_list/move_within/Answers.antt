@@ -7,4 +7,4 @@ use Rattle.sk_keys.proofs.move_list.move_within.Goals as goal
 pub returns-clause-indexed : goal.returns-clause-indexed
 returns-clause-indexed c =
     let new : Entry = record { value = value.List c.turn.new.list; deadline = c.in-Some.there.now.deadline } in
-    index_written c.args.name.now c.in-Some.there.now new c.args.entries.now _ c.args.expiries.now c.requires c.in-Some.ensures.value refl refl
+    index_written c.args.name.now c.in-Some.there.now new c.args.table.now.entries _ c.args.table.now.expiries c.requires c.in-Some.ensures.value refl refl

@@ -5,6 +5,6 @@ use Rattle.sk_keys.proofs.named.drop_each.Given as goal
 
 abbrev pub invariant-loop-name : goal.invariant-loop-name
 invariant-loop-name l = record {
-  rest : all_dropped l.over (drop l.name-index l.list) l.entries ≡ all_dropped l.over l.list l.initial.entries;
-  indexed : IsIndexed l.entries l.expiries;
+  rest : all_dropped l.over (drop l.name-index l.list) l.table.entries ≡ all_dropped l.over l.list l.initial.table.entries;
+  indexed : IsIndexed l.table.entries l.table.expiries;
 }

@@ -18,7 +18,7 @@ act-requires c = c.settle-self-inside.ensures.indexed
 pub invariant_of-self : goal.invariant_of-self
 invariant_of-self c =
     let over : ℕ = c.min-self-inside.result in
-    let mid : Keys = c.settle-self-inside.new.entries in
+    let mid : Keys = c.settle-self-inside.new.table.entries in
     let reached : over ≤ c.args.now = grind (arith, c.min-self-inside.ensures) in
     let ahead = subst (λ n. AreAhead n (named c.args.action) mid) (sym c.min-self-inside.ensures) c.settle-self-inside.ensures.ahead in
     let same = hidden_applied over c.args.now c.args.action mid c.settle-self-inside.ensures.ordered reached ahead in
@@ -27,13 +27,13 @@ invariant_of-self c =
       clean = λ fresh.
           let clean = ap (λ n. purged n mid) c.min-self-inside.ensures ∙ c.settle-self-inside.ensures.clean fresh in
           let done = sym (ap (λ d. d.keys) same) ∙ ap (λ k. (applied c.args.now c.args.action k).keys) clean in
-          clean_after over mid c.act.new.entries (applied c.args.now c.args.action mid).keys c.act.result done clean c.act.ensures.ok c.act.ensures.err;
+          clean_after over mid c.act.new.table.entries (applied c.args.now c.args.action mid).keys c.act.result done clean c.act.ensures.ok c.act.ensures.err;
     }
 
 pub returns-clause-answer : goal.returns-clause-answer
 returns-clause-answer c =
     let over : ℕ = c.min-self-inside.result in
-    let mid : Keys = c.settle-self-inside.new.entries in
+    let mid : Keys = c.settle-self-inside.new.table.entries in
     let reached : over ≤ c.args.now = grind (arith, c.min-self-inside.ensures) in
     let ahead = subst (λ n. AreAhead n (named c.args.action) mid) (sym c.min-self-inside.ensures) c.settle-self-inside.ensures.ahead in
     let same = hidden_applied over c.args.now c.args.action mid c.settle-self-inside.ensures.ordered reached ahead in
@@ -43,7 +43,7 @@ returns-clause-answer c =
 pub returns-clause-ok : goal.returns-clause-ok
 returns-clause-ok c =
     let over : ℕ = c.min-self-inside.result in
-    let mid : Keys = c.settle-self-inside.new.entries in
+    let mid : Keys = c.settle-self-inside.new.table.entries in
     let reached : over ≤ c.args.now = grind (arith, c.min-self-inside.ensures) in
     let ahead = subst (λ n. AreAhead n (named c.args.action) mid) (sym c.min-self-inside.ensures) c.settle-self-inside.ensures.ahead in
     let same = hidden_applied over c.args.now c.args.action mid c.settle-self-inside.ensures.ordered reached ahead in
@@ -52,6 +52,6 @@ returns-clause-ok c =
 
 pub returns-clause-err : goal.returns-clause-err
 returns-clause-err c =
-    let mid : Keys = c.settle-self-inside.new.entries in
+    let mid : Keys = c.settle-self-inside.new.table.entries in
     let view = ap (λ n. purged n mid) c.min-self-inside.ensures ∙ c.settle-self-inside.ensures.keys ∙ c.self.view_is in
     on_err c.act.result (λ is. ap (purged c.min-self-inside.result) is ∙ view) c.act.ensures.err

@@ -11,7 +11,7 @@ invariant_of-self c = record { indexed = c.purge_some-self-inside.ensures.indexe
 
 pub returns : goal.returns
 returns c =
-    let keys = c.self.inside.entries in
+    let keys = c.self.inside.table.entries in
     c.purge_some-self-inside.ensures.keys
     ∙ ap (λ n. purged n keys) c.max-self-inside.ensures
     ∙ sym (purge_twice c.self.inside.over c.args.now keys)
