@@ -13,7 +13,7 @@ use Rattle.sk_batch.specs.contracts.batches.Batches as Batches
 use Rattle.sk_batch.proofs.batch.Batch.TheSendSync.{the_send as batch_send}
 use Rattle.sk_counters.specs.contracts.counters.Counters as Counters
 use Rattle.sk_places.specs.contracts.places.Places as Places
-use Rattle.sk_places.specs.contracts.live_jobs.LiveJobs as LiveJobs
+use Rattle.sk_places.specs.contracts.job_records.JobRecords as JobRecords
 use Rattle.sk_places.specs.contracts.names.Names as Names
 use Rattle.sk_places.specs.contracts.removed.AllRows as AllRows
 use Rattle.sk_places.specs.contracts.rows.Rows as Rows
@@ -50,20 +50,20 @@ batches_send = search (sendable, crosses, crosses_maps, list_send_field, batch_s
 counters_send : IsSend Counters.the_field.row
 counters_send = search (sendable, crosses, crosses_maps, list_send_field) depth 40 fits 5000
 
-jobs_send : IsSend LiveJobs.the_field.row
+jobs_send : IsSend JobRecords.the_field.row
 jobs_send = search (sendable, crosses, text_send_field) depth 100 fits 8000
 
 rows_send : IsSend Rows.the_field.row
-rows_send = search (sendable, crosses, list_send_field, deques_send_field, text_send_field) depth 100 fits 8000
+rows_send = search (sendable, crosses, list_send_field, deques_send_field, text_send_field, jobs_send) depth 100 fits 8000
 
 names_send : IsSend Names.the_field.row
 names_send = search (sendable, crosses, list_send_field) depth 40 fits 5000
 
 all_rows_send : IsSend AllRows.the_row
-all_rows_send = search (sendable, crosses, rows_send, names_send, jobs_send) depth 60 fits 5000
+all_rows_send = search (sendable, crosses, rows_send, names_send) depth 60 fits 5000
 
 places_send : IsSend Places.the_field.row
-places_send = search (sendable, crosses, rows_send, names_send, jobs_send, all_rows_send, text_send_field) depth 100 fits 8000
+places_send = search (sendable, crosses, rows_send, names_send, all_rows_send, list_send_field, text_send_field) depth 100 fits 8000
 
 seats_send : IsSend Seats.the_field.row
 seats_send = search (sendable, crosses, crosses_maps, text_send_field) depth 100 fits 8000

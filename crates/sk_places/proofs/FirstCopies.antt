@@ -7,7 +7,8 @@ use Rattle.sk_resp.specs.Spelling.{Bytes}
 use Rattle.sk_cmd.specs.declared.argument.Side.TheVariants.{Left}
 use Rattle.sk_places.specs.declared.row.Place.{Place}
 use Rattle.sk_places.specs.declared.row.Row.{Row}
-use Rattle.sk_places.specs.RowLists.{Item, listed, start_of}
+use Rattle.sk_places.specs.Entries.{Item}
+use Rattle.sk_places.specs.RowLists.{listed, start_of}
 use Rattle.sk_places.specs.Rows.{is_at, is_same, row_at, row_of, rows_at, without_first}
 use Rattle.sk_places.specs.Segments.{StandsAt}
 

@@ -14,7 +14,8 @@ use Rattle.sk_undo.specs.Versions.{Versions, edited}
 use Rattle.sk_places.specs.declared.row_lists.RowLists.{RowLists}
 use Rattle.sk_places.specs.declared.row.Place.{Place}
 use Rattle.sk_places.specs.declared.row.Row.{Row}
-use Rattle.sk_places.specs.RowLists.{AreLists, AreNamed, HasSpace, IsNameless, Item, all_rows, is_list, kept_rows, listed, place_of, rows_in, start_of}
+use Rattle.sk_places.specs.Entries.{Item}
+use Rattle.sk_places.specs.RowLists.{AreLists, AreNamed, HasSpace, IsNameless, all_rows, is_list, kept_rows, listed, place_of, rows_in, start_of}
 use Rattle.sk_places.specs.Rows.{is_at as is_at_place, place_cmp, put_row, rows_at}
 use Rattle.sk_places.proofs.Entries.{map_map, part_map, position_map}
 use Rattle.sk_places.proofs.Listed.{list_emptied, list_none, list_put, list_removed, list_rows}

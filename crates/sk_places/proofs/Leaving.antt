@@ -1,10 +1,13 @@
 -- A place's rows once one of them is gone.
-use Rattle.std.proofs.Common.{◌≡◌, ◌+◌, ◌-◌, ◌<◌, ◌≤◌, nat_lt, cond, ℕ, Bool, true, false, List, drop, length, take, refl, sym, arith, ap, ◌∙◌}
+use Rattle.std.proofs.Common.{◌≡◌, ◌+◌, ◌-◌, ◌<◌, ◌≤◌, nat_lt, cond, ℕ, Bool, true, false, List, Option, Some, None, drop, length, take, refl, sym, arith, ap, ◌∙◌}
 use Rattle.std.specs.List.{position_or_len, remove}
 use Rattle.std.specs.Ordering.{is_le, is_lt}
 use Rattle.std.proofs.lemmas.Bool.Decides.{nat_tests}
 use Rattle.sk_places.specs.declared.row.Place.{Place}
 use Rattle.sk_places.specs.declared.row.Row.{Row}
+use Rattle.sk_places.specs.Ends.{ended_of, left, left_of}
+use Rattle.sk_places.specs.LiveJobs.{Lived}
+use Rattle.sk_places.specs.declared.ending.Ending.{Ending}
 use Rattle.sk_places.specs.Order.{is_ordered}
 use Rattle.sk_places.specs.RowLists.{start_of}
 use Rattle.sk_places.specs.Rows.{place_cmp, rows_at}
@@ -75,3 +78,8 @@ whole_position t place rows first end at ordered h is =
     range_range rows (start_of place rows) stop first end (omega (arith, n, h, o)) ∙ ap (λ l. drop first (take end l)) (sym s.inside) in
     let there = ap (position_or_len t) inside in
     omega (arith, is, there)
+
+-- the job of a row that is there ends, where it does
+pub left_row : (how : Option Ending) (found : Option Row) (row : Row) (l : Lived) → found ≡ Some row → left_of how found l ≡ left how row.text l
+left_row None found row l is = refl
+left_row (Some how) found row l is = ap (λ o. ended_of how o l) is

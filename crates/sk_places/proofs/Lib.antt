@@ -8,6 +8,8 @@ pub mod Gone
 pub mod GoneRows
 pub mod Holding
 pub mod Indexed
+pub mod JobParts
+pub mod JobSets
 pub mod Jobs
 pub mod Invariant
 pub mod Leaving
@@ -21,10 +23,10 @@ pub mod Order
 pub mod Parted
 pub mod Ranges
 pub mod Ready
+pub mod Recording
 pub mod Rising
 pub mod Segments
 pub mod SetRows
-pub mod SetScores
 pub mod Shifts
 pub mod Sound
 pub mod SpareDeques

@@ -16,12 +16,12 @@ use Rattle.sk_deques.proofs.DequeNumbers.{at_other, at_same}
 use Rattle.sk_places.specs.declared.row.Place.{Place}
 use Rattle.sk_places.specs.declared.row.Place.TheVariants.{Queue, Private, Set}
 use Rattle.sk_places.specs.declared.row.Row.{Row}
-use Rattle.sk_places.specs.Entries.{Entry, as_rows}
-use Rattle.sk_places.specs.RowLists.{AreApart, Item, all_rows, is_list, is_of_set, listed, place_of, rows_in_lists, start_of}
+use Rattle.sk_places.specs.Entries.{Entry, Item, as_rows}
+use Rattle.sk_places.specs.RowLists.{AreApart, all_rows, is_list, is_of_set, listed, place_of, rows_in_lists, start_of}
 use Rattle.sk_places.specs.Rows.{is_at, place_cmp, put_row, rows_at, stands_before}
 use Rattle.sk_places.proofs.Order.{itself}
 use Rattle.sk_places.specs.PlaceOrder.{place_total, same_place}
-use Rattle.sk_places.proofs.Parted.{IsParted, after_past, all_append, all_less, filter_none, filter_past, insert_end, less_is, not_here_before, not_here_behind, parted_left, parted_others, parted_remove, parted_right, parted_rows, position_past, remove_past, stands_earlier, turned}
+use Rattle.sk_places.proofs.Parted.{IsParted, after_past, all_append, all_less, filter_all, filter_none, filter_past, insert_end, less_is, not_here_before, not_here_behind, parted_left, parted_others, parted_remove, parted_right, parted_rows, position_past, remove_past, stands_earlier, turned}
 
 -- ## Places in order
 
@@ -214,6 +214,10 @@ module _ (es : List (Place × ℕ)) (ls : List (List Item)) (lists : all_pass is
 
   pub set_rows : (sets : List Entry) → rows_at place (all_rows es ls sets) ≡ rows_at place (as_rows sets)
   set_rows sets = filter_past (is_at place) (rows_in_lists es ls) (as_rows sets) (all_less (λ row. not (is_at place row)) (λ row. is_lt (place_cmp row.place place)) (not_here_before place) (rows_in_lists es ls) all_before)
+
+  -- the rows of other places
+  pub set_others : (sets : List Entry) → filter (λ row. not (is_at place row)) (all_rows es ls sets) ≡ rows_in_lists es ls ++ filter (λ row. not (is_at place row)) (as_rows sets)
+  set_others sets = filter_all (λ row. not (is_at place row)) (rows_in_lists es ls) (as_rows sets) (all_less (λ row. not (is_at place row)) (λ row. is_lt (place_cmp row.place place)) (not_here_before place) (rows_in_lists es ls) all_before)
 
   pub set_start : (sets : List Entry) → start_of place (all_rows es ls sets) ≡ length (rows_in_lists es ls) + start_of place (as_rows sets)
   set_start sets = position_past (λ row. is_le (place_cmp place row.place)) (rows_in_lists es ls) (as_rows sets) (all_less (λ row. not (is_le (place_cmp place row.place))) (λ row. is_lt (place_cmp row.place place)) (λ row h. ap (λ o. not (is_le o)) (turned place row.place Less (less_is (place_cmp row.place place) h))) (rows_in_lists es ls) all_before)

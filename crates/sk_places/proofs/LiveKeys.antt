@@ -1,5 +1,5 @@
 -- The ids of the jobs that are live, as their counts tell them.
-use Rattle.std.proofs.Common.{◌≡◌, ℕ, Bool, true, false, cond, List, [], ◌∷◌, Option, Some, None, option_map, refl, sym, arith, ap, subst, ◌∙◌}
+use Rattle.std.proofs.Common.{◌≡◌, ℕ, Bool, true, false, cond, List, [], ◌∷◌, Option, Some, None, refl, arith, ap}
 use Rattle.std.specs.BTreeMap.{is_at}
 use Rattle.std.specs.BTreeSet.{insert_key}
 use Rattle.std.specs.List.{AllByRecursion, list_any}
@@ -13,9 +13,8 @@ use Rattle.sk_resp.specs.WordOrder.{text_cmp}
 use Rattle.sk_undo.specs.Partitioned.{all_pass}
 use Rattle.sk_undo.specs.Sorted.{is_sorted}
 use Rattle.sk_undo.specs.Versions.{Versions, map_versions, undone}
-use Rattle.sk_table.specs.Counts.{Counts, count_in, with_count}
+use Rattle.sk_table.specs.Counts.{Counts}
 use Rattle.sk_table.specs.Entries.{with_text, without_text}
-use Rattle.sk_table.proofs.Counts.{among_keys}
 use Rattle.sk_places.specs.LiveJobs.{without_jid}
 
 pub none_before : (word : Bytes) (words : List Bytes) → all_pass (λ other. is_lt (text_cmp word other)) words ≡ true → list_any (is_at (text_cmp word)) words ≡ false

@@ -14,9 +14,9 @@ use Rattle.sk_places.specs.declared.row.Place.{Place}
 use Rattle.sk_places.specs.declared.row.Place.TheVariants.{Queue, Private, Set}
 use Rattle.sk_places.specs.declared.row.Row.{Row}
 use Rattle.sk_places.specs.Beyond.{beyond_order, le_beyond}
-use Rattle.sk_places.specs.Entries.{Entry, as_rows}
+use Rattle.sk_places.specs.Entries.{Entry, Item, as_rows}
 use Rattle.sk_places.specs.Order.{is_beyond}
-use Rattle.sk_places.specs.RowLists.{AreLists, Item, all_rows, is_list, is_of_set, listed, rows_in, rows_in_lists}
+use Rattle.sk_places.specs.RowLists.{AreLists, all_rows, is_list, is_of_set, listed, rows_in, rows_in_lists}
 use Rattle.sk_places.specs.Rows.{first_row, ident_at, ident_of, is_past, is_private, next_ident}
 use Rattle.sk_places.proofs.Lists.{place_no, place_yes}
 use Rattle.sk_places.proofs.Sweeps.{drop_all}

@@ -14,8 +14,8 @@ use Rattle.sk_undo.specs.Versions.{Versions, both_saved, edited}
 use Rattle.sk_places.specs.declared.row_lists.RowLists.{RowLists}
 use Rattle.sk_places.specs.declared.row.Place.{Place}
 use Rattle.sk_places.specs.declared.row.Row.{Row}
-use Rattle.sk_places.specs.Entries.{Entry, as_rows}
-use Rattle.sk_places.specs.RowLists.{AreApart, AreLists, AreNamed, AreSpare, IsIdle, IsSpare, IsUnused, Item, all_rows, is_list, kept_rows, listed, rows_in, rows_in_lists}
+use Rattle.sk_places.specs.Entries.{Entry, Item, as_rows}
+use Rattle.sk_places.specs.RowLists.{AreApart, AreLists, AreNamed, AreSpare, IsIdle, IsSpare, IsUnused, all_rows, is_list, kept_rows, listed, rows_in, rows_in_lists}
 use Rattle.sk_places.specs.PlaceOrder.{place_total}
 use Rattle.sk_places.specs.Rows.{place_cmp}
 use Rattle.sk_places.proofs.Holding.{list_there}

@@ -1,5 +1,5 @@
 -- A list of rows in three parts: those before a place, the place's own, and those behind it.
-use Rattle.std.proofs.Common.{◌≡◌, ◌+◌, ◌<◌, ◌≤◌, ℕ, zero, suc, Bool, true, false, not, List, [], ◌∷◌, ◌++◌, length, filter, map, slice_get, refl, sym, arith, ap, ap₂, append_assoc, subst, ◌∙◌}
+use Rattle.std.proofs.Common.{◌≡◌, ◌+◌, ◌<◌, ℕ, zero, suc, Bool, true, not, List, [], ◌∷◌, ◌++◌, length, filter, slice_get, refl, arith, ap, ap₂, ◌∙◌}
 use Rattle.std.specs.List.{insert, remove, position_or_len}
 use Rattle.std.specs.Ordering.{is_eq, is_le, is_lt, ordering_reverse, ordering_then}
 use Rattle.std.specs.declared.cmp.Ordering.{Ordering}
@@ -10,8 +10,9 @@ use Rattle.sk_undo.specs.Partitioned.{all_pass}
 use Rattle.sk_places.specs.declared.row.Place.{Place}
 use Rattle.sk_places.specs.declared.row.Place.TheVariants.{Queue, Private, Set}
 use Rattle.sk_places.specs.declared.row.Row.{Row}
-use Rattle.sk_places.specs.RowLists.{Item, is_list, listed, place_of, start_of}
-use Rattle.sk_places.specs.Rows.{insert_after, is_at, place_cmp, put_row, row_cmp, rows_at, stands_before, within_cmp}
+use Rattle.sk_places.specs.Entries.{Item}
+use Rattle.sk_places.specs.RowLists.{is_list, listed, start_of}
+use Rattle.sk_places.specs.Rows.{insert_after, is_at, place_cmp, put_row, rows_at, stands_before, within_cmp}
 use Rattle.sk_places.specs.PlaceOrder.{place_total}
 use Rattle.sk_places.proofs.Order.{itself}
 

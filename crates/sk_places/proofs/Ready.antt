@@ -1,14 +1,13 @@
 -- What is left of the memory that was taken, after an edit.
-use Rattle.std.proofs.Common.{◌≡◌, ◌+◌, ◌<◌, ◌≤◌, ℕ, suc, List, Some, length, refl, sym, arith, ap, ap₂, subst, ◌∙◌}
+use Rattle.std.proofs.Common.{◌≡◌, ◌+◌, ◌<◌, ◌≤◌, ℕ, suc, length, arith, ap, ◌∙◌}
 use Rattle.std.specs.Prelude.{slice_index_or}
 use Rattle.std.specs.BTreeMap.{is_at}
-use Rattle.std.specs.List.{remove}
 use Rattle.std.specs.Map.{lookup}
 use Rattle.sk_deques.specs.DequeMoves.{list_at, without_item}
 use Rattle.sk_undo.specs.Versions.{edited}
 use Rattle.sk_places.specs.declared.row_lists.RowLists.{RowLists}
 use Rattle.sk_places.specs.declared.row.Place.{Place}
-use Rattle.sk_places.specs.RowLists.{HasSpace, IsOneLess, IsReady, Item, is_list}
+use Rattle.sk_places.specs.RowLists.{HasSpace, IsOneLess}
 use Rattle.sk_places.specs.Rows.{place_cmp}
 use Rattle.sk_places.proofs.Shifts.{no_longer}
 

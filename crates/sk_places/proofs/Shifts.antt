@@ -16,8 +16,8 @@ use Rattle.sk_places.specs.declared.row_lists.RowLists.{RowLists}
 use Rattle.sk_places.specs.declared.row.Place.{Place}
 use Rattle.sk_places.specs.declared.row.Row.{Row}
 use Rattle.sk_places.specs.declared.row.RowKey.{RowKey}
-use Rattle.sk_places.specs.Entries.{as_row, put_again, shifted}
-use Rattle.sk_places.specs.RowLists.{AreLists, IsNameless, Item, all_rows, is_list, listed, place_of, rows_in, start_of}
+use Rattle.sk_places.specs.Entries.{Item, as_row, put_again, shifted}
+use Rattle.sk_places.specs.RowLists.{AreLists, IsNameless, all_rows, is_list, listed, place_of, rows_in, start_of}
 use Rattle.sk_places.specs.Order.{is_ordered}
 use Rattle.sk_places.specs.Rows.{place_cmp, put_row, rows_at}
 use Rattle.sk_places.proofs.Holding.{get_is, len_is, list_there, lists_edited, place_within}

@@ -7,7 +7,8 @@ use Rattle.sk_deques.proofs.DequeNumbers.{at_other}
 use Rattle.sk_undo.specs.Partitioned.{all_pass}
 use Rattle.sk_undo.specs.Versions.{Versions, edited}
 use Rattle.sk_places.specs.declared.row.Place.{Place}
-use Rattle.sk_places.specs.RowLists.{AreApart, AreSpare, IsIdle, IsNameless, IsSpare, Item, is_list, listed, rows_in_lists}
+use Rattle.sk_places.specs.Entries.{Item}
+use Rattle.sk_places.specs.RowLists.{AreApart, AreSpare, IsIdle, IsNameless, IsSpare, is_list, listed, rows_in_lists}
 use Rattle.sk_places.proofs.Listed.{found_apart}
 
 -- ## Numbers

@@ -4,6 +4,8 @@ pub mod Ends
 pub mod Entries
 pub mod GoneRows
 pub mod Index
+pub mod JobRecords
+pub mod JobSets
 pub mod LiveJobs
 pub mod Names
 pub mod Order
@@ -11,6 +13,7 @@ pub mod PlaceOrder
 pub mod Placed
 pub mod RowLists
 pub mod Rows
+pub mod RowsView
 pub mod Scores
 pub mod Segments
 pub mod Tags

@@ -1,6 +1,6 @@
 -- The rows as the code keeps them, and the one list that they are. A queue and a private list is a deque under its place, which stands once; the sets
 -- of jobs stand in one list by score and text.
-use Rattle.std.specs.Prelude.{◌≡◌, ◌+◌, ◌<◌, ◌≤◌, ℕ, suc, ℤ, Bool, true, false, not, List, [], ◌∷◌, ◌++◌, Option, Some, None, IfSome, MatchOption, drop, length, map, slice_index_or}
+use Rattle.std.specs.Prelude.{◌≡◌, ◌+◌, ◌<◌, ◌≤◌, ℕ, suc, Bool, true, false, not, List, [], ◌∷◌, ◌++◌, Option, Some, None, IfSome, MatchOption, drop, length, map, slice_index_or}
 use Rattle.std.specs.BTreeMap.{is_at}
 use Rattle.std.specs.List.{AllByRecursion, count_by, position_or_len}
 use Rattle.std.specs.Map.{keys_of, values_of, lookup}
@@ -17,12 +17,8 @@ use Rattle.sk_places.specs.declared.row_lists.RowLists.{RowLists}
 use Rattle.sk_places.specs.declared.row.Place.{Place}
 use Rattle.sk_places.specs.declared.row.Place.TheVariants.{Queue, Private, Set}
 use Rattle.sk_places.specs.declared.row.Row.{Row}
-use Rattle.sk_places.specs.Entries.{Entry, as_rows}
+use Rattle.sk_places.specs.Entries.{Entry, Item, as_rows}
 use Rattle.sk_places.specs.Rows.{is_private, next_ident, place_cmp}
-
--- what a deque keeps of a row: its score and its text
-abbrev pub Item : Type 0
-Item = ℤ × Bytes
 
 -- the row that an item of a place's deque is
 abbrev pub listed : Place → Item → Row

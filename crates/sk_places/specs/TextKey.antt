@@ -1,5 +1,5 @@
 -- The keys of the index of the sets' texts, and their order.
-use Rattle.std.specs.Prelude.{◌≡◌, ℤ, true, pos, refl}
+use Rattle.std.specs.Prelude.{◌≡◌, ℤ, [], true, pos, refl}
 use Rattle.std.specs.Cmp.{IsTotalOrder}
 use Rattle.std.specs.Cmp.Lexicographic.{slice_cmp}
 use Rattle.std.specs.Ordering.{int_cmp, is_le, nat_cmp, ordering_then}
@@ -24,6 +24,10 @@ key_in set text score = (set, text, score)
 -- the order of texts: by their hashes, and then by their bytes
 abbrev pub hash_cmp : Bytes → Bytes → Ordering
 hash_cmp x y = ordering_then (nat_cmp (hash_of x) (hash_of y)) (slice_cmp nat_cmp x y)
+
+-- how a set stands to a key
+abbrev pub set_order : Scored → Key → Ordering
+set_order set key = nat_cmp (set_rank set) (set_rank key.0)
 
 -- how a text in a set stands to a key: by the sets, and then by the texts
 abbrev pub text_order : Scored → Bytes → Key → Ordering
@@ -53,6 +57,15 @@ pub text_query : (set : Scored) (text : Bytes) → IsQuery key_cmp (text_order s
 text_query set text = record {
   le = λ x y h k. le_le text_total (key_in set text (pos 0)) x y h (then_le (text_cmp x y) (int_cmp x.2 y.2) k);
   lt = λ x y h k. lt_le text_total (key_in set text (pos 0)) x y h (then_le (text_cmp x y) (int_cmp x.2 y.2) k);
+}
+
+set_total : IsTotalOrder (λ x y. set_order x.0 y)
+set_total = on_total (λ (k : Key). set_rank k.0) nat_cmp_total
+
+pub set_query : (set : Scored) → IsQuery key_cmp (set_order set)
+set_query set = record {
+  le = λ x y h k. le_le set_total (key_in set [] (pos 0)) x y h (then_le (set_order x.0 y) (hash_cmp x.1 y.1) (then_le (text_cmp x y) (int_cmp x.2 y.2) k));
+  lt = λ x y h k. lt_le set_total (key_in set [] (pos 0)) x y h (then_le (set_order x.0 y) (hash_cmp x.1 y.1) (then_le (text_cmp x y) (int_cmp x.2 y.2) k));
 }
 
 pub key_query_of : (key : Key) → IsQuery key_cmp (key_cmp key)

@@ -10,8 +10,8 @@ use sk_payload::JobText;
 
 /// The index at a place of the row at an end of it.
 pub fn find_end(rows: &Rows, place: &Place, side: Side) -> Option<usize>
-    ensures is { IsIndexOf side (row_at_end side place.now rows.now.current) place.now rows.now.current result }
-    ensures within { IfSome result (λ at. at < length (rows_at place.now rows.now.current)) }
+    ensures is { IsIndexOf side (row_at_end side place.now rows.now.list.current) place.now rows.now.list.current result }
+    ensures within { IfSome result (λ at. at < length (rows_at place.now rows.now.list.current)) }
 {
     let len = rows.len_at(place);
     if len == 0 {
@@ -25,8 +25,8 @@ pub fn find_end(rows: &Rows, place: &Place, side: Side) -> Option<usize>
 
 /// The index at a place of the first row of a text. Logarithmic in a set; looks at the rows of a queue or a private list one after another.
 pub fn find_text(rows: &Rows, place: &Place, text: &[u8]) -> Option<usize>
-    ensures is { IsIndexOf Left (row_of text.now (rows_at place.now rows.now.current)) place.now rows.now.current result }
-    ensures within { IfSome result (λ at. at < length (rows_at place.now rows.now.current)) }
+    ensures is { IsIndexOf Left (row_of text.now (rows_at place.now rows.now.list.current)) place.now rows.now.list.current result }
+    ensures within { IfSome result (λ at. at < length (rows_at place.now rows.now.list.current)) }
 {
     let len = rows.len_at(place);
     let at = rows.position_of(place, text);
@@ -35,8 +35,8 @@ pub fn find_text(rows: &Rows, place: &Place, text: &[u8]) -> Option<usize>
 
 /// The same of a payload's text. In a queue or a private list it reads the texts of the rows with its tag alone.
 pub fn find_payload(rows: &Rows, place: &Place, payload: &JobText) -> Option<usize>
-    ensures is { IsIndexOf Left (row_of payload.now (rows_at place.now rows.now.current)) place.now rows.now.current result }
-    ensures within { IfSome result (λ at. at < length (rows_at place.now rows.now.current)) }
+    ensures is { IsIndexOf Left (row_of payload.now (rows_at place.now rows.now.list.current)) place.now rows.now.list.current result }
+    ensures within { IfSome result (λ at. at < length (rows_at place.now rows.now.list.current)) }
 {
     let len = rows.len_at(place);
     let at = rows.position_of_payload(place, payload);

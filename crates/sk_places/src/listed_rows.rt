@@ -196,7 +196,7 @@ impl RowLists {
         ensures rows { rows_in self.new ≡ edited (filter (λ row. not (is_at place.now row)) (rows_in self.old).current) (rows_in self.old) }
     {
         match number_of(&self.names, place) {
-            Some(list) => Some(self.deques.take_all(list)),
+            Some(list) => Some(GoneRows::Listed(self.deques.take_all(list))),
             None => None,
         }
     }

@@ -1,5 +1,5 @@
 // The rows as they are kept. A queue and a private list is a deque under its place, which stands once; so a row comes and goes at an end, or from
-// one to another, in constant time. The sets of jobs are one list by score and text. Memory is taken by `prepare`, so what follows can't fail.
+// one to another, in constant time. Each set of jobs is a list by score and text. Memory is taken by `prepare`, so what follows can't fail.
 ghost use Rattle.std.specs.Prelude.{◌≡◌, ◌+◌, ◌<◌, ◌≤◌, ◌&&◌, true, None, Some, [], IfOk, IsSome, OnOk, drop, length, map, option_map, slice_get, take};
 ghost use Rattle.std.specs.BTreeMap.{is_at as is_key};
 ghost use Rattle.std.specs.List.{position_or_len, remove};
@@ -13,6 +13,7 @@ ghost use Rattle.sk_places.specs.Rows.{place_cmp, put_row, rows_at};
 ghost use Rattle.sk_places.specs.RowFilter.{selects};
 
 use crate::Memory;
+use crate::job_sets::JobSets;
 use crate::row::{Place, RowKey};
 use crate::row_filter::RowFilter;
 use crate::spare::Spare;
@@ -22,7 +23,7 @@ use sk_cmd::Side;
 use sk_deques::UndoDeques;
 use sk_payload::JobText;
 use sk_resp::Word;
-use sk_undo::{UndoList, UndoMap};
+use sk_undo::UndoMap;
 use std::alloc::Global;
 
 /// All rows: each deque by its number under its place, and the sets. A deque that no place has is spare.
@@ -30,7 +31,7 @@ use std::alloc::Global;
 pub struct RowLists {
     pub names: UndoMap<Place, usize>,
     pub deques: UndoDeques<Score, TaggedPayload>,
-    pub sets: UndoList<RowKey, JobText>,
+    pub sets: JobSets,
     pub spare: Spare,
 }
 
@@ -57,7 +58,7 @@ impl RowLists {
         RowLists {
             names: UndoMap::new(alloc),
             deques: UndoDeques::new(alloc),
-            sets: UndoList::new(alloc),
+            sets: JobSets::new(alloc),
             spare: Spare::new(alloc),
         }
     }
@@ -68,10 +69,9 @@ impl RowLists {
         requires ordered { is_ordered (rows_in self.now).current ≡ true }
         ensures { result ≡ length (rows_at place.now (rows_in self.now).current) }
     {
-        if place.is_list() {
-            self.len_listed(place)
-        } else {
-            self.len_set(place)
+        match place {
+            Place::Set(set) => self.len_set(*set),
+            _ => self.len_listed(place),
         }
     }
 
@@ -82,10 +82,9 @@ impl RowLists {
         requires within { at < length (rows_at place.now (rows_in self.now).current) }
         ensures { slice_get (rows_at place.now (rows_in self.now).current) at ≡ Some (listed place.now (result.0, result.1.now)) }
     {
-        if place.is_list() {
-            self.get_listed(place, at)
-        } else {
-            self.get_set(place, at)
+        match place {
+            Place::Set(set) => self.get_set(*set, at),
+            _ => self.get_listed(place, at),
         }
     }
 
@@ -114,10 +113,9 @@ impl RowLists {
         ensures lists { AreLists self.new }
         ensures rows { rows_in self.new ≡ edited (put_row end (as_row (row_key, payload)) (rows_in self.old).current) (rows_in self.old) }
     {
-        if row_key.place.is_list() {
-            self.put_listed(&row_key.place, row_key.score, payload, end)
-        } else {
-            self.put_set(row_key, payload, end)
+        match &row_key.place {
+            Place::Set(set) => self.put_set(*set, row_key.score, payload, end),
+            place => self.put_listed(place, row_key.score, payload, end),
         }
     }
 
@@ -132,10 +130,9 @@ impl RowLists {
         ensures ready { IsOneLess self.old self.new }
         ensures rows { rows_in self.new ≡ edited (remove (rows_in self.old).current (start_of place.now (rows_in self.old).current + at)) (rows_in self.old) }
     {
-        if place.is_list() {
-            self.drop_listed(place, at)
-        } else {
-            self.drop_set(place, at)
+        match place {
+            Place::Set(set) => self.drop_set(*set, at),
+            _ => self.drop_listed(place, at),
         }
     }
 
@@ -149,10 +146,9 @@ impl RowLists {
         ensures row { slice_get (rows_at place.now (rows_in self.old).current) at ≡ Some (listed place.now result) }
         ensures rows { rows_in self.new ≡ edited (remove (rows_in self.old).current (start_of place.now (rows_in self.old).current + at)) (rows_in self.old) }
     {
-        if place.is_list() {
-            self.take_listed(place, at)
-        } else {
-            self.take_set(place, at)
+        match place {
+            Place::Set(set) => self.take_set(*set, at),
+            _ => self.take_listed(place, at),
         }
     }
 
@@ -239,10 +235,9 @@ impl RowLists {
         ensures is { result ≡ first + position_or_len (selects place.now wanted.now) (drop first (take end (rows_at place.now (rows_in self.now).current))) }
         ensures within { result ≤ end }
     {
-        if place.is_list() {
-            self.wanted_listed(place, first, end, wanted)
-        } else {
-            self.wanted_in_set(place, first, end, wanted)
+        match place {
+            Place::Set(set) => self.wanted_in_set(*set, first, end, wanted),
+            _ => self.wanted_listed(place, first, end, wanted),
         }
     }
 
@@ -258,10 +253,9 @@ impl RowLists {
         requires ordered { is_ordered (rows_in self.now).current ≡ true }
         ensures { IfOk result (λ texts. texts.items ≡ map (λ row. row.text) (drop start (take end (rows_at place.now (rows_in self.now).current)))) }
     {
-        if place.is_list() {
-            self.texts_listed(alloc, place, start, end)
-        } else {
-            self.texts_in_set(alloc, place, start, end)
+        match place {
+            Place::Set(set) => self.texts_in_set(alloc, *set, start, end),
+            _ => self.texts_listed(alloc, place, start, end),
         }
     }
 }

@@ -1,14 +1,15 @@
 // The index of the sets' texts: the set, the text and the score of each row of a set. The least score of a text in a set is looked up in it, and by
 // the score the row. Rows of queues and of private lists have no key.
-ghost use Rattle.std.specs.Prelude.{◌≡◌, ◌+◌, ◌<◌, ◌≤◌, IfOk, None};
+ghost use Rattle.std.specs.Prelude.{◌≡◌, ◌+◌, ◌<◌, ◌≤◌, IfOk, None, filter, not};
 ghost use Rattle.sk_undo.specs.Versions.{edited};
-ghost use Rattle.sk_places.specs.TextKey.{key_cmp, key_in, key_query_of, text_order, text_query};
+ghost use Rattle.sk_places.specs.TextKey.{key_cmp, key_in, key_query_of, set_order, set_query, text_order, text_query};
+ghost use Rattle.sk_places.specs.GoneRows.{is_in};
 ghost use Rattle.sk_places.specs.TextIndex.{IsLeastScore, key_at, with_key, without_key};
 
 use crate::Memory;
 use crate::row::{Place, RowKey};
 use crate::search::compare_scores;
-use crate::text_key::{TextKey, compare_text};
+use crate::text_key::{TextKey, compare_set, compare_text};
 use sk_base::Score;
 use sk_cmd::Scored;
 use sk_payload::JobText;
@@ -19,6 +20,22 @@ use std::marker::Model;
 
 /// The keys in order, each as often as rows have it.
 pub type TextIndex = UndoMultiset<TextKey>;
+
+// All keys of a set.
+#[derive(Drop)]
+struct OfSet {
+    set: Scored,
+}
+
+impl Query<TextKey> for OfSet {
+    ghost order = { λ query. set_order query.set };
+
+    fn cmp_key(&self, key: &TextKey) -> Ordering {
+        compare_set(self.set, key)
+    }
+
+    ghost is_query = { λ query. set_query query.set };
+}
 
 // All keys of a text in a set.
 #[derive(Drop)]
@@ -138,6 +155,14 @@ pub fn take_key(index: &mut TextIndex, place: &Place, score: Score, payload: &Jo
     if let Place::Set(set) = place {
         index.take(&of_score(*set, payload, score));
     }
+}
+
+/// Takes all keys of a set out, where no step is open, and gives them to the caller. Logarithmic, and takes no memory.
+pub fn take_set(index: &mut TextIndex, set: Scored) -> TextIndex
+    requires { index.old.list.saved ≡ None }
+    ensures { index.new.list ≡ edited (filter (λ key. not (is_in set key)) index.old.list.current) index.old.list }
+{
+    index.take_all(&OfSet { set })
 }
 
 /// The least score of a text in a set. Logarithmic.

@@ -6,7 +6,7 @@ ghost use Rattle.std.specs.Cmp.{partial_equiv_from_equiv, partial_order_from_tot
 ghost use Rattle.std.specs.Cmp.Rules.{comparing};
 ghost use Rattle.std.specs.Ordering.{as_partial_cmp, eq_by_cmp};
 ghost use Rattle.sk_table.specs.Hashing.{hash_of};
-ghost use Rattle.sk_places.specs.TextKey.{key_cmp, key_in, key_total, text_order};
+ghost use Rattle.sk_places.specs.TextKey.{key_cmp, key_in, key_total, set_order, text_order};
 
 use crate::row::set_rank;
 use crate::search::compare_scores;
@@ -38,6 +38,13 @@ impl Model for TextKey {
     ghost view = { λ k. key_in k.set k.payload k.score };
 
     ghost invariant = { λ k. k.hash ≡ hash_of k.payload };
+}
+
+/// How a set stands to a key.
+pub fn compare_set(set: Scored, key: &TextKey) -> Ordering
+    ensures { result ≡ set_order set key.now }
+{
+    set_rank(set).cmp(&set_rank(key.set))
 }
 
 /// How a text in a set stands to a key, whatever its score: by the sets, by the texts' hashes, and then by the texts' bytes.

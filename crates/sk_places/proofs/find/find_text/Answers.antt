@@ -3,7 +3,7 @@ use Rattle.sk_places.proofs.Finds.{found_text, no_text}
 use Rattle.sk_places.proofs.find.find_text.Goals as goal
 
 pub returns-then-at-len-clause-is : goal.returns-then-at-len-clause-is
-returns-then-at-len-clause-is c = found_text c.args.place.now c.args.rows.now.current c.len_at-len.ensures.order c.args.text.now c.position_of-at.result c.position_of-at.ensures (omega (arith, c.if-at-len.true, c.len_at-len.ensures.is))
+returns-then-at-len-clause-is c = found_text c.args.place.now c.args.rows.now.list.current c.len_at-len.ensures.order c.args.text.now c.position_of-at.result c.position_of-at.ensures (omega (arith, c.if-at-len.true, c.len_at-len.ensures.is))
 
 pub returns-else-at-len-clause-is : goal.returns-else-at-len-clause-is
-returns-else-at-len-clause-is c = no_text c.args.place.now c.args.rows.now.current c.len_at-len.ensures.order c.args.text.now c.position_of-at.result c.position_of-at.ensures (omega (arith, c.if-at-len.false, c.len_at-len.ensures.is))
+returns-else-at-len-clause-is c = no_text c.args.place.now c.args.rows.now.list.current c.len_at-len.ensures.order c.args.text.now c.position_of-at.result c.position_of-at.ensures (omega (arith, c.if-at-len.false, c.len_at-len.ensures.is))

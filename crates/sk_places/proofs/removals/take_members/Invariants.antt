@@ -9,8 +9,8 @@ use Rattle.sk_places.proofs.removals.take_members.Given as goal
 -- the texts from the index on are left to be looked up
 abbrev pub invariant-loop-member : goal.invariant-loop-member
 invariant-loop-member l = record {
-  closed : l.rows.saved ≡ None;
-  jobs_closed : l.jobs.saved ≡ None;
-  few : length l.rows.current ≤ l.most;
-  left : IsLeft l.place (drop l.member-index l.member-items) l.rows.current l.jobs.current l.gone (filter (λ row. not (is_wanted l.place l.member-items row)) l.initial.rows.current) (all_ended Deleted (texts_of (filter (is_wanted l.place l.member-items) l.initial.rows.current)) l.initial.jobs.current) (length (filter (is_wanted l.place l.member-items) l.initial.rows.current));
+  closed : l.rows.list.saved ≡ None;
+  jobs_closed : l.rows.jobs.saved ≡ None;
+  few : length l.rows.list.current ≤ l.most;
+  left : IsLeft l.place (drop l.member-index l.member-items) l.rows.list.current l.rows.jobs.current l.gone (filter (λ row. not (is_wanted l.place l.member-items row)) l.initial.rows.list.current) (all_ended Deleted (texts_of (filter (is_wanted l.place l.member-items) l.initial.rows.list.current)) l.initial.rows.jobs.current) (length (filter (is_wanted l.place l.member-items) l.initial.rows.list.current));
 }

@@ -4,7 +4,8 @@ use Rattle.sk_deques.specs.DequeMoves.{list_at}
 use Rattle.sk_places.specs.Segments.{is_text}
 use Rattle.sk_places.specs.Tags.{is_tagged, tag_of}
 use Rattle.sk_places.specs.Rows.{rows_at}
-use Rattle.sk_places.specs.RowLists.{Item, rows_in}
+use Rattle.sk_places.specs.Entries.{Item}
+use Rattle.sk_places.specs.RowLists.{rows_in}
 use Rattle.sk_places.proofs.Holding.{list_there, no_rows, text_is}
 use Rattle.sk_places.proofs.Tags.{tagged_at}
 use Rattle.sk_places.proofs.row_lists.RowLists.position_of_payload.Goals as goal

@@ -1,26 +1,11 @@
-use Rattle.std.proofs.Common.{refl}
-use Rattle.sk_places.specs.declared.row.Place.TheVariants.{Set}
-use Rattle.sk_places.proofs.SetRows.{set_order, set_stop_within}
-use Rattle.sk_places.proofs.SetScores.{above_rises, reached_rises, set_scores}
+use Rattle.sk_places.proofs.SetRows.{above_rises, reached_rises, set_scores}
 use Rattle.sk_places.proofs.row_lists.RowLists.range_of.Goals as goal
 
-pub first_in-requires-clause-order : goal.first_in-requires-clause-order
-first_in-requires-clause-order c = set_order c.args.self.now (Set c.args.set) c.requires.lists refl c.requires.ordered c.begin_of-first.result c.end_of-end.result c.begin_of-first.ensures c.end_of-end.ensures
+pub partition_point-from-requires : goal.partition_point-from-requires
+partition_point-from-requires c = reached_rises c.args.self.now c.args.set c.requires.lists c.of-items.result.now.list.current c.of-items.ensures c.requires.ordered c.args.low
 
-pub first_in-requires-clause-within : goal.first_in-requires-clause-within
-first_in-requires-clause-within c = set_stop_within c.args.self.now (Set c.args.set) c.requires.lists refl c.requires.ordered c.end_of-end.result c.end_of-end.ensures
-
-pub first_in-requires-clause-is_partitioned : goal.first_in-requires-clause-is_partitioned
-first_in-requires-clause-is_partitioned c = reached_rises c.args.self.now c.args.set c.requires.lists c.requires.ordered c.begin_of-first.result c.end_of-end.result c.begin_of-first.ensures c.end_of-end.ensures c.args.low
-
-pub first_in-requires-2-clause-order : goal.first_in-requires-2-clause-order
-first_in-requires-2-clause-order c = set_order c.args.self.now (Set c.args.set) c.requires.lists refl c.requires.ordered c.begin_of-first.result c.end_of-end.result c.begin_of-first.ensures c.end_of-end.ensures
-
-pub first_in-requires-2-clause-within : goal.first_in-requires-2-clause-within
-first_in-requires-2-clause-within c = set_stop_within c.args.self.now (Set c.args.set) c.requires.lists refl c.requires.ordered c.end_of-end.result c.end_of-end.ensures
-
-pub first_in-requires-2-clause-is_partitioned : goal.first_in-requires-2-clause-is_partitioned
-first_in-requires-2-clause-is_partitioned c = above_rises c.args.self.now c.args.set c.requires.lists c.requires.ordered c.begin_of-first.result c.end_of-end.result c.begin_of-first.ensures c.end_of-end.ensures c.args.high
+pub partition_point-to-requires : goal.partition_point-to-requires
+partition_point-to-requires c = above_rises c.args.self.now c.args.set c.requires.lists c.of-items.result.now.list.current c.of-items.ensures c.requires.ordered c.args.high
 
 pub returns : goal.returns
-returns c = set_scores c.args.self.now c.args.set c.requires.lists c.requires.ordered c.begin_of-first.result c.end_of-end.result c.begin_of-first.ensures c.end_of-end.ensures c.args.low c.args.high c.first_in.result c.first_in-2.result c.max.result c.first_in.ensures.is c.first_in-2.ensures.is c.max.ensures
+returns c = set_scores c.args.self.now c.args.set c.requires.lists c.of-items.result.now.list.current c.of-items.ensures c.requires.ordered c.args.low c.args.high c.partition_point-from.result c.partition_point-to.result c.max.result c.partition_point-from.ensures.is c.partition_point-to.ensures.is c.max.ensures

@@ -1,9 +1,9 @@
 use Rattle.std.specs.List.{position_or_len}
 use Rattle.sk_places.proofs.Holding.{no_rows}
 use Rattle.sk_places.proofs.Ranges.{none}
-use Rattle.std.proofs.Common.{arith, drop, length, sym, ap, take, ◌+◌, ◌∙◌}
+use Rattle.std.proofs.Common.{arith, drop, length, sym, ap, take, ◌∙◌}
 use Rattle.sk_places.specs.RowFilter.{selects}
-use Rattle.sk_places.proofs.Holding.{len_is, list_there, none_is, position_is}
+use Rattle.sk_places.proofs.Holding.{len_is, list_there, position_is}
 use Rattle.sk_places.proofs.row_lists.RowLists.wanted_listed.Goals as goal
 
 pub position_in-requires-clause-list : goal.position_in-requires-clause-list

@@ -18,11 +18,11 @@ returns-in-None c =
     let rows = (rows_in c.self.inside.lists).current in
     let keys = c.self.inside.text_index.list.current in
     let least = subst (λ o. IsLeastScore c.args.set c.args.text.now o keys) c.in-None.is c.least_score.ensures in
-    c.len.ensures ∙ absent c.args.set c.args.text.now rows keys c.self.invariant.texts.current least ∙ ap (λ v. position_or_len (is_text c.args.text.now) (rows_at (Set c.args.set) v.current)) c.self.view_is
+    c.len_set.ensures ∙ absent c.args.set c.args.text.now rows keys c.self.invariant.texts.current least ∙ ap (λ v. position_or_len (is_text c.args.text.now) (rows_at (Set c.args.set) v.list.current)) c.self.view_is
 
 pub returns-in-Some : goal.returns-in-Some
 returns-in-Some c =
     let rows = (rows_in c.self.inside.lists).current in
     let keys = c.self.inside.text_index.list.current in
     let least = subst (λ o. IsLeastScore c.args.set c.args.text.now o keys) c.in-Some.is c.least_score.ensures in
-    c.position_from.ensures ∙ present c.args.set c.args.text.now rows keys c.self.invariant.texts.current c.in-Some.score c.self.invariant.sound.kept.ordered least ∙ ap (λ v. position_or_len (is_text c.args.text.now) (rows_at (Set c.args.set) v.current)) c.self.view_is
+    c.position_from.ensures ∙ present c.args.set c.args.text.now rows keys c.self.invariant.texts.current c.in-Some.score c.self.invariant.sound.kept.ordered least ∙ ap (λ v. position_or_len (is_text c.args.text.now) (rows_at (Set c.args.set) v.list.current)) c.self.view_is
