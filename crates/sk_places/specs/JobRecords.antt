@@ -2,13 +2,16 @@
 use Rattle.std.specs.Prelude.{◌≡◌, ◌+◌, ◌-◌, ◌^◌, ◌&&◌, ℕ, Bool, true, false, Option, Some, IfSome, List, cond, length, map, nat_eq, nat_lt, not, option_map}
 use Rattle.std.specs.BTreeSet.{insert_key}
 use Rattle.std.specs.Map.{keys_of}
+use Rattle.sk_payload.specs.Head.{jid_of}
 use Rattle.sk_resp.specs.Spelling.{Bytes}
 use Rattle.sk_resp.specs.WordOrder.{text_cmp}
 use Rattle.sk_undo.specs.Versions.{Versions}
 use Rattle.sk_table.specs.Counts.{Counts, count_in, counted}
-use Rattle.sk_places.specs.Index.{count_of, with_job}
-use Rattle.sk_places.specs.LiveJobs.{Lived, job_pushed, lived, one_if, was_live, without_jid}
+use Rattle.sk_places.specs.Ends.{left}
+use Rattle.sk_places.specs.Index.{count_of, with_job, without_job}
+use Rattle.sk_places.specs.LiveJobs.{Lived, job_pushed, lived, one_if, pushed, was_live, without_jid}
 use Rattle.sk_places.specs.Totals.{count_end}
+use Rattle.sk_places.specs.declared.ending.Ending.{Ending}
 use Rattle.sk_places.specs.declared.ending.Ending.TheVariants.{Muddled}
 use Rattle.sk_places.specs.declared.job_record.JobRecord.{JobRecord}
 use Rattle.sk_places.specs.declared.origin.Origin.{Origin}
@@ -30,6 +33,18 @@ is_new held counts jid = nat_eq (count_in jid counts) 0 && not held
 -- a row of this job is pushed
 abbrev pub job_recorded : Origin → Bool → Bytes → Recorded → Recorded
 job_recorded from held jid r = recorded (with_job (Some jid) r.counts) (job_pushed from (is_new held r.counts jid) (Some jid) r.lived)
+
+-- a row of this text is pushed
+abbrev pub row_pushed : Origin → Bool → Bytes → Recorded → Recorded
+row_pushed from held text r = recorded (with_job (jid_of text) r.counts) (pushed from (is_new held r.counts) text r.lived)
+
+-- there is one more row of this text
+abbrev pub row_added : Bytes → Recorded → Recorded
+row_added text r = recorded (with_job (jid_of text) r.counts) r.lived
+
+-- there is one less, and its job ends in this way, if it does and is live
+abbrev pub row_left : Option Ending → Bytes → Recorded → Recorded
+row_left how text r = recorded (without_job (jid_of text) r.counts) (left how text r.lived)
 
 -- ## As the code keeps them
 

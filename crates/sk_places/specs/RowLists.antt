@@ -1,6 +1,6 @@
 -- The rows as the code keeps them, and the one list that they are. A queue and a private list is a deque under its place, which stands once; the sets
 -- of jobs stand in one list by score and text.
-use Rattle.std.specs.Prelude.{◌≡◌, ◌+◌, ◌<◌, ◌≤◌, ℕ, suc, Bool, true, false, not, List, [], ◌∷◌, ◌++◌, Option, Some, None, IfSome, MatchOption, drop, length, map, slice_index_or}
+use Rattle.std.specs.Prelude.{◌≡◌, ◌+◌, ◌<◌, ◌≤◌, ℕ, suc, Bool, true, false, not, List, [], ◌∷◌, ◌++◌, Option, Some, None, IfSome, MatchOption, drop, length, map, slice_get, slice_index_or, take}
 use Rattle.std.specs.BTreeMap.{is_at}
 use Rattle.std.specs.List.{AllByRecursion, count_by, position_or_len}
 use Rattle.std.specs.Map.{keys_of, values_of, lookup}
@@ -17,7 +17,8 @@ use Rattle.sk_places.specs.declared.row_lists.RowLists.{RowLists}
 use Rattle.sk_places.specs.declared.row.Place.{Place}
 use Rattle.sk_places.specs.declared.row.Place.TheVariants.{Queue, Private, Set}
 use Rattle.sk_places.specs.declared.row.Row.{Row}
-use Rattle.sk_places.specs.Entries.{Entry, Item, as_rows}
+use Rattle.sk_places.specs.declared.row.RowKey.{RowKey}
+use Rattle.sk_places.specs.Entries.{Entry, Item, as_rows, shifted}
 use Rattle.sk_places.specs.Rows.{is_private, next_ident, place_cmp}
 
 -- the row that an item of a place's deque is
@@ -61,6 +62,22 @@ IsIdentFrom after at l found =
 -- the index among all rows at which a place's rows begin, or would
 abbrev pub start_of : Place → List Row → ℕ
 start_of place rows = position_or_len (λ row. is_le (place_cmp place row.place)) rows
+
+-- a place's row at an index
+abbrev pub row_at_index : Place → ℕ → List Row → Option Row
+row_at_index place at rows = slice_get rows (start_of place rows + at)
+
+-- a place's row at an index comes to an end of another place, or of the same
+abbrev pub shifted_from : Place → ℕ → Side → RowKey → List Row → List Row
+shifted_from place at end row_key rows = shifted end (start_of place rows + at) row_key rows
+
+-- a place's rows from an index on to the one before another
+abbrev pub part_of : Place → ℕ → ℕ → List Row → List Row
+part_of place first end rows = drop (start_of place rows + first) (take (start_of place rows + end) rows)
+
+-- the rows without those
+abbrev pub without_part : Place → ℕ → ℕ → List Row → List Row
+without_part place first end rows = take (start_of place rows + first) rows ++ drop (start_of place rows + end) rows
 
 -- no two are the same
 abbrev pub AreApart : List ℕ → Type 0

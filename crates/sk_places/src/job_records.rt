@@ -8,8 +8,7 @@ ghost use Rattle.sk_undo.specs.Versions.{begun, closed, committed, edited, undon
 ghost use Rattle.sk_payload.specs.Head.{jid_of};
 ghost use Rattle.sk_places.specs.Cleared.{every_deleted};
 ghost use Rattle.sk_places.specs.Ends.{left};
-ghost use Rattle.sk_places.specs.Index.{with_job, without_job};
-ghost use Rattle.sk_places.specs.JobRecords.{count_named, is_new, job_recorded, recorded};
+ghost use Rattle.sk_places.specs.JobRecords.{count_named, is_new, job_recorded, recorded, row_added, row_left, row_pushed};
 ghost use Rattle.sk_places.specs.LiveJobs.{ended, job_pushed, no_jobs, one_if, pushed};
 ghost use Rattle.sk_table.specs.Counts.{count_in};
 ghost use Rattle.sk_places.specs.Totals.{accounted, count_end, count_push, last_outside, last_push, pushes_in, IsCountable};
@@ -174,7 +173,7 @@ impl JobRecords {
     /// muddled. Clients push no more than 2^62 rows, and with the store's own there are no more than 2^63.
     pub fn push(&mut self, payload: &JobText, from: Origin, held: bool) -> Result<(), Memory>
         requires { IsCountable from self.old.current.lived.totals }
-        ensures ok { OnOk result (self.new ≡ edited (recorded (with_job (jid_of payload.now) self.old.current.counts) (pushed from (is_new held self.old.current.counts) payload.now self.old.current.lived)) self.old) }
+        ensures ok { OnOk result (self.new ≡ edited (row_pushed from held payload.now self.old.current) self.old) }
         ensures err { OnErr result (self.new ≡ self.old) }
     {
         match jid_of(payload) {
@@ -188,7 +187,7 @@ impl JobRecords {
 
     /// One more row of this payload is counted. The id of its job is kept in this payload from now on, so that an older one can go.
     pub fn add(&mut self, payload: &JobText) -> Result<(), Memory>
-        ensures ok { OnOk result (self.new ≡ edited (recorded (with_job (jid_of payload.now) self.old.current.counts) self.old.current.lived) self.old) }
+        ensures ok { OnOk result (self.new ≡ edited (row_added payload.now self.old.current) self.old) }
         ensures err { OnErr result (self.new ≡ self.old) }
     {
         if let Some(jid) = jid_of(payload) {
@@ -201,7 +200,7 @@ impl JobRecords {
 
     /// One row less of this payload is counted.
     pub fn drop_out(&mut self, payload: &JobText) -> Result<(), Memory>
-        ensures ok { OnOk result (self.new ≡ edited (recorded (without_job (jid_of payload.now) self.old.current.counts) self.old.current.lived) self.old) }
+        ensures ok { OnOk result (self.new ≡ edited (row_left None payload.now self.old.current) self.old) }
         ensures err { OnErr result (self.new ≡ self.old) }
     {
         if let Some(jid) = jid_of(payload) {
@@ -213,7 +212,7 @@ impl JobRecords {
 
     /// The same, and its job ends in this way, if it is live.
     pub fn drop_ended(&mut self, payload: &JobText, how: Ending) -> Result<(), Memory>
-        ensures ok { OnOk result (self.new ≡ edited (recorded (without_job (jid_of payload.now) self.old.current.counts) (ended how payload.now self.old.current.lived)) self.old) }
+        ensures ok { OnOk result (self.new ≡ edited (row_left (Some how) payload.now self.old.current) self.old) }
         ensures err { OnErr result (self.new ≡ self.old) }
     {
         if let Some(jid) = jid_of(payload) {
@@ -227,7 +226,7 @@ impl JobRecords {
     /// One row less of this payload is counted, where no step is open. Takes no memory.
     pub fn take(&mut self, payload: &JobText)
         requires { self.old.saved ≡ None }
-        ensures { self.new ≡ edited (recorded (without_job (jid_of payload.now) self.old.current.counts) self.old.current.lived) self.old }
+        ensures { self.new ≡ edited (row_left None payload.now self.old.current) self.old }
     {
         if let Some(jid) = jid_of(payload) {
             let known = self.numbers.get(jid);
@@ -238,7 +237,7 @@ impl JobRecords {
     /// The same, and its job ends in this way, if it is live. Takes no memory.
     pub fn take_ended(&mut self, payload: &JobText, how: Ending)
         requires { self.old.saved ≡ None }
-        ensures { self.new ≡ edited (recorded (without_job (jid_of payload.now) self.old.current.counts) (ended how payload.now self.old.current.lived)) self.old }
+        ensures { self.new ≡ edited (row_left (Some how) payload.now self.old.current) self.old }
     {
         if let Some(jid) = jid_of(payload) {
             let known = self.numbers.get(jid);
@@ -250,7 +249,7 @@ impl JobRecords {
     /// One row less of this payload is counted, and its job ends in this way, if it does and is live; no step is open. Takes no memory.
     pub fn leave(&mut self, payload: &JobText, how: Option<Ending>)
         requires { self.old.saved ≡ None }
-        ensures { self.new ≡ edited (recorded (without_job (jid_of payload.now) self.old.current.counts) (left how payload.now self.old.current.lived)) self.old }
+        ensures { self.new ≡ edited (row_left how payload.now self.old.current) self.old }
     {
         match how {
             Some(how) => self.take_ended(payload, how),
@@ -260,7 +259,7 @@ impl JobRecords {
 
     /// The same in an open step.
     pub fn leave_in_step(&mut self, payload: &JobText, how: Option<Ending>) -> Result<(), Memory>
-        ensures ok { OnOk result (self.new ≡ edited (recorded (without_job (jid_of payload.now) self.old.current.counts) (left how payload.now self.old.current.lived)) self.old) }
+        ensures ok { OnOk result (self.new ≡ edited (row_left how payload.now self.old.current) self.old) }
         ensures err { OnErr result (self.new ≡ self.old) }
     {
         match how {

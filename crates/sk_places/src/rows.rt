@@ -1,6 +1,6 @@
 // The rows of all places, as one list in the order of places. Beside them are how many rows there are, how many bytes their texts have, what is
 // recorded of their jobs, and the index of the sets' rows by their texts.
-ghost use Rattle.std.specs.Prelude.{◌≡◌, ◌+◌, ◌^◌, ◌<◌, ◌≤◌, ◌&&◌, nat_eq, not, true, None, Some, [], IfOk, IfSome, IsSome, OnErr, OnOk, drop, filter, length, map, option_map, slice_get, take};
+ghost use Rattle.std.specs.Prelude.{◌≡◌, ◌+◌, ◌^◌, ◌<◌, ◌≤◌, not, true, None, Some, [], IfOk, IfSome, IsSome, OnErr, OnOk, drop, filter, length, map, option_map, slice_get, take};
 ghost use Rattle.std.specs.List.{count_by, position_or_len, remove};
 ghost use Rattle.std.specs.Option.{is_some};
 ghost use Rattle.sk_undo.specs.Balance.{most};
@@ -12,8 +12,8 @@ ghost use Rattle.sk_resp.specs.WordOrder.{text_cmp};
 ghost use Rattle.sk_undo.specs.Sorted.{is_sorted};
 ghost use Rattle.sk_places.specs.Ends.{left_of, texts_of};
 ghost use Rattle.sk_places.specs.declared.ending.Ending.TheVariants.{Deleted};
-ghost use Rattle.sk_places.specs.Entries.{as_row, shifted};
-ghost use Rattle.sk_places.specs.RowLists.{AreLists, is_list, listed, rows_in, start_of};
+ghost use Rattle.sk_places.specs.Entries.{as_row};
+ghost use Rattle.sk_places.specs.RowLists.{AreLists, is_list, listed, row_at_index, rows_in, shifted_from, start_of};
 ghost use Rattle.sk_places.specs.GoneRows.{AreOwn, other_keys};
 ghost use Rattle.sk_places.specs.Order.{bytes_of, is_ordered};
 ghost use Rattle.sk_places.specs.Rows.{is_at, is_fresh, is_private, next_ident, pair_of, put_row, rows_at, rows_of};
@@ -370,7 +370,7 @@ impl Rows {
         requires within { at < length (rows_at from.now self.old.list.current) }
         requires from { is_list from.now ≡ true }
         requires to { is_list row_key.now.place ≡ true }
-        ensures ok { OnOk result (self.new.list ≡ edited (shifted end (start_of from.now self.old.list.current + at) row_key.now self.old.list.current) self.old.list) }
+        ensures ok { OnOk result (self.new.list ≡ edited (shifted_from from.now at end row_key.now self.old.list.current) self.old.list) }
         ensures jobs { OnOk result (self.new.jobs ≡ self.old.jobs) }
         ensures err { OnErr result (self.new ≡ self.old) }
     {
@@ -388,7 +388,7 @@ impl Rows {
         end: Side,
     ) -> Result<(), Memory>
         requires { at < length (rows_at from.now self.old.list.current) }
-        ensures ok { OnOk result (self.new.list ≡ edited (shifted end (start_of from.now self.old.list.current + at) row_key self.old.list.current) self.old.list) }
+        ensures ok { OnOk result (self.new.list ≡ edited (shifted_from from.now at end row_key self.old.list.current) self.old.list) }
         ensures jobs { OnOk result (self.new.jobs ≡ self.old.jobs) }
         ensures err { OnErr result (self.new ≡ self.old) }
     {
@@ -412,7 +412,7 @@ impl Rows {
         end: Side,
     ) -> Result<(), Memory>
         requires { at < length (rows_at from.now self.old.list.current) }
-        ensures ok { OnOk result (self.new.list ≡ edited (shifted end (start_of from.now self.old.list.current + at) row_key self.old.list.current) self.old.list) }
+        ensures ok { OnOk result (self.new.list ≡ edited (shifted_from from.now at end row_key self.old.list.current) self.old.list) }
         ensures jobs { OnOk result (self.new.jobs ≡ self.old.jobs) }
         ensures err { OnErr result (self.new ≡ self.old) }
     {
@@ -427,7 +427,7 @@ impl Rows {
     pub fn drop_out(&mut self, place: &Place, at: usize, how: Option<Ending>) -> Result<(), Memory>
         requires { at < length (rows_at place.now self.old.list.current) }
         ensures ok { OnOk result (self.new.list ≡ edited (remove self.old.list.current (start_of place.now self.old.list.current + at)) self.old.list) }
-        ensures jobs { OnOk result (self.new.jobs ≡ edited (left_of how (slice_get self.old.list.current (start_of place.now self.old.list.current + at)) self.old.jobs.current) self.old.jobs) }
+        ensures jobs { OnOk result (self.new.jobs ≡ edited (left_of how (row_at_index place.now at self.old.list.current) self.old.jobs.current) self.old.jobs) }
         ensures err { OnErr result (self.new ≡ self.old) }
     {
         self.lists.reserve()?;
@@ -448,7 +448,7 @@ impl Rows {
         ensures start { start_of place.now self.new.list.current ≡ start_of place.now self.old.list.current }
         ensures fewer { length (rows_at place.now self.new.list.current) + 1 ≡ length (rows_at place.now self.old.list.current) }
         ensures rest { self.new.list ≡ edited (remove self.old.list.current (start_of place.now self.old.list.current + at)) self.old.list }
-        ensures jobs { self.new.jobs ≡ edited (left_of how (slice_get self.old.list.current (start_of place.now self.old.list.current + at)) self.old.jobs.current) self.old.jobs }
+        ensures jobs { self.new.jobs ≡ edited (left_of how (row_at_index place.now at self.old.list.current) self.old.jobs.current) self.old.jobs }
     {
         let row = self.lists.take(place, at);
         self.size = lowered(self.size, row.1.text());
