@@ -91,6 +91,7 @@ def holds(rows):
     yield Hold('ZREM of 3,999 texts of the schedule', scheduled(rows), (b'ZREM', b'schedule', *texts))
     yield Hold('ZRANGE of a tenth of the schedule', scheduled(rows), (b'ZRANGE', b'schedule', b'0', some), BAR, True)
     yield Hold('ZREMRANGEBYSCORE of the schedule', scheduled(rows), (b'ZREMRANGEBYSCORE', b'schedule', b'-inf', b'+inf'))
+    yield Hold('ZREMRANGEBYRANK of a tenth of it', scheduled(rows), (b'ZREMRANGEBYRANK', b'schedule', b'0', some))
     yield Hold('SK.DUE of 1,000', scheduled(rows), (b'SK.DUE', b'schedule', b'1000'))
     yield Hold('DEL of the schedule', scheduled(rows), (b'DEL', b'schedule'))
     yield Hold('FLUSHALL of plain keys', plain(rows), (b'FLUSHALL',))
